@@ -1,0 +1,4 @@
+-- Why the definitions of specs/ say what they should: order, shared bits, neighbours, and the two theorems on skip graphs.
+pub mod Order
+pub mod Tests
+pub mod Shared

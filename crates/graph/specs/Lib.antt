@@ -1,0 +1,5 @@
+-- What a skip graph is. Names no byte and no rule.
+pub mod Side
+pub mod Vector
+pub mod Graph
+pub mod Constraints
