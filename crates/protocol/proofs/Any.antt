@@ -1,0 +1,34 @@
+-- A test of every number below n. Assumes nothing.
+use Prim.Native.Nat.{ℕ, zero, suc, _<_}
+use mathlib.Core.Path.{_≡_, subst}
+use mathlib.Core.Logic.{_⊎_, inl, inr}
+use mathlib.Core.Bool.{Bool, true, false, _||_}
+use native.Mathlib.Omega.{arith}
+use native.Mathlib.Decide.{ℕ-discrete}
+use lib.Dec.{T}
+use Rattle.graph.proofs.Tests.{or-cases, or-left, or-right, false-T, not-T-false}
+use Rattle.protocol.specs.Numbering.{any}
+
+pub any-in : (n : ℕ) (p : ℕ → Bool) (i : ℕ) → i < n → T (p i) → T (any n p)
+unfolding any
+any-in zero p i l t = absurd (omega arith)
+any-in (suc n) p i l t = by (ℕ-discrete i n) (λ m. any-in n p i m t)
+  where
+    by : Dec (i ≡ n) → (i < n → T (any n p)) → T (p n || any n p)
+    by (yes e) ih = or-left (p n) (any n p) (subst (λ (j : ℕ). T (p j)) e t)
+    by (no e) ih = or-right (p n) (any n p) (ih (omega arith))
+
+pub any-out : (n : ℕ) (p : ℕ → Bool) → T (any n p) → (i : ℕ) × (i < n) × T (p i)
+unfolding any
+any-out zero p t = absurd t
+any-out (suc n) p t = by (or-cases (p n) (any n p) t) (λ q. any-out n p q)
+  where
+    by : T (p n) ⊎ T (any n p) → (T (any n p) → (i : ℕ) × (i < n) × T (p i)) → (i : ℕ) × (i < suc n) × T (p i)
+    by (inl q) ih = (n, omega arith, q)
+    by (inr q) ih = let r = ih q in (r .0, omega (arith, r .1), r .2)
+
+pub any-none : {A : Type 0} (n : ℕ) (p : ℕ → Bool) → any n p ≡ false → (i : ℕ) → i < n → T (p i) → A
+any-none n p e i l t = false-T e (any-in n p i l t)
+
+pub none-any : (n : ℕ) (p : ℕ → Bool) → ((i : ℕ) → i < n → T (p i) → ⊥) → any n p ≡ false
+none-any n p h = not-T-false (λ t. let r = any-out n p t in h (r .0) (r .1) (r .2))

@@ -1,0 +1,135 @@
+-- The small functions of the calls, as facts: a value at one place, the pending set after a call, the links after a change, lists made
+-- seat by seat, and rows of the table that do not apply. Assumes nothing.
+use Prim.Native.Nat.{ℕ, zero, suc, _<_}
+use mathlib.Core.Path.{_≡_, refl, sym, _∙_, ap, subst}
+use mathlib.Core.Logic.{_⊎_, inl, inr, _≢_}
+use mathlib.Core.Option.{Option, none, some}
+use mathlib.Core.Bool.{Bool, true, false, not, cond, _&&_, _||_}
+use mathlib.Core.List.{List, [], _∷_, _++_, List·Memᴰ, List·Memᴰ·head, List·Memᴰ·eq-of-singleton, List·Memᴰ·not-nil, Memᴰ·append-left, Memᴰ·append-right, List·Memᴰ·append-cases}
+use native.Mathlib.Omega.{arith}
+use native.Mathlib.Decide.{ℕ-discrete}
+use lib.Dec.{T, eqb, eqb→eq}
+use borrow.Author.Tests.{eq-eqb, ne-eqb}
+use Rattle.graph.specs.Side.{Side, left, right, Side-discrete}
+use Rattle.graph.specs.Graph.{Links}
+use Rattle.graph.proofs.Tests.{dec-T, T-true, not-T-false, and-T, and-fst, and-snd, or-cases, or-left, or-right, true-false}
+use Rattle.protocol.specs.Message.{Msg, sameMsg, among}
+use Rattle.protocol.specs.Rules.{Change, keep, set, toLink}
+use Rattle.protocol.specs.Table.{Row, row, first}
+use Rattle.protocol.specs.Calls.{at, each, isTaken, pendingAfter, sameSide, applied}
+use Rattle.protocol.proofs.Message.{same-eq, eq-same}
+
+-- a value at one place
+module _ {A : Type 0} (s : ℕ) (a : A) (f : ℕ → A) where
+  pub at-same : (x : ℕ) → x ≡ s → at s a f x ≡ a
+  unfolding at
+  at-same x e = rw (eq-eqb x s e)
+
+  pub at-other : (x : ℕ) → x ≢ s → at s a f x ≡ f x
+  unfolding at
+  at-other x e = rw (ne-eqb x s e)
+
+  pub at-all : (P : A → Type 0) → P a → ((x : ℕ) → P (f x)) → (x : ℕ) → P (at s a f x)
+  at-all P p q x = by (ℕ-discrete x s)
+    where
+      by : Dec (x ≡ s) → P (at s a f x)
+      by (yes e) = subst P (sym (at-same x e)) p
+      by (no e) = subst P (sym (at-other x e)) (q x)
+
+-- the pending set after a call
+module _ (sent : List Msg) (taken : Option Msg) (p : Msg → Bool) (m : Msg) where
+  pub after-came : T (among sent m) → T (pendingAfter sent taken p m)
+  unfolding pendingAfter
+  after-came t = or-left (among sent m) (p m && not (isTaken taken m)) t
+
+  pub after-kept : T (p m) → T (isTaken taken m) ⊎ T (pendingAfter sent taken p m)
+  unfolding pendingAfter
+  after-kept t = by (isTaken taken m)
+    where
+      by : (b : Bool) → T b ⊎ T (among sent m || (p m && not b))
+      by true = inl tt
+      by false = inr (or-right (among sent m) (p m && true) (and-T (p m) true t tt))
+
+  pub after-only : T (pendingAfter sent taken p m) → (T (p m) × (T (isTaken taken m) → ⊥)) ⊎ T (among sent m)
+  unfolding pendingAfter
+  after-only t = by (or-cases (among sent m) (p m && not (isTaken taken m)) t)
+    where
+      untaken : (b : Bool) → T (not b) → T b → ⊥
+      untaken true f u = f
+      untaken false f u = u
+
+      by : T (among sent m) ⊎ T (p m && not (isTaken taken m)) → (T (p m) × (T (isTaken taken m) → ⊥)) ⊎ T (among sent m)
+      by (inl u) = inr u
+      by (inr u) = inl (and-fst (p m) (not (isTaken taken m)) u, untaken (isTaken taken m) (and-snd (p m) (not (isTaken taken m)) u))
+
+-- sides as a test
+pub same-side : (d e : Side) → T (sameSide d e) → d ≡ e
+same-side left left t = refl
+same-side left right t = absurd t
+same-side right left t = absurd t
+same-side right right t = refl
+
+pub side-self : (d : Side) → sameSide d d ≡ true
+side-self left = refl
+side-self right = refl
+
+-- the links after a change
+pub applied-at : (t l : ℕ) (s : Side) (o : Option ℕ) (L : Links) → applied t (set l s o) L t l s ≡ o
+unfolding applied
+applied-at t l s o L = rw (eq-eqb t t refl, eq-eqb l l refl, side-self s)
+
+pub applied-frame : (t : ℕ) (c : Change) (L : Links) (x k : ℕ) (d : Side) → (applied t c L x k d ≡ L x k d) ⊎ ((o : Option ℕ) × (x ≡ t) × (c ≡ set k d o))
+unfolding applied
+applied-frame t keep L x k d = inl refl
+applied-frame t (set l s o) L x k d = by (dec-T (eqb x t && (eqb k l && sameSide d s)))
+  where
+    by : Dec (T (eqb x t && (eqb k l && sameSide d s))) → (cond (eqb x t && (eqb k l && sameSide d s)) o (L x k d) ≡ L x k d) ⊎ ((w : Option ℕ) × (x ≡ t) × (set l s o ≡ set k d w))
+    by (yes u) =
+        let v = and-snd (eqb x t) (eqb k l && sameSide d s) u in
+        let e = eqb→eq k l (and-fst (eqb k l) (sameSide d s) v) in
+        let f = same-side d s (and-snd (eqb k l) (sameSide d s) v) in
+        inr (o, eqb→eq x t (and-fst (eqb x t) (eqb k l && sameSide d s) u), λ i. set (sym e i) (sym f i) o)
+    by (no n) = inl (ap (λ (b : Bool). cond b o (L x k d)) (not-T-false n))
+
+-- another lot's links stay
+pub applied-other : (t : ℕ) (c : Change) (L : Links) (x k : ℕ) (d : Side) → x ≢ t → applied t c L x k d ≡ L x k d
+applied-other t c L x k d ne = by (applied-frame t c L x k d)
+  where
+    by : (applied t c L x k d ≡ L x k d) ⊎ ((o : Option ℕ) × (x ≡ t) × (c ≡ set k d o)) → applied t c L x k d ≡ L x k d
+    by (inl e) = e
+    by (inr q) = absurd (ne (q .1))
+
+-- a message to a link
+pub link-in : (o : Option ℕ) (f : ℕ → Msg) {z : ℕ} → o ≡ some z → List·Memᴰ (f z) (toLink o f)
+unfolding toLink
+link-in o f {z} e = rw e (List·Memᴰ·head refl)
+
+pub link-out : (o : Option ℕ) (f : ℕ → Msg) {m : Msg} → List·Memᴰ m (toLink o f) → (z : ℕ) × (o ≡ some z) × (m ≡ f z)
+unfolding toLink
+link-out none f h = absurd (List·Memᴰ·not-nil h)
+link-out (some z) f h = (z, refl, List·Memᴰ·eq-of-singleton h)
+
+-- lists made seat by seat
+pub each-in : (n : ℕ) (f : ℕ → List Msg) (i : ℕ) {m : Msg} → i < n → List·Memᴰ m (f i) → List·Memᴰ m (each n f)
+unfolding each
+each-in zero f i l h = absurd (omega arith)
+each-in (suc n) f i {m} l h = by (ℕ-discrete i n) (λ k. each-in n f i k h)
+  where
+    by : Dec (i ≡ n) → (i < n → List·Memᴰ m (each n f)) → List·Memᴰ m (each n f ++ f n)
+    by (yes e) ih = Memᴰ·append-right (each n f) (subst (λ (j : ℕ). List·Memᴰ m (f j)) e h)
+    by (no e) ih = Memᴰ·append-left (f n) (ih (omega arith))
+
+pub each-out : (n : ℕ) (f : ℕ → List Msg) {m : Msg} → List·Memᴰ m (each n f) → (i : ℕ) × (i < n) × List·Memᴰ m (f i)
+unfolding each
+each-out zero f h = absurd (List·Memᴰ·not-nil h)
+each-out (suc n) f {m} h = by (List·Memᴰ·append-cases (each n f) h) (λ q. each-out n f q)
+  where
+    by : List·Memᴰ m (each n f) ⊎ List·Memᴰ m (f n) → (List·Memᴰ m (each n f) → (i : ℕ) × (i < n) × List·Memᴰ m (f i)) → (i : ℕ) × (i < suc n) × List·Memᴰ m (f i)
+    by (inl q) ih = let r = ih q in (r .0, omega (arith, r .1), r .2)
+    by (inr q) ih = (n, omega arith, q)
+
+-- an accepted call: no row applies
+pub no-row : (n : ℕ) (b : Bool) (rs : List Row) → first (row (suc n) b ∷ rs) ≡ 0 → (b ≡ false) × (first rs ≡ 0)
+unfolding first
+no-row n true rs e = absurd (omega arith)
+no-row n false rs e = (refl, e)
