@@ -89,7 +89,7 @@ applied-frame t (set l s o) L x k d = by (dec-T (eqb x t && (eqb k l && sameSide
         let e = eqb→eq k l (and-fst (eqb k l) (sameSide d s) v) in
         let f = same-side d s (and-snd (eqb k l) (sameSide d s) v) in
         inr (o, eqb→eq x t (and-fst (eqb x t) (eqb k l && sameSide d s) u), λ i. set (sym e i) (sym f i) o)
-    by (no n) = inl (ap (λ (b : Bool). cond b o (L x k d)) (not-T-false n))
+    by (no n) = let f : (eqb x t && (eqb k l && sameSide d s)) ≡ false = not-T-false n in inl (rw f)
 
 -- another lot's links stay
 pub applied-other : (t : ℕ) (c : Change) (L : Links) (x k : ℕ) (d : Side) → x ≢ t → applied t c L x k d ≡ L x k d
