@@ -3,3 +3,12 @@ pub mod Examples
 pub mod Message
 pub mod Any
 pub mod Calls
+pub mod World
+pub mod Delivery
+pub mod Open
+pub mod Back
+pub mod Conn
+pub mod Segment
+pub mod SegmentKept
+pub mod Settled
+pub mod OpenEffect
