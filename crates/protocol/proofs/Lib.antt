@@ -12,3 +12,5 @@ pub mod Segment
 pub mod SegmentKept
 pub mod Settled
 pub mod OpenEffect
+pub mod Clearing
+pub mod ClearingEffect
