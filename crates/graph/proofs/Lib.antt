@@ -6,3 +6,4 @@ pub mod Shared
 pub mod Laws
 pub mod Neighbour
 pub mod Walk
+pub mod Levels
