@@ -7,3 +7,4 @@ pub mod Laws
 pub mod Neighbour
 pub mod Walk
 pub mod Levels
+pub mod SkipGraph

@@ -12,7 +12,7 @@ use Rattle.graph.specs.Graph.{Lots, inList, beside, nearer, nearest as s
 use Rattle.graph.proofs.Tests.{true-T, false-T, and-T, and-fst, and-snd}
 use Rattle.graph.proofs.Below.{below-suc}
 use Rattle.graph.proofs.Order.{Lt, lt-trans, lt-asym, lt-eq, on-lt, lt-on}
-use Rattle.graph.proofs.Shared.{shared-sym, shared-trans}
+use Rattle.graph.proofs.Shared.{shared-refl, shared-sym, shared-trans}
 use Rattle.graph.proofs.Laws.{Laws, member-compare}
 
 -- z is in x's list of level k
@@ -22,6 +22,9 @@ pub record InList (W : ℕ) (G : Lots) (k x z : ℕ) : Type 0 where
   pub bits : k ≤ shared W (G .vector x) (G .vector z)
 
 module _ {W : ℕ} {G : Lots} where
+  pub list-refl : {k x : ℕ} → T (G .member x) → k ≤ W → InList W G k x x
+  list-refl {x = x} m l = record { member = m; same = refl; bits = shared-refl W (G .vector x) l }
+
   pub list-sym : {k x y : ℕ} → T (G .member x) → InList W G k x y → InList W G k y x
   list-sym {k} {x} {y} m p = record { member = m; same = sym (p .same); bits = rw (shared-sym W (G .vector y) (G .vector x)) (p .bits) }
 

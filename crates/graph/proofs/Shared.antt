@@ -66,6 +66,9 @@ module _ (W : ℕ) (a b : ℕ) where
   bits-shared k l h = in-equal 0 W k l (λ i m. let z : 0 + i ≡ i = omega arith in rw z (h i m))
 
 module _ (W : ℕ) where
+  pub shared-refl : {k : ℕ} (a : ℕ) → k ≤ W → k ≤ shared W a a
+  shared-refl {k} a l = bits-shared W a a k l (λ i m. refl)
+
   shared-flip : (a b : ℕ) → shared W a b ≤ shared W b a
   shared-flip a b = bits-shared W b a (shared W a b) (shared-le W a b) (λ i l. sym (shared-bits W a b (shared W a b) (omega arith) i l))
 
