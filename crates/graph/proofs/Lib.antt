@@ -8,3 +8,5 @@ pub mod Neighbour
 pub mod Walk
 pub mod Levels
 pub mod SkipGraph
+pub mod Components
+pub mod Leading

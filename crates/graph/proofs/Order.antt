@@ -14,6 +14,12 @@ pub opp-opp : (d : Side) → opp (opp d) ≡ d
 opp-opp left = refl
 opp-opp right = refl
 
+pub side-or-opp : (d e : Side) → (d ≡ e) ⊎ (opp d ≡ e)
+side-or-opp left left = inl refl
+side-or-opp left right = inr refl
+side-or-opp right left = inr refl
+side-or-opp right right = inl refl
+
 -- y lies on side d of x
 pub data Lt (num : ℕ → ℕ) : Side → ℕ → ℕ → Type 0 where
   toL : {x y : ℕ} → num y < num x → Lt num left x y
