@@ -1,19 +1,18 @@
 -- Theorem 5 of document 000: every connected component is a skip graph exactly if Constraints 1 to 6 hold.
 -- Assumes the laws of the lots, and that their labels are the connected components, as the labels of every graph are.
-use Prim.Native.Nat.{ℕ, suc, _+_, _≤_, _<_}
+use Prim.Native.Nat.{ℕ, _+_, _≤_}
 use mathlib.Core.Path.{_≡_, refl, sym, _∙_, subst}
 use mathlib.Core.Logic.{_↔_, _⊎_, inl, inr}
-use mathlib.Core.Option.{Option, some}
 use native.Mathlib.Omega.{arith}
 use native.Mathlib.Decide.{decLe}
 use lib.Dec.{T}
-use Rattle.graph.specs.Side.{Side, left, right, opp}
+use Rattle.graph.specs.Side.{Side, left, opp}
 use Rattle.graph.specs.Graph.{Lots, Links, graph, IsGraph}
 use Rattle.graph.specs.Constraints.{Constraints, OneList, Joined, same, linked, turned, through}
 use Rattle.graph.proofs.Order.{side-or-opp}
 use Rattle.graph.proofs.Laws.{Laws, twoSeated, laws-two}
 use Rattle.graph.proofs.Walk.{Walk, here, there, walk-iterate, iterate-walk, walk-append, walk-rest}
-use Rattle.graph.proofs.Walk.{Sorted, constraints-sorted, walk-member, walk-reverse}
+use Rattle.graph.proofs.Walk.{constraints-sorted, walk-member, walk-reverse}
 use Rattle.graph.proofs.Levels.{link-ground}
 use Rattle.graph.proofs.SkipGraph.{skip-graph, walk-list, graph-constraints, graph-one-list}
 

@@ -37,7 +37,8 @@ module _ (W a b : ℕ) where
   top-bits : (k : ℕ) → k ≤ W → top W k a ≡ top W k b → (i : ℕ) → i < k → bit W i a ≡ bit W i b
   unfolding bit top
   top-bits zero l e = λ i n. absurd (omega arith)
-  top-bits (suc k) l e = below-suc (top-bits k (omega arith) (omega (arith, top-half W k a l, top-half W k b l))) (ap (λ (v : ℕ). eqb (v % 2) 1) e)
+  top-bits (suc k) l e = let lower : top W k a ≡ top W k b = omega (arith, top-half W k a l, top-half W k b l) in
+      below-suc (top-bits k (omega arith) lower) (ap (λ (v : ℕ). eqb (v % 2) 1) e)
 
   bits-top : (k : ℕ) → k ≤ W → a < 2 ^ W → b < 2 ^ W → ((i : ℕ) → i < k → bit W i a ≡ bit W i b) → top W k a ≡ top W k b
   unfolding bit top
@@ -71,8 +72,9 @@ module _ (W a b : ℕ) (fits-a : a < 2 ^ W) (fits-b : b < 2 ^ W) where
 
 pub leading-shared : (W a b : ℕ) → a < 2 ^ W → b < 2 ^ W → leadingZeros W (bitXor a b) ≡ shared W a b
 leading-shared W a b p q =
+    let zeros = leadingZeros W (bitXor a b) in
     let z = leading-le W (bitXor a b) in
     let s = shared-le W a b in
-    let below = shared-top W a b p q (leadingZeros W (bitXor a b)) z .1 (leading-top W a b p q (leadingZeros W (bitXor a b)) z .0 (omega arith)) in
-    let above = leading-top W a b p q (shared W a b) s .1 (shared-top W a b p q (shared W a b) s .0 (omega arith)) in
+    let below : zeros ≤ shared W a b = shared-top W a b p q zeros z .1 (leading-top W a b p q zeros z .0 (omega arith)) in
+    let above : shared W a b ≤ zeros = leading-top W a b p q (shared W a b) s .1 (shared-top W a b p q (shared W a b) s .0 (omega arith)) in
     omega arith

@@ -59,7 +59,8 @@ module _ {W : ℕ} {G : Lots} {L : Links} (c : Constraints W G L) where
           let r = walk-rest (f .below) v w in
           record {
             lot = h .lot;
-            link = c .first x k (h .lot) (f .at) d m l (h .iterated) (h .agree) (λ n y b e g. f .before n b (record { lot = y; iterated = e; agree = g }));
+            link = c .first x k (h .lot) (f .at) d m l (h .iterated) (h .agree) (λ n y b e g.
+                f .before n b (record { lot = y; iterated = e; agree = g }));
             agree = h .agree;
             steps = f .at;
             walk = v;
@@ -78,15 +79,18 @@ module _ {W : ℕ} {G : Lots} {L : Links} (c : Constraints W G L) where
       u = up m l w a
 
       onward-agree : Agree W G L k (u .lot) z
-      onward-agree = shared-trans W (suc k) (G .vector (u .lot)) (G .vector x) (G .vector z) (rw (shared-sym W (G .vector (u .lot)) (G .vector x)) (u .agree)) a
+      onward-agree = let s = shared-sym W (G .vector (u .lot)) (G .vector x) in
+          shared-trans W (suc k) (G .vector (u .lot)) (G .vector x) (G .vector z) (rw s (u .agree)) a
 
       by : (r : ℕ) → suc (u .steps) + r ≡ suc j → Walk L k d r (u .lot) z
-          → ((i : ℕ) → i < n → Walk L k d (suc i) (u .lot) z → (h : ℕ) × Walk L (suc k) d (suc h) (u .lot) z) → (h : ℕ) × Walk L (suc k) d (suc h) x z
+          → ((i : ℕ) → i < n → Walk L k d (suc i) (u .lot) z → (h : ℕ) × Walk L (suc k) d (suc h) (u .lot) z)
+          → (h : ℕ) × Walk L (suc k) d (suc h) x z
       by zero t v ih = (0, subst (Walk L (suc k) d 1 x) (walk-zero v) (there (u .link) here))
       by (suc r) t v ih = let q = ih r (omega arith) v in (suc (q .0), there (u .link) (q .1))
 
   -- a walk between lots that agree in one bit more is a walk one level up
-  pub walk-up : {k j x z : ℕ} {d : Side} → T (G .member x) → k < W → Walk L k d (suc j) x z → Agree W G L k x z → (i : ℕ) × Walk L (suc k) d (suc i) x z
+  pub walk-up : {k j x z : ℕ} {d : Side} → T (G .member x) → k < W → Walk L k d (suc j) x z → Agree W G L k x z
+      → (i : ℕ) × Walk L (suc k) d (suc i) x z
   walk-up {j = j} m l w a = climb (suc j) j (omega arith) m l w a
 
   -- it cannot be that a link is no walk one level down to a lot that agrees
@@ -95,7 +99,8 @@ module _ {W : ℕ} {G : Lots} {L : Links} (c : Constraints W G L) where
   not-not-lower {k} {x} {y} {d} m l e f = none-some (c .last x k d m l (λ j i z b q a. below (up m l (iterate-walk (suc i) q) a))) e
     where
       below : {i z : ℕ} → Up W G L k x d i z → ⊥
-      below u = let g = u .link in let s : u .lot ≡ y = cc in f (u .steps) (subst (Walk L k d (suc (u .steps)) x) s (u .walk)) (rw s at (u .agree))
+      below u = let g = u .link in let s : u .lot ≡ y = cc in
+          f (u .steps) (subst (Walk L k d (suc (u .steps)) x) s (u .walk)) (rw s at (u .agree))
 
   pub link-agree : {k x y : ℕ} {d : Side} → T (G .member x) → k < W → L x (suc k) d ≡ some y → Agree W G L k x y
   link-agree {k} {x} {y} m l e = by (decLt k (shared W (G .vector x) (G .vector y)))
@@ -106,12 +111,15 @@ module _ {W : ℕ} {G : Lots} {L : Links} (c : Constraints W G L) where
 
   -- a link is a walk one level down: it is sought as far as the numbers are apart
   pub link-down : {k x y : ℕ} {d : Side} → T (G .member x) → k < W → L x (suc k) d ≡ some y → (j : ℕ) × Walk L k d (suc j) x y
-  link-down {k} {x} {y} {d} m l e = by (first-below Meets (λ j. dec-some (iterate L k d (suc j) x) y) (distance (G .number x) (G .number y)))
+  link-down {k} {x} {y} {d} m l e = by (first-below Meets (λ j. dec-some (iterate L k d (suc j) x) y) far)
     where
+      far : ℕ
+      far = distance (G .number x) (G .number y)
+
       Meets : ℕ → Type 0
       Meets j = iterate L k d (suc j) x ≡ some y
 
-      by : First Meets (distance (G .number x) (G .number y)) ⊎ ((j : ℕ) → j < distance (G .number x) (G .number y) → Meets j → ⊥) → (j : ℕ) × Walk L k d (suc j) x y
+      by : First Meets far ⊎ ((j : ℕ) → j < far → Meets j → ⊥) → (j : ℕ) × Walk L k d (suc j) x y
       by (inl f) = (f .at, iterate-walk (suc (f .at)) (f .holds))
       by (inr n) = absurd (not-not-lower m l e (λ j w a. n j (walk-length (constraints-sorted c) (omega arith) m w) (walk-iterate w)))
 

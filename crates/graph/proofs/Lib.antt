@@ -10,3 +10,4 @@ pub mod Levels
 pub mod SkipGraph
 pub mod Components
 pub mod Leading
+pub mod Examples

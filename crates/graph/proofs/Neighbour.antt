@@ -1,6 +1,7 @@
--- A link of the graph as a relation: the nearest lot of a list on a side, or nobody. The graph has just these links. Assumes the laws of the lots.
+-- A link of the graph as a relation: the nearest lot of a list on a side, or nobody. The graph has just these links.
+-- Assumes the laws of the lots.
 use Prim.Native.Nat.{ℕ, zero, suc, _≤_, _<_}
-use mathlib.Core.Path.{_≡_, refl, sym, ap}
+use mathlib.Core.Path.{_≡_, refl, sym, _∙_, ap}
 use mathlib.Core.Logic.{_⊎_, inl, inr}
 use mathlib.Core.Option.{Option, none, some}
 use mathlib.Core.Bool.{Bool, true, false, cond, _&&_}
@@ -29,8 +30,11 @@ module _ {W : ℕ} {G : Lots} where
   list-sym {k} {x} {y} m p = record { member = m; same = sym (p .same); bits = rw (shared-sym W (G .vector y) (G .vector x)) (p .bits) }
 
   pub list-trans : {k x y z : ℕ} → InList W G k x y → InList W G k y z → InList W G k x z
-  list-trans {k} {x} {y} {z} p q =
-      record { member = q .member; same = cc (p .same, q .same); bits = shared-trans W k (G .vector x) (G .vector y) (G .vector z) (p .bits) (q .bits) }
+  list-trans {k} {x} {y} {z} p q = record {
+    member = q .member;
+    same = p .same ∙ q .same;
+    bits = shared-trans W k (G .vector x) (G .vector y) (G .vector z) (p .bits) (q .bits);
+  }
 
   pub list-lower : {k x y : ℕ} → InList W G (suc k) x y → InList W G k x y
   list-lower p = record { member = p .member; same = p .same; bits = omega (arith, p .bits) }
@@ -51,7 +55,8 @@ module _ {W : ℕ} {G : Lots} {k x : ℕ} {d : Side} where
   pub nearest-side : {y : ℕ} → Nearest W G k x d (some y) → Lt (G .number) d x y
   nearest-side (nearest p l f) = l
 
-  pub nearest-first : {y : ℕ} → Nearest W G k x d (some y) → (z : ℕ) → InList W G k x z → Lt (G .number) d x z → (z ≡ y) ⊎ Lt (G .number) d y z
+  pub nearest-first : {y : ℕ} → Nearest W G k x d (some y)
+      → (z : ℕ) → InList W G k x z → Lt (G .number) d x z → (z ≡ y) ⊎ Lt (G .number) d y z
   nearest-first (nearest p l f) = f
 
   -- there is one such link

@@ -1,12 +1,11 @@
 -- The order of lots along a side, as a relation that fixes the side: each law serves both sides. Assumes nothing.
-use Prim.Native.Nat.{ℕ, suc, _≤_, _<_}
-use mathlib.Core.Path.{_≡_, refl, sym, ap, subst}
+use Prim.Native.Nat.{ℕ, _<_}
+use mathlib.Core.Path.{_≡_, refl, sym, subst}
 use mathlib.Core.Logic.{_⊎_, inl, inr, _≢_}
-use mathlib.Core.Bool.{Bool, true, false, cond}
 use native.Mathlib.Omega.{arith}
 use native.Mathlib.Nat.{lt-trans as nat-lt-trans}
 use native.Mathlib.Decide.{decLt}
-use lib.Dec.{T, ltb, ltb→lt, lt→ltb}
+use lib.Dec.{T, ltb→lt, lt→ltb}
 use borrow.Author.Tests.{lt-ltb, le-ltb}
 use Rattle.graph.specs.Side.{Side, left, right, opp, onSide, sideOf}
 

@@ -1,28 +1,30 @@
--- The theorem on skip graphs: Constraints 1 to 6 and one level-0 list for each component hold exactly if every link is its link in the graph.
--- Assumes the laws of the lots.
+-- The theorem on skip graphs: Constraints 1 to 6 and one level-0 list for each component hold exactly if every link
+-- is its link in the graph. Assumes the laws of the lots.
 use Prim.Native.Nat.{ℕ, zero, suc, _≤_, _<_}
-use mathlib.Core.Path.{_≡_, refl, sym, _∙_, ap, subst}
+use mathlib.Core.Path.{_≡_, refl, sym, _∙_, subst}
 use mathlib.Core.Logic.{_↔_, _⊎_, inl, inr}
 use mathlib.Core.Option.{Option, none, some}
 use native.Mathlib.Omega.{arith}
 use native.Mathlib.Decide.{decLt}
 use lib.Dec.{T}
 use Rattle.graph.specs.Side.{Side, left, right, opp}
-use Rattle.graph.specs.Graph.{Lots, Links, graph, IsGraph}
+use Rattle.graph.specs.Graph.{Lots, Links, IsGraph}
 use Rattle.graph.specs.Constraints.{iterate, Agree, NoneBefore, Constraints, OneList}
 use Rattle.graph.proofs.Tests.{none-some}
-use Rattle.graph.proofs.Order.{Lt, lt-opp, opp-lt, lt-asym, lt-side, lt-ne, lt-ne′, lt-on}
+use Rattle.graph.proofs.Order.{Lt, lt-opp, opp-lt, lt-asym, lt-side, lt-ne, lt-on}
 use Rattle.graph.proofs.Laws.{Laws, member-compare}
 use Rattle.graph.proofs.Neighbour.{InList, list-refl, list-sym, list-trans, list-lower, Nearest, nobody, nearest}
-use Rattle.graph.proofs.Neighbour.{nobody-there, nearest-list, nearest-side, nearest-first, nearest-unique, graph-nearest, nearest-graph}
+use Rattle.graph.proofs.Neighbour.{nobody-there, nearest-list, nearest-side, nearest-first, nearest-unique}
+use Rattle.graph.proofs.Neighbour.{graph-nearest, nearest-graph}
 use Rattle.graph.proofs.Walk.{Walk, here, there, walk-iterate, iterate-walk, walk-zero, walk-rest}
-use Rattle.graph.proofs.Walk.{Sorted, constraints-sorted, distance, distance-less, walk-member, walk-order, walk-beyond}
+use Rattle.graph.proofs.Walk.{Sorted, constraints-sorted, distance, distance-less, walk-order, walk-beyond}
 use Rattle.graph.proofs.Levels.{walk-up, link-bits, link-ground}
 
 -- from the constraints to the graph
 module _ {W : ℕ} {G : Lots} {L : Links} (c : Constraints W G L) (one : OneList W G L) where
   -- every lot of the list on side d is reached by links
-  reach : (k : ℕ) {x z : ℕ} {d : Side} → T (G .member x) → k ≤ W → InList W G k x z → Lt (G .number) d x z → (j : ℕ) × Walk L k d (suc j) x z
+  reach : (k : ℕ) {x z : ℕ} {d : Side} → T (G .member x) → k ≤ W → InList W G k x z → Lt (G .number) d x z
+      → (j : ℕ) × Walk L k d (suc j) x z
   reach zero {x} {z} {d} m l p s = by (one .joined x z m (p .member) (p .same))
     where
       go : (e : Side) (j : ℕ) → Walk L 0 e j x z → (j : ℕ) × Walk L 0 d (suc j) x z
@@ -54,10 +56,10 @@ module _ {W : ℕ} {G : Lots} {L : Links} (c : Constraints W G L) (one : OneList
 
 -- from the graph to the constraints
 module _ {N W : ℕ} {G : Lots} {L : Links} (laws : Laws N G) (g : IsGraph N W G L) where
-  link-nearest : {x k : ℕ} {d : Side} {o : Option ℕ} → T (G .member x) → k ≤ W → L x k d ≡ o → Nearest W G k x d o
+  pub link-nearest : {x k : ℕ} {d : Side} {o : Option ℕ} → T (G .member x) → k ≤ W → L x k d ≡ o → Nearest W G k x d o
   link-nearest {x} {k} {d} m l e = subst (Nearest W G k x d) (sym (g .link x k d m l) ∙ e) (graph-nearest laws x k d)
 
-  nearest-link : {x k : ℕ} {d : Side} {o : Option ℕ} → T (G .member x) → k ≤ W → Nearest W G k x d o → L x k d ≡ o
+  pub nearest-link : {x k : ℕ} {d : Side} {o : Option ℕ} → T (G .member x) → k ≤ W → Nearest W G k x d o → L x k d ≡ o
   nearest-link m l n = nearest-unique (link-nearest m l refl) n
 
   graph-sorted : Sorted W G L
@@ -81,7 +83,8 @@ module _ {N W : ℕ} {G : Lots} {L : Links} (laws : Laws N G) (g : IsGraph N W G
           go (inr t) = let w = ih y e t in (suc (w .0), there e (w .1))
 
   -- every lot of the list on side d is reached by links
-  reach-graph : {x k z : ℕ} {d : Side} → T (G .member x) → k ≤ W → InList W G k x z → Lt (G .number) d x z → (j : ℕ) × Walk L k d (suc j) x z
+  pub reach-graph : {x k z : ℕ} {d : Side} → T (G .member x) → k ≤ W → InList W G k x z → Lt (G .number) d x z
+      → (j : ℕ) × Walk L k d (suc j) x z
   reach-graph {x} {z = z} m l p s = reached (suc (distance (G .number x) (G .number z))) (omega arith) m l p s
 
   -- and only those are
@@ -110,8 +113,8 @@ module _ {N W : ℕ} {G : Lots} {L : Links} (laws : Laws N G) (g : IsGraph N W G
       by {z} p s (inr (inl t)) = absurd (between (opp-lt s) (nearest-first f z (list-trans q p) (opp-lt t)))
       by p s (inr (inr t)) = inr t
 
-  first : (x k y j : ℕ) (d : Side) → T (G .member x) → k < W → iterate L k d (suc j) x ≡ some y → Agree W G L k x y → NoneBefore W G L k x d j
-      → L x (suc k) d ≡ some y
+  first : (x k y j : ℕ) (d : Side) → T (G .member x) → k < W → iterate L k d (suc j) x ≡ some y
+      → Agree W G L k x y → NoneBefore W G L k x d j → L x (suc k) d ≡ some y
   first x k y j d m l e a before = nearest-link m l (nearest list (walk-order graph-sorted low m w) (λ z p s.
       let v = reach-graph m low (list-lower p) s in by p (v .0) (v .1) (decLt (v .0) j)))
     where
@@ -130,7 +133,8 @@ module _ {N W : ℕ} {G : Lots} {L : Links} (laws : Laws N G) (g : IsGraph N W G
 
   last : (x k : ℕ) (d : Side) → T (G .member x) → k < W → ((j : ℕ) → NoneBefore W G L k x d j) → L x (suc k) d ≡ none
   last x k d m l before = nearest-link m l (nobody (λ z p s.
-      let v = reach-graph {k = k} m (omega arith) (list-lower p) s in before (suc (v .0)) (v .0) z (omega arith) (walk-iterate (v .1)) (p .bits)))
+      let v = reach-graph {k = k} m (omega arith) (list-lower p) s in
+      before (suc (v .0)) (v .0) z (omega arith) (walk-iterate (v .1)) (p .bits)))
 
   pub graph-constraints : Constraints W G L
   graph-constraints = record {

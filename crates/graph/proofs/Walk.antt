@@ -1,5 +1,5 @@
--- Iterated links as walks of a given length. Along sorted links a walk keeps to members and to its side, and is no longer than the numbers are apart.
--- Assumes what each law names.
+-- Iterated links as walks of a given length. Along sorted links a walk keeps to members and to its side,
+-- and is no longer than the numbers are apart. Assumes what each law names.
 use Prim.Native.Nat.{ℕ, zero, suc, _+_, _-_, _≤_, _<_}
 use mathlib.Core.Path.{_≡_, refl, subst}
 use mathlib.Core.Logic.{_⊎_, inl, inr}
@@ -69,9 +69,10 @@ constraints-sorted {G = G} c = record {
 pub distance : ℕ → ℕ → ℕ
 distance a b = (a - b) + (b - a)
 
-pub distance-less : {num : ℕ → ℕ} {d : Side} {x y z : ℕ} → Lt num d x y → (z ≡ y) ⊎ Lt num d y z → distance (num y) (num z) < distance (num x) (num z)
+pub distance-less : {num : ℕ → ℕ} {d : Side} {x y z : ℕ} → Lt num d x y → (z ≡ y) ⊎ Lt num d y z
+    → distance (num y) (num z) < distance (num x) (num z)
 unfolding distance
-distance-less (toL {y = y} p) (inl e) = rw e (omega arith)
+distance-less (toL p) (inl e) = rw e (omega arith)
 distance-less (toR p) (inl e) = rw e (omega arith)
 distance-less (toL p) (inr (toL q)) = omega arith
 distance-less (toR p) (inr (toR q)) = omega arith
@@ -95,6 +96,8 @@ module _ {W : ℕ} {G : Lots} {L : Links} (sorted : Sorted W G L) {k : ℕ} (l :
       omega (arith, walk-length n w, distance-less (sorted .order m l e) (walk-beyond n w))
 
 -- the way back
-pub walk-reverse : {W k j x z : ℕ} {G : Lots} {L : Links} {d : Side} → Constraints W G L → k ≤ W → T (G .member x) → Walk L k d j x z → Walk L k (opp d) j z x
+pub walk-reverse : {W k j x z : ℕ} {G : Lots} {L : Links} {d : Side} → Constraints W G L → k ≤ W → T (G .member x)
+    → Walk L k d j x z → Walk L k (opp d) j z x
 walk-reverse c l m here = here
-walk-reverse {k = k} {d = d} c l m (there {x = x} {y = y} e w) = walk-snoc (walk-reverse c l (c .within x k y d m l e) w) (c .back x k y d m l e)
+walk-reverse {k = k} {d = d} c l m (there {x = x} {y = y} e w) =
+    walk-snoc (walk-reverse c l (c .within x k y d m l e) w) (c .back x k y d m l e)

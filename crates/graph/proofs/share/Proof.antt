@@ -1,4 +1,5 @@
--- `graph::share` meets its contract: the leading zeros of the exclusive or are the shared bits, and never more than the width. Assumes nothing.
+-- `graph::share` meets its contract: the leading zeros of the exclusive or are the shared bits, at most the width.
+-- Assumes nothing.
 use borrow.Author.Needs.{needs}
 use native.Mathlib.Omega.{arith}
 use lib.Bits.{bitXor}
