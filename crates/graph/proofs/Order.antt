@@ -1,18 +1,23 @@
 -- The order of lots along a side, as a relation that fixes the side: each law serves both sides. Assumes nothing.
-use Prim.Native.Nat.{ℕ, suc, _≤_, _<_}
-use mathlib.Core.Path.{_≡_, refl, sym, ap, subst}
+use Prim.Native.Nat.{ℕ, _<_}
+use mathlib.Core.Path.{_≡_, refl, sym, subst}
 use mathlib.Core.Logic.{_⊎_, inl, inr, _≢_}
-use mathlib.Core.Bool.{Bool, true, false, cond}
 use native.Mathlib.Omega.{arith}
 use native.Mathlib.Nat.{lt-trans as nat-lt-trans}
 use native.Mathlib.Decide.{decLt}
-use lib.Dec.{T, ltb, ltb→lt, lt→ltb}
+use lib.Dec.{T, ltb→lt, lt→ltb}
 use borrow.Author.Tests.{lt-ltb, le-ltb}
 use Rattle.graph.specs.Side.{Side, left, right, opp, onSide, sideOf}
 
 pub opp-opp : (d : Side) → opp (opp d) ≡ d
 opp-opp left = refl
 opp-opp right = refl
+
+pub side-or-opp : (d e : Side) → (d ≡ e) ⊎ (opp d ≡ e)
+side-or-opp left left = inl refl
+side-or-opp left right = inr refl
+side-or-opp right left = inr refl
+side-or-opp right right = inl refl
 
 -- y lies on side d of x
 pub data Lt (num : ℕ → ℕ) : Side → ℕ → ℕ → Type 0 where

@@ -1,11 +1,9 @@
 -- Shared bits, for any width: two vectors share k bits exactly if their first k bits are equal. The other laws follow. Assumes nothing.
 use Prim.Native.Nat.{ℕ, zero, suc, _+_, _≤_, _<_}
-use mathlib.Core.Path.{_≡_, refl, sym, _∙_, ap, subst}
-use mathlib.Core.Logic.{_≢_}
-use mathlib.Core.Bool.{Bool, true, false, not, cond}
+use mathlib.Core.Path.{_≡_, refl, sym, _∙_}
+use mathlib.Core.Bool.{Bool, true, false, cond}
 use native.Mathlib.Omega.{arith}
-use native.Mathlib.Decide.{decLt, ℕ-discrete}
-use lib.Dec.{T}
+use native.Mathlib.Decide.{ℕ-discrete}
 use Rattle.graph.specs.Vector.{sameBit, bit, equalBits, shared}
 
 pub same-eq : (a b : Bool) → sameBit a b ≡ true → a ≡ b
@@ -48,7 +46,8 @@ module _ (W : ℕ) (a b : ℕ) where
   in-equal k n zero l h = omega arith
   in-equal k zero (suc m) l h = absurd (omega arith)
   in-equal k (suc n) (suc m) l h = let z : k + 0 ≡ k = omega arith in
-      rw (eq-same (bit W k a) (bit W k b) (rw z at (h 0 (omega arith)))) (go (in-equal (suc k) n m (omega arith) (λ i q. let y : k + suc i ≡ suc k + i = omega arith in rw y at (h (suc i) (omega arith)))))
+      rw (eq-same (bit W k a) (bit W k b) (rw z at (h 0 (omega arith))))
+      (go (in-equal (suc k) n m (omega arith) (λ i q. let y : k + suc i ≡ suc k + i = omega arith in rw y at (h (suc i) (omega arith)))))
     where
       go : m ≤ equalBits W (suc k) n a b → suc m ≤ suc (equalBits W (suc k) n a b)
       go q = omega arith
@@ -66,6 +65,9 @@ module _ (W : ℕ) (a b : ℕ) where
   bits-shared k l h = in-equal 0 W k l (λ i m. let z : 0 + i ≡ i = omega arith in rw z (h i m))
 
 module _ (W : ℕ) where
+  pub shared-refl : {k : ℕ} (a : ℕ) → k ≤ W → k ≤ shared W a a
+  shared-refl {k} a l = bits-shared W a a k l (λ i m. refl)
+
   shared-flip : (a b : ℕ) → shared W a b ≤ shared W b a
   shared-flip a b = bits-shared W b a (shared W a b) (shared-le W a b) (λ i l. sym (shared-bits W a b (shared W a b) (omega arith) i l))
 

@@ -1,10 +1,11 @@
 -- Facts about Boolean tests and optional seats. Assumes nothing.
 use Prim.Native.Nat.{ℕ}
-use mathlib.Core.Path.{_≡_, refl, sym, _∙_}
+use mathlib.Core.Path.{_≡_, refl, ap}
 use mathlib.Core.Logic.{_⊎_, inl, inr}
 use mathlib.Core.Option.{Option, none, some}
-use mathlib.Core.Bool.{Bool, true, false, not, _&&_, _||_}
+use mathlib.Core.Bool.{Bool, true, false, _&&_, _||_}
 use native.Mathlib.Omega.{arith}
+use native.Mathlib.Decide.{ℕ-discrete}
 use lib.Dec.{T}
 
 pub dec-T : (b : Bool) → Dec (T b)
@@ -57,3 +58,11 @@ some-inj e = cc
 
 pub none-some : {A : Type 0} {o : Option ℕ} {x : ℕ} → o ≡ none → o ≡ some x → A
 none-some p q = absurd (let z : _≡_ {A = ℕ} 0 1 = cc in omega arith)
+
+pub dec-some : (o : Option ℕ) (y : ℕ) → Dec (o ≡ some y)
+dec-some none y = no (λ e. none-some refl e)
+dec-some (some x) y = by (ℕ-discrete x y)
+  where
+    by : Dec (x ≡ y) → Dec (some x ≡ some y)
+    by (yes e) = yes (ap some e)
+    by (no n) = no (λ e. n (some-inj e))

@@ -1,0 +1,37 @@
+-- What is assumed of lots on N seats: a member sits below N, and the numbers of members differ. Two instances show that it can be met.
+use Prim.Native.Nat.{ℕ, _<_}
+use mathlib.Core.Path.{_≡_}
+use mathlib.Core.Logic.{_⊎_, inl, inr}
+use mathlib.Core.Bool.{false}
+use native.Mathlib.Decide.{ℕ-discrete}
+use lib.Dec.{T, ltb, ltb→lt}
+use Rattle.graph.specs.Side.{Side}
+use Rattle.graph.specs.Graph.{Lots}
+use Rattle.graph.proofs.Order.{Lt, lt-either}
+
+pub record Laws (N : ℕ) (G : Lots) : Type 0 where
+  pub seat : (x : ℕ) → T (G .member x) → x < N
+  pub differ : (x y : ℕ) → T (G .member x) → T (G .member y) → G .number x ≡ G .number y → x ≡ y
+
+-- two members are one, or one lies on side d of the other
+pub member-compare : {N : ℕ} {G : Lots} → Laws N G → (d : Side) (x y : ℕ) → T (G .member x) → T (G .member y)
+    → (x ≡ y) ⊎ (Lt (G .number) d x y ⊎ Lt (G .number) d y x)
+member-compare {G = G} laws d x y mx my = by (ℕ-discrete x y)
+  where
+    by : Dec (x ≡ y) → (x ≡ y) ⊎ (Lt (G .number) d x y ⊎ Lt (G .number) d y x)
+    by (yes e) = inl e
+    by (no n) = inr (lt-either (G .number) d x y (λ e. n (laws .differ x y mx my e)))
+
+-- no member
+abbrev pub nobodySeated : Lots
+nobodySeated = record { member = λ x. false; number = λ x. x; vector = λ x. 0; component = λ x. 0 }
+
+pub laws-nobody : (N : ℕ) → Laws N nobodySeated
+laws-nobody N = record { seat = λ x m. absurd m; differ = λ x y mx my e. e }
+
+-- members on seats 0 and 1, each with its seat for a number
+abbrev pub twoSeated : Lots
+twoSeated = record { member = λ x. ltb x 2; number = λ x. x; vector = λ x. 0; component = λ x. 0 }
+
+pub laws-two : Laws 2 twoSeated
+laws-two = record { seat = λ x m. ltb→lt x 2 m; differ = λ x y mx my e. e }
