@@ -3,3 +3,8 @@ pub mod Examples
 pub mod Message
 pub mod Any
 pub mod Calls
+pub mod Digits
+pub mod Numbering
+pub mod PlaceOrder
+pub mod Sum
+pub mod NumberingExamples
