@@ -14,3 +14,8 @@ pub mod Settled
 pub mod OpenEffect
 pub mod Clearing
 pub mod ClearingEffect
+pub mod Digits
+pub mod Numbering
+pub mod PlaceOrder
+pub mod Sum
+pub mod NumberingExamples
