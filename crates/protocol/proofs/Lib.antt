@@ -14,6 +14,9 @@ pub mod Settled
 pub mod OpenEffect
 pub mod Clearing
 pub mod ClearingEffect
+pub mod Measure
+pub mod Ends
+pub mod ClearingEnds
 pub mod Digits
 pub mod Numbering
 pub mod PlaceOrder

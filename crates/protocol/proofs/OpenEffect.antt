@@ -1,17 +1,18 @@
--- The effect of MEET, PROBE and PULL is what the relations of Open say. Assumes nothing.
+-- The effect of MEET, PROBE and PULL: one case for each way that a rule can go, and each case is what the relations of Open say.
+-- Assumes nothing.
 use Prim.Native.Nat.{ℕ, suc, _≤_, _<_}
 use mathlib.Core.Path.{_≡_, refl, sym, _∙_, ap, subst}
 use mathlib.Core.Logic.{_⊎_, inl, inr, _≢_}
 use mathlib.Core.Option.{Option, none, some}
 use mathlib.Core.Bool.{Bool, true, false, not, cond}
 use mathlib.Core.List.{List, [], _∷_, _++_, List·Memᴰ, List·Memᴰ·head, List·Memᴰ·tail, List·Memᴰ·cases-cons, List·Memᴰ·eq-of-singleton, List·Memᴰ·not-nil, Memᴰ·append-left, Memᴰ·append-right, List·Memᴰ·append-cases}
-use lib.Dec.{T, eqb, eqb→eq, ltb, ltb→lt, lt→ltb}
-use borrow.Author.Tests.{eq-eqb}
+use lib.Dec.{T, eqb, ltb, ltb→lt, lt→ltb}
+use borrow.Author.Tests.{eq-eqb, eqb-true, ltb-true, lt-ltb}
 use Rattle.graph.specs.Side.{Side, opp, onSide, sideOf}
 use Rattle.graph.specs.Vector.{sameBit}
-use Rattle.graph.proofs.Order.{Lt, lt-opp, lt-ne, lt-ne′, lt-eq, lt-asym, lt-side, on-lt, lt-on, side-of, opp-opp}
+use Rattle.graph.proofs.Order.{Lt, lt-opp, lt-ne, lt-ne′, lt-eq, lt-asym, lt-side, on-lt, lt-on, side-of}
 use Rattle.graph.proofs.Shared.{same-eq, eq-same}
-use Rattle.graph.proofs.Tests.{dec-T, T-true, true-T, not-T-false, false-T, none-some, some-inj}
+use Rattle.graph.proofs.Tests.{true-T, false-T, true-false, none-some}
 use Rattle.protocol.specs.Message.{Msg, meet, probe, pull, nameOf}
 use Rattle.protocol.specs.Rules.{SeatState, Entry, Change, keep, set, Effect, toLink, sending, setting, meeting, probing, pulling, effect}
 use Rattle.protocol.proofs.Calls.{link-in, link-out}
@@ -60,7 +61,69 @@ module _ {G : World} {S : State} where
   meet-sends {x} {y} {k} {d} l (ask l′ o w) = subst (λ (c : Side). MeetSends G S x y k c (probe y x k)) (lt-side l′ l) (m-ask o w)
   meet-sends {x} {y} {k} {d} l (call {z = z} {d = c} l′ o w e) = subst (λ (b : Side). MeetSends G S x y k b (pull z (not (bitOf G k x)) k (opp c))) (lt-side l′ l) (m-call o w e)
 
--- MEET
+-- the ways that the three rules can go
+pub data View (G : World) (S : State) (st : SeatState) : Msg → Effect → Type 0 where
+  v-same : {x y k : ℕ} {d : Side} → Lt (G .num) d x y → S .link x k d ≡ some y → View G S st (meet x y k) (sending [])
+  v-near : {x y k o : ℕ} {d : Side} → Lt (G .num) d x y → S .link x k d ≡ some o → Lt (G .num) d o y → View G S st (meet x y k) (sending (meet o y k ∷ []))
+  v-set : {x y k : ℕ} {d : Side} → Lt (G .num) d x y → Old G S x k d y → View G S st (meet x y k) (setting (G .W) (G .num) (G .vec) (entryIn G S st x) x y k d)
+  v-up : {x y k : ℕ} → k < share G x y → View G S st (probe x y k) (sending (meet x y (suc k) ∷ []))
+  v-pass : {x y k : ℕ} {d : Side} → ¬ (k < share G x y) → Lt (G .num) d y x → View G S st (probe x y k) (sending (toLink (S .link x k d) (λ z. probe z y k)))
+  v-hit : {x k : ℕ} {b : Bool} {d : Side} → bitOf G k x ≡ b → View G S st (pull x b k d) (sending (toLink (S .link x k (opp d)) (λ z. probe z x k)))
+  v-go : {x k : ℕ} {b : Bool} {d : Side} → bitOf G k x ≢ b → View G S st (pull x b k d) (sending (toLink (S .link x k d) (λ z. pull z b k d)))
+
+module _ (G : World) (S : State) (st : SeatState) where
+  meeting-view : {x y k : ℕ} {d : Side} → Proper G S → G .Seated y → Lt (G .num) d x y → (v : Option ℕ) → S .link x k d ≡ v → View G S st (meet x y k) (meeting (G .W) (G .num) (G .vec) (entryIn G S st x) x y k d v)
+  unfolding meeting
+  meeting-view h sy l none e = v-set l (no-old e)
+  meeting-view {x} {y} {k} {d} h sy l (some o) e = by (eqb o y) refl (onSide d (G .num o) (G .num y)) refl
+    where
+      beyond : eqb o y ≡ false → onSide d (G .num o) (G .num y) ≡ false → (o ≡ y) ⊎ (Lt (G .num) d o y ⊎ Lt (G .num) d y o) → Lt (G .num) d y o
+      beyond n m (inl r) = true-false (eq-eqb o y r) n
+      beyond n m (inr (inl r)) = false-T m (lt-on (G .num) r)
+      beyond n m (inr (inr r)) = r
+
+      by : (a : Bool) → eqb o y ≡ a → (b : Bool) → onSide d (G .num o) (G .num y) ≡ b
+          → View G S st (meet x y k) (cond a (sending []) (cond b (sending (meet o y k ∷ [])) (setting (G .W) (G .num) (G .vec) (entryIn G S st x) x y k d)))
+      by true p b q = v-same l (e ∙ ap some (eqb-true o y p))
+      by false p true q = v-near l e (on-lt (G .num) d o y (true-T q))
+      by false p false q = v-set l (far o e (beyond p q (seat-tri G d o y (h .link-pair e .snd) sy)))
+
+  meet-view : {x y k : ℕ} → Proper G S → Pair G k x y → x ≢ y → View G S st (meet x y k) (effect (G .W) (G .num) (G .vec) (entryIn G S st x) (meet x y k))
+  unfolding effect
+  meet-view {x} {y} {k} h p ne =
+      let q = seat-side G x y (p .fst) (p .snd) ne in
+      let e : sideOf (G .num x) (G .num y) ≡ q .0 = side-of (G .num) (q .1) in
+      rw e (meeting-view h (p .snd) (q .1) (S .link x k (q .0)) refl)
+
+  probe-view : {x y k : ℕ} → Pair G k x y → x ≢ y → View G S st (probe x y k) (effect (G .W) (G .num) (G .vec) (entryIn G S st x) (probe x y k))
+  unfolding effect probing
+  probe-view {x} {y} {k} p ne = rw e (by (ltb k (share G x y)) refl)
+    where
+      q : (d : Side) × Lt (G .num) d x y
+      q = seat-side G x y (p .fst) (p .snd) ne
+
+      e : sideOf (G .num x) (G .num y) ≡ q .0
+      e = side-of (G .num) (q .1)
+
+      by : (b : Bool) → ltb k (share G x y) ≡ b → View G S st (probe x y k) (sending (cond b (meet x y (suc k) ∷ []) (toLink (S .link x k (opp (q .0))) (λ z. probe z y k))))
+      by true t = v-up (ltb-true k (share G x y) t)
+      by false t = v-pass (λ w. true-false (lt-ltb k (share G x y) w) t) (lt-opp (q .1))
+
+  pull-view : {x k : ℕ} {b : Bool} {d : Side} → View G S st (pull x b k d) (effect (G .W) (G .num) (G .vec) (entryIn G S st x) (pull x b k d))
+  unfolding effect pulling
+  pull-view {x} {k} {b} {d} = by (sameBit (bitOf G k x) b) refl
+    where
+      by : (t : Bool) → sameBit (bitOf G k x) b ≡ t → View G S st (pull x b k d) (sending (cond t (toLink (S .link x k (opp d)) (λ z. probe z x k)) (toLink (S .link x k d) (λ z. pull z b k d))))
+      by true e = v-hit (same-eq (bitOf G k x) b e)
+      by false e = v-go (λ q. true-false (eq-same (bitOf G k x) b q) e)
+
+  -- each message that is proper in phase open goes one of these ways
+  pub open-view : {m : Msg} → Proper G S → Ok G m → View G S st m (effect (G .W) (G .num) (G .vec) (entryIn G S st (nameOf m .to)) m)
+  open-view h (ok-meet p ne) = meet-view h p ne
+  open-view h (ok-probe p ne w) = probe-view p ne
+  open-view h (ok-pull s w) = pull-view
+
+-- each way is what the relations say
 module _ (G : World) (S : State) (st : SeatState) where
   abbrev Is : Msg → Effect → Type 0
   Is m e = Right (Sends G S) (Sets G S) m e
@@ -142,98 +205,49 @@ module _ (G : World) (S : State) (st : SeatState) where
           Put keep = ⊥
           Put (set j c v) = Sets G S (meet x y k) x j c v
 
-  right-meeting : {x y k : ℕ} {d : Side} → Proper G S → G .Seated y → Lt (G .num) d x y → (v : Option ℕ) → S .link x k d ≡ v → Is (meet x y k) (meeting (G .W) (G .num) (G .vec) (entryIn G S st x) x y k d v)
-  unfolding meeting
-  right-meeting h sy l none e = right-set l (no-old e)
-  right-meeting {x} {y} {k} {d} h sy l (some o) e = by (dec-T (eqb o y)) (dec-T (onSide d (G .num o) (G .num y)))
+  -- one message to a link, and no link set
+  right-link : {m : Msg} (o : Option ℕ) (f : ℕ → Msg) → ((z : ℕ) → o ≡ some z → Sends G S m (f z)) → ((n : Msg) → Sends G S m n → (z : ℕ) × (o ≡ some z) × (n ≡ f z))
+      → ((x k : ℕ) (d : Side) (v : Option ℕ) → Sets G S m x k d v → ⊥) → Is m (sending (toLink o f))
+  right-link {m} o f g h z = record {
+    all = λ {n} s. let q = h n s in subst (λ (a : Msg). List·Memᴰ a (toLink o f)) (sym (q .2)) (link-in o f (q .1));
+    mem = λ {n} i. let q = link-out o f i in subst (Sends G S m) (sym (q .2)) (g (q .0) (q .1));
+    puts = λ s. absurd (z _ _ _ _ s);
+    sets = λ e. keep-set e;
+  }
+
+  right-up : {x y k : ℕ} → k < share G x y → Is (probe x y k) (sending (meet x y (suc k) ∷ []))
+  right-up {x} {y} {k} q = record { all = λ s. by s; mem = λ m. subst (Sends G S (probe x y k)) (sym (List·Memᴰ·eq-of-singleton m)) (up q); puts = λ s. elim s [ ]; sets = λ e. keep-set e }
     where
-      eff : Bool → Bool → Effect
-      eff a b = cond a (sending []) (cond b (sending (meet o y k ∷ [])) (setting (G .W) (G .num) (G .vec) (entryIn G S st x) x y k d))
+      by : {n : Msg} → Sends G S (probe x y k) n → List·Memᴰ n (meet x y (suc k) ∷ [])
+      by (up p) = List·Memᴰ·head refl
+      by (pass p l e) = absurd (p q)
 
-      beyond : ¬ (T (eqb o y)) → ¬ (T (onSide d (G .num o) (G .num y))) → (o ≡ y) ⊎ (Lt (G .num) d o y ⊎ Lt (G .num) d y o) → Lt (G .num) d y o
-      beyond n m (inl r) = absurd (n (true-T (eq-eqb o y r)))
-      beyond n m (inr (inl r)) = absurd (m (lt-on (G .num) r))
-      beyond n m (inr (inr r)) = r
-
-      by : Dec (T (eqb o y)) → Dec (T (onSide d (G .num o) (G .num y))) → Is (meet x y k) (eff (eqb o y) (onSide d (G .num o) (G .num y)))
-      by (yes t) u = let p : eqb o y ≡ true = T-true t in rw p (right-same l (e ∙ ap some (eqb→eq o y t)))
-      by (no n) (yes u) =
-          let p : eqb o y ≡ false = not-T-false n in
-          let q : onSide d (G .num o) (G .num y) ≡ true = T-true u in
-          rw (p, q) (right-near l e (on-lt (G .num) d o y u))
-      by (no n) (no m) =
-          let p : eqb o y ≡ false = not-T-false n in
-          let q : onSide d (G .num o) (G .num y) ≡ false = not-T-false m in
-          rw (p, q) (right-set l (far o e (beyond n m (seat-tri G d o y (h .link-pair e .snd) sy))))
-
-  right-meet : {x y k : ℕ} → Proper G S → Pair G k x y → x ≢ y → Is (meet x y k) (effect (G .W) (G .num) (G .vec) (entryIn G S st x) (meet x y k))
-  unfolding effect
-  right-meet {x} {y} {k} h p ne =
-      let q = seat-side G x y (p .fst) (p .snd) ne in
-      let e : sideOf (G .num x) (G .num y) ≡ q .0 = side-of (G .num) (q .1) in
-      rw e (right-meeting h (p .snd) (q .1) (S .link x k (q .0)) refl)
-
--- PROBE and PULL change no link
-module _ (G : World) (S : State) (st : SeatState) where
-  right-probe : {x y k : ℕ} → Pair G k x y → x ≢ y → Right (Sends G S) (Sets G S) (probe x y k) (effect (G .W) (G .num) (G .vec) (entryIn G S st x) (probe x y k))
-  unfolding effect probing
-  right-probe {x} {y} {k} p ne = record { all = λ s. all (ltb k (share G x y)) refl s; mem = λ m. mem (ltb k (share G x y)) refl m; puts = λ s. elim s [ ]; sets = λ e. keep-set e }
+  right-pass : {x y k : ℕ} {d : Side} → ¬ (k < share G x y) → Lt (G .num) d y x → Is (probe x y k) (sending (toLink (S .link x k d) (λ z. probe z y k)))
+  right-pass {x} {y} {k} {d} q l = right-link (S .link x k d) (λ z. probe z y k) (λ z e. pass q l e) (λ n s. by s) (λ a j c v s. elim s [ ])
     where
-      d : Side
-      d = seat-side G x y (p .fst) (p .snd) ne .0
+      by : {n : Msg} → Sends G S (probe x y k) n → (z : ℕ) × (S .link x k d ≡ some z) × (n ≡ probe z y k)
+      by (up p) = absurd (q p)
+      by (pass {z = z} p m e) = (z, rw (lt-side m l) at e, refl)
 
-      l : Lt (G .num) d x y
-      l = seat-side G x y (p .fst) (p .snd) ne .1
-
-      at : sideOf (G .num x) (G .num y) ≡ d
-      at = side-of (G .num) l
-
-      high : List Msg
-      high = meet x y (suc k) ∷ []
-
-      low : List Msg
-      low = toLink (S .link x k (opp (sideOf (G .num x) (G .num y)))) (λ z. probe z y k)
-
-      away : {c : Side} → Lt (G .num) c y x → c ≡ opp (sideOf (G .num x) (G .num y))
-      away m = lt-side m (rw at (lt-opp l))
-
-      all : {n : Msg} (b : Bool) → ltb k (share G x y) ≡ b → Sends G S (probe x y k) n → List·Memᴰ n (cond b high low)
-      all true e (up q) = List·Memᴰ·head refl
-      all false e (up q) = false-T e (lt→ltb k (share G x y) q)
-      all true e (pass q m f) = absurd (q (ltb→lt k (share G x y) (true-T e)))
-      all false e (pass {z = z} q m f) = link-in (S .link x k (opp (sideOf (G .num x) (G .num y)))) (λ z. probe z y k) (sym (ap (S .link x k) (away m)) ∙ f)
-
-      mem : {n : Msg} (b : Bool) → ltb k (share G x y) ≡ b → List·Memᴰ n (cond b high low) → Sends G S (probe x y k) n
-      mem true e m = subst (λ (n : Msg). Sends G S (probe x y k) n) (sym (List·Memᴰ·eq-of-singleton m)) (up (ltb→lt k (share G x y) (true-T e)))
-      mem false e m =
-          let q = link-out (S .link x k (opp (sideOf (G .num x) (G .num y)))) (λ z. probe z y k) m in
-          let o : Lt (G .num) (opp (sideOf (G .num x) (G .num y))) y x = rw at (lt-opp l) in
-          subst (λ (n : Msg). Sends G S (probe x y k) n) (sym (q .2)) (pass (λ w. false-T e (lt→ltb k (share G x y) w)) o (q .1))
-
-  right-pull : {x k : ℕ} {b : Bool} {d : Side} → Right (Sends G S) (Sets G S) (pull x b k d) (effect (G .W) (G .num) (G .vec) (entryIn G S st x) (pull x b k d))
-  unfolding effect pulling
-  right-pull {x} {k} {b} {d} = record { all = λ s. all (sameBit (bitOf G k x) b) refl s; mem = λ m. mem (sameBit (bitOf G k x) b) refl m; puts = λ s. elim s [ ]; sets = λ e. keep-set e }
+  right-hit : {x k : ℕ} {b : Bool} {d : Side} → bitOf G k x ≡ b → Is (pull x b k d) (sending (toLink (S .link x k (opp d)) (λ z. probe z x k)))
+  right-hit {x} {k} {b} {d} q = right-link (S .link x k (opp d)) (λ z. probe z x k) (λ z e. hit q e) (λ n s. by s) (λ a j c v s. elim s [ ])
     where
-      near : List Msg
-      near = toLink (S .link x k (opp d)) (λ z. probe z x k)
+      by : {n : Msg} → Sends G S (pull x b k d) n → (z : ℕ) × (S .link x k (opp d) ≡ some z) × (n ≡ probe z x k)
+      by (hit {z = z} p e) = (z, e, refl)
+      by (go p e) = absurd (p q)
 
-      onward : List Msg
-      onward = toLink (S .link x k d) (λ z. pull z b k d)
+  right-go : {x k : ℕ} {b : Bool} {d : Side} → bitOf G k x ≢ b → Is (pull x b k d) (sending (toLink (S .link x k d) (λ z. pull z b k d)))
+  right-go {x} {k} {b} {d} q = right-link (S .link x k d) (λ z. pull z b k d) (λ z e. go q e) (λ n s. by s) (λ a j c v s. elim s [ ])
+    where
+      by : {n : Msg} → Sends G S (pull x b k d) n → (z : ℕ) × (S .link x k d ≡ some z) × (n ≡ pull z b k d)
+      by (hit p e) = absurd (q p)
+      by (go {z = z} p e) = (z, e, refl)
 
-      all : {n : Msg} (t : Bool) → sameBit (bitOf G k x) b ≡ t → Sends G S (pull x b k d) n → List·Memᴰ n (cond t near onward)
-      all true e (hit q f) = link-in (S .link x k (opp d)) (λ z. probe z x k) f
-      all false e (hit q f) = false-T e (true-T (eq-same (bitOf G k x) b q))
-      all true e (go q f) = absurd (q (same-eq (bitOf G k x) b e))
-      all false e (go q f) = link-in (S .link x k d) (λ z. pull z b k d) f
-
-      mem : {n : Msg} (t : Bool) → sameBit (bitOf G k x) b ≡ t → List·Memᴰ n (cond t near onward) → Sends G S (pull x b k d) n
-      mem true e m = let q = link-out (S .link x k (opp d)) (λ z. probe z x k) m in subst (λ (n : Msg). Sends G S (pull x b k d) n) (sym (q .2)) (hit (same-eq (bitOf G k x) b e) (q .1))
-      mem false e m =
-          let q = link-out (S .link x k d) (λ z. pull z b k d) m in
-          subst (λ (n : Msg). Sends G S (pull x b k d) n) (sym (q .2)) (go (λ r. false-T e (true-T (eq-same (bitOf G k x) b r))) (q .1))
-
-  -- each message that is proper in phase open
-  pub open-right : {m : Msg} → Proper G S → Ok G m → Right (Sends G S) (Sets G S) m (effect (G .W) (G .num) (G .vec) (entryIn G S st (nameOf m .to)) m)
-  open-right h (ok-meet p ne) = right-meet G S st h p ne
-  open-right h (ok-probe p ne w) = right-probe p ne
-  open-right h (ok-pull s w) = right-pull
+  pub view-right : {m : Msg} {e : Effect} → View G S st m e → Right (Sends G S) (Sets G S) m e
+  view-right (v-same l e) = right-same l e
+  view-right (v-near l e n) = right-near l e n
+  view-right (v-set l o) = right-set l o
+  view-right (v-up q) = right-up q
+  view-right (v-pass q l) = right-pass q l
+  view-right (v-hit q) = right-hit q
+  view-right (v-go q) = right-go q
