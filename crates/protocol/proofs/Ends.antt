@@ -142,4 +142,4 @@ open-less N W G M M′ {m} {e} o t r c x place = by c
 
     by : Cost G (stateOf M) m e → 8 * numbers * reaches (G .num) N W (M′ .link) + mass N W (rank (G .num)) (M′ .pending) < 8 * numbers * reaches (G .num) N W (M .link) + mass N W (rank (G .num)) (M .pending)
     by (free f l) = omega (arith, mul-le-mul-left (8 * numbers) (reaches-le G N W t), lighter)
-    by (paid {a} {k} {y} s l) = let q = place a k y (sets-pair o s) in omega (arith, mul-le-mul-left (8 * numbers) (reaches-less G N W t (q .0) (q .1) s), lighter)
+    by (paid {x = a} {k = k} {y = y} s l) = let q = place a k y (sets-pair o s) in omega (arith, mul-le-mul-left (8 * numbers) (reaches-less G N W t (q .0) (q .1) s), lighter)

@@ -11,6 +11,8 @@ pub mod Conn
 pub mod Segment
 pub mod SegmentKept
 pub mod Settled
+pub mod Invariant
+pub mod Join
 pub mod OpenEffect
 pub mod Clearing
 pub mod ClearingEffect
