@@ -24,3 +24,10 @@ pub mod Numbering
 pub mod PlaceOrder
 pub mod Sum
 pub mod NumberingExamples
+pub mod SoundFacts
+pub mod Accepted
+pub mod KeepDelivery
+pub mod KeepCalls
+pub mod KeepTurn
+pub mod KeepSound
+pub mod Local

@@ -1,0 +1,160 @@
+-- A turn with nothing pending keeps soundness, in phase open and in clearing; and to whom leavers send GOING. Assumes nothing.
+use Prim.Native.Nat.{ℕ, suc, _^_, _<_}
+use mathlib.Core.Path.{_≡_, refl, sym, _∙_, ap, subst}
+use mathlib.Core.Logic.{_⊎_, inl, inr}
+use mathlib.Core.Option.{Option, none, some}
+use mathlib.Core.Bool.{Bool, true, false, not, cond}
+use mathlib.Core.List.{[], _++_, List·Memᴰ, List·Memᴰ·not-nil, List·Memᴰ·append-cases}
+use lib.Dec.{T}
+use lib.Pow.{pow-pos}
+use Rattle.graph.specs.Side.{Side, left, right, opp}
+use Rattle.graph.specs.Graph.{Links}
+use Rattle.graph.proofs.Tests.{T-true, true-T, true-false, none-some, some-inj}
+use Rattle.protocol.specs.Message.{Msg, going}
+use Rattle.protocol.specs.Numbering.{any}
+use Rattle.protocol.specs.Rules.{SeatState, free, staying, leaving}
+use Rattle.protocol.specs.State.{Phase, open-phase, clearing, Roster, Meaning, isFree, isLeaving, seated, leaves}
+use Rattle.protocol.specs.Table.{turn}
+use Rattle.protocol.specs.Calls.{freed, afterTurn, rosterAfter, each, farewell, farewells, turnSends, sends, takes, pendingAfter, unlinked, turnLinks, linksAfter, accept}
+use Rattle.protocol.specs.Sound.{numberBits, messageOk, Sound}
+use Rattle.protocol.proofs.Any.{any-in}
+use Rattle.protocol.proofs.Calls.{link-out, each-out}
+use Rattle.protocol.proofs.SoundFacts.{Linked, p-going, linked-ok, proper-ok, two-level, link-linked, pending-after}
+use Rattle.protocol.proofs.KeepCalls.{Kept, linked-kept, link-kept, seats-kept, differ-kept}
+
+-- a GOING of a turn: a leaver's, to its link
+pub record Farewell (N : ℕ) (r : Roster) (L : Links) (m : Msg) : Type 0 where
+  pub leaver : ℕ
+  pub level : ℕ
+  pub side : Side
+  pub told : ℕ
+  pub below : leaver < N
+  pub leaves-now : T (leaves r leaver)
+  pub link : L leaver level side ≡ some told
+  pub says : m ≡ going told level (opp side)
+
+pub farewell-out : (N W : ℕ) (r : Roster) (L : Links) {m : Msg} → List·Memᴰ m (farewells N W r L) → Farewell N r L m
+unfolding farewells farewell
+farewell-out N W r L {m} h = let (y, l, q) = each-out N _ h in by y l (leaves r y) refl q
+  where
+    end : (y k : ℕ) (d : Side) → y < N → T (leaves r y) → List·Memᴰ m (farewell L y k d) → Farewell N r L m
+    end y k d l t q = let (z, e, f) = link-out (L y k d) _ q in
+        record { leaver = y; level = k; side = d; told = z; below = l; leaves-now = t; link = e; says = f }
+
+    ends : (y k : ℕ) → y < N → T (leaves r y)
+        → List·Memᴰ m (farewell L y k left) ⊎ List·Memᴰ m (farewell L y k right) → Farewell N r L m
+    ends y k l t (inl q) = end y k left l t q
+    ends y k l t (inr q) = end y k right l t q
+
+    by : (y : ℕ) → y < N → (b : Bool) → leaves r y ≡ b
+        → List·Memᴰ m (cond b (each (suc W) (λ k. farewell L y k left ++ farewell L y k right)) []) → Farewell N r L m
+    by y l true e q = let (k, w, s) = each-out (suc W) _ q in ends y k l (true-T e) (List·Memᴰ·append-cases (farewell L y k left) s)
+    by y l false e q = absurd (List·Memᴰ·not-nil q)
+
+-- a seat after a turn in clearing
+freed-seated : (s : SeatState) → T (not (isFree (freed s))) → T (not (isFree s)) × (isLeaving s ≡ false)
+unfolding freed
+freed-seated free t = absurd t
+freed-seated staying t = (tt, refl)
+freed-seated leaving t = absurd t
+
+seated-freed : (s : SeatState) → T (not (isFree s)) → isLeaving s ≡ false → T (not (isFree (freed s)))
+unfolding freed
+seated-freed free t e = t
+seated-freed staying t e = tt
+seated-freed leaving t e = true-false refl e
+
+freed-free : (s : SeatState) → isLeaving s ≡ false → T (isFree (freed s)) → T (isFree s)
+unfolding freed
+freed-free free e t = tt
+freed-free staying e t = t
+freed-free leaving e t = true-false refl e
+
+-- a link after it
+unlinked-none : (r : Roster) {o : Option ℕ} → o ≡ none → unlinked r o ≡ none
+unfolding unlinked
+unlinked-none r e = rw e
+
+unlinked-some : (r : Roster) (o : Option ℕ) (y : ℕ) → unlinked r o ≡ some y → (o ≡ some y) × (leaves r y ≡ false)
+unfolding unlinked
+unlinked-some r none y e = none-some refl e
+unlinked-some r (some z) y e = by (leaves r z) refl e
+  where
+    by : (b : Bool) → leaves r z ≡ b → cond b none (some z) ≡ some y → (some z ≡ some y) × (leaves r y ≡ false)
+    by true f e = none-some refl e
+    by false f e = (e, ap (leaves r) (sym (some-inj e)) ∙ f)
+
+zero-or : (b : Bool) (n m : ℕ) → 0 < m → n < m → cond b 0 n < m
+zero-or true n m p q = p
+zero-or false n m p q = q
+
+module _ {N W : ℕ} {M : Meaning} (h : Sound N W M) (still : (m : Msg) → T (M .pending m) → ⊥) where
+  abbrev r : Roster
+  r = M .roster
+
+  abbrev turned : Phase → Meaning
+  turned p = record { roster = afterTurn N p r; link = turnLinks p r (M .link); pending = pendingAfter (turnSends N W p M) none (M .pending) }
+
+  turn-open : Sound N W (turned open-phase)
+  unfolding afterTurn turnLinks turnSends
+  turn-open = record {
+    seats = h .seats;
+    numbers = h .numbers;
+    vectors = h .vectors;
+    unused = h .unused;
+    differ = h .differ;
+    links = λ x k y d e. link-kept h (λ z t. record { there = t; number = refl; vector = refl }) e;
+    messages = pending-after (λ m. T (messageOk W r′ m)) (farewells N W r (M .link)) none (M .pending) (λ m t. absurd (still m t)) bids;
+  }
+    where
+      r′ : Roster
+      r′ = afterTurn N open-phase r
+
+      bids : (m : Msg) → List·Memᴰ m (farewells N W r (M .link)) → T (messageOk W r′ m)
+      bids m q =
+          let f = farewell-out N W r (M .link) q in
+          let some-leaves : any N (leaves r) ≡ true = T-true (any-in N (leaves r) (f .leaver) (f .below) (f .leaves-now)) in
+          let clears : r′ .phase ≡ clearing = rw some-leaves in
+          let (two, l) = link-linked h (f .link) in
+          subst (λ (k : Msg). T (messageOk W r′ k)) (sym (f .says)) (proper-ok W r′ clears (p-going (two .two) (two-level two)))
+
+  turn-clearing : Sound N W (turned clearing)
+  unfolding afterTurn turnLinks turnSends
+  turn-clearing = record {
+    seats = seats-kept h old;
+    numbers = λ x. zero-or (leaves r x) (r .number x) (2 ^ numberBits) (pow-pos numberBits) (h .numbers x);
+    vectors = λ x. zero-or (leaves r x) (r .vector x) (2 ^ W) (pow-pos W) (h .vectors x);
+    unused = λ x t. unused x (leaves r x) refl t;
+    differ = differ-kept h old;
+    links = λ x k y d e. linked-ok W r′ (linked x k y d (leaves r x) refl e);
+    messages = pending-after (λ m. T (messageOk W r′ m)) [] none (M .pending) (λ m t. absurd (still m t)) (λ m q. absurd (List·Memᴰ·not-nil q));
+  }
+    where
+      r′ : Roster
+      r′ = afterTurn N clearing r
+
+      new : (x : ℕ) → T (seated r x) → leaves r x ≡ false → Kept r r′ x
+      new x t e = record { there = seated-freed (r .state x) t e; number = rw e; vector = rw e }
+
+      old : (x : ℕ) → T (seated r′ x) → Kept r′ r x
+      old x t = let (s, e) = freed-seated (r .state x) t in record { there = s; number = rw e; vector = rw e }
+
+      unused : (x : ℕ) (b : Bool) → leaves r x ≡ b → T (isFree (r′ .state x))
+          → (cond b 0 (r .number x) ≡ 0) × (cond b 0 (r .vector x) ≡ 0) × ((k : ℕ) (d : Side) → cond b none (unlinked r (M .link x k d)) ≡ none)
+      unused x true e t = (refl, refl, λ k d. refl)
+      unused x false e t = let (n, v, l) = h .unused x (freed-free (r .state x) e t) in (n, v, λ k d. unlinked-none r (l k d))
+
+      linked : (x k y : ℕ) (d : Side) (b : Bool) → leaves r x ≡ b → cond b none (unlinked r (M .link x k d)) ≡ some y → Linked W r′ x k d y
+      linked x k y d true e q = none-some refl q
+      linked x k y d false e q =
+          let (f, g) = unlinked-some r (M .link x k d) y q in
+          let l = link-linked h f in
+          linked-kept (new x (l .0 .one) e) (new y (l .0 .two) g) l
+
+  pub turn-sound : Sound N W (accept N W M turn)
+  unfolding accept rosterAfter linksAfter sends takes
+  turn-sound = by (r .phase)
+    where
+      by : (p : Phase) → Sound N W (turned p)
+      by open-phase = turn-open
+      by clearing = turn-clearing
