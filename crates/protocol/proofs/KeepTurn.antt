@@ -75,7 +75,7 @@ unlinked-none : (r : Roster) {o : Option ℕ} → o ≡ none → unlinked r o �
 unfolding unlinked
 unlinked-none r e = rw e
 
-unlinked-some : (r : Roster) (o : Option ℕ) (y : ℕ) → unlinked r o ≡ some y → (o ≡ some y) × (leaves r y ≡ false)
+pub unlinked-some : (r : Roster) (o : Option ℕ) (y : ℕ) → unlinked r o ≡ some y → (o ≡ some y) × (leaves r y ≡ false)
 unfolding unlinked
 unlinked-some r none y e = none-some refl e
 unlinked-some r (some z) y e = by (leaves r z) refl e

@@ -19,6 +19,11 @@ pub mod ClearingEffect
 pub mod Measure
 pub mod Ends
 pub mod ClearingEnds
+pub mod Turn
+pub mod Reached
+pub mod ReachedCalls
+pub mod ReachedTurn
+pub mod Theorem
 pub mod Digits
 pub mod Numbering
 pub mod PlaceOrder

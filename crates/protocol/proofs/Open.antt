@@ -8,7 +8,7 @@ use mathlib.Core.Bool.{Bool, not}
 use Rattle.graph.specs.Side.{Side, opp}
 use Rattle.graph.proofs.Order.{Lt, lt-trans, lt-ne, lt-ne′, lt-eq, lt-asym}
 use Rattle.graph.proofs.Tests.{none-some}
-use Rattle.protocol.specs.Message.{Msg, meet, probe, pull}
+use Rattle.protocol.specs.Message.{Msg, meet, probe, pull, nameOf}
 use Rattle.protocol.proofs.World.{World, State, share, bitOf, Pair, pair-sym, pair-trans}
 use Rattle.protocol.proofs.Delivery.{Delivery, link-cases}
 
@@ -56,6 +56,12 @@ module _ {G : World} where
 
   pub ok-ne : {x y k : ℕ} → Ok G (meet x y k) → x ≢ y
   ok-ne (ok-meet p q) = q
+
+  -- the lot that a message is sent to
+  pub ok-to : {m : Msg} → Ok G m → G .Seated (nameOf m .to)
+  ok-to (ok-meet p q) = p .fst
+  ok-to (ok-probe p q w) = p .fst
+  ok-to (ok-pull s w) = s
 
   pub sets-pair : {S : State} {m : Msg} {x k y : ℕ} {d : Side} → Ok G m → Sets G S m x k d (some y) → Pair G k x y
   sets-pair (ok-meet p ne) (sets l o) = p

@@ -1,0 +1,189 @@
+-- Join and leave keep what every reached meaning has. Assumes nothing.
+use Prim.Native.Nat.{ℕ, zero, suc, _+_, _^_, _≤_, _<_}
+use mathlib.Core.Path.{_≡_, refl, sym, _∙_, ap, subst, subst₂, fun-ext}
+use mathlib.Core.Logic.{_⊎_, inl, inr, _≢_}
+use mathlib.Core.Option.{Option, none, some}
+use mathlib.Core.Bool.{Bool, true, false, not, cond, _&&_}
+use mathlib.Core.List.{List, [], _∷_, _++_, List·Memᴰ, List·Memᴰ·head, List·Memᴰ·not-nil, List·Memᴰ·eq-of-singleton, Memᴰ·append-left, Memᴰ·append-right}
+use native.Mathlib.Omega.{arith}
+use native.Mathlib.Decide.{decLt, ℕ-discrete}
+use lib.Dec.{T, eqb, ltb}
+use borrow.Author.Tests.{eq-eqb, ne-eqb, lt-ltb, le-ltb}
+use Rattle.graph.specs.Side.{Side, left, right, opp}
+use Rattle.graph.specs.Graph.{Links}
+use Rattle.graph.proofs.Order.{opp-opp}
+use Rattle.graph.proofs.Tests.{dec-T, T-true, not-T-false, false-T, true-false, none-some}
+use Rattle.protocol.specs.Message.{Msg, meet, going, nameOf, among}
+use Rattle.protocol.specs.Numbering.{any}
+use Rattle.protocol.specs.Rules.{SeatState, free, staying, leaving, isStaying}
+use Rattle.protocol.specs.State.{Phase, open-phase, clearing, Roster, Meaning, isFree, isLeaving, seated, stays, leaves}
+use Rattle.protocol.specs.Table.{Call, join, leave, turn, refusal}
+use Rattle.protocol.specs.Calls.{at, freed, afterTurn, rosterAfter, each, farewell, farewells, turnSends, sends, takes, isTaken, pendingAfter, unlinked, turnLinks, linksAfter, accept}
+use Rattle.protocol.specs.Sound.{numberBits, Sound}
+use Rattle.protocol.proofs.Any.{any-none}
+use Rattle.protocol.proofs.Message.{among-mem, mem-among}
+use Rattle.protocol.proofs.Calls.{at-same, at-other, after-came, after-kept, after-only, link-in, each-in}
+use Rattle.protocol.proofs.World.{World, State, Quiet, Pair}
+use Rattle.protocol.proofs.Delivery.{stateOf}
+use Rattle.protocol.proofs.Open.{ok-to}
+use Rattle.protocol.proofs.Settled.{Exact}
+use Rattle.protocol.proofs.Invariant.{Invariant, invariant-quiet, invariant-first}
+use Rattle.protocol.proofs.Join.{Grows, Meets, invariant-join}
+use Rattle.protocol.proofs.Clearing.{Target, nobody, nearest, AllLinks, Clearing, clearing-quiet}
+use Rattle.protocol.proofs.Turn.{exact-links, clearing-start, Shrinks, clearing-end}
+use Rattle.protocol.proofs.SoundFacts.{stays-seated, two-level, link-linked}
+use Rattle.protocol.proofs.Accepted.{Joins, Leaves}
+use Rattle.protocol.proofs.KeepTurn.{Farewell, farewell-out}
+use Rattle.protocol.proofs.Reached.{Laws, sound-laws, worldOf, Stayer, Sane, in-open, in-clearing}
+
+-- the pending messages after a call that takes none
+module _ (sent : List Msg) (p : Msg → Bool) where
+  after-old : (m : Msg) → T (p m) → T (pendingAfter sent none p m)
+  unfolding isTaken
+  after-old m t = by (after-kept sent none p m t)
+    where
+      by : ⊥ ⊎ T (pendingAfter sent none p m) → T (pendingAfter sent none p m)
+      by (inl u) = absurd u
+      by (inr u) = u
+
+  pub after-only-sent : (m : Msg) → T (pendingAfter sent none p m) → T (p m) ⊎ List·Memᴰ m sent
+  unfolding isTaken
+  after-only-sent m t = by (after-only sent none p m t)
+    where
+      by : (T (p m) × (⊥ → ⊥)) ⊎ T (among sent m) → T (p m) ⊎ List·Memᴰ m sent
+      by (inl u) = inl (u .0)
+      by (inr u) = inr (among-mem sent u)
+
+  pub after-sent : (m : Msg) → List·Memᴰ m sent → T (pendingAfter sent none p m)
+  after-sent m i = after-came sent none p m (mem-among sent i)
+
+-- join
+module _ {N W : ℕ} {M : Meaning} (h : Sound N W M) (s n v c : ℕ) (ok : Joins N W (M .roster) (M .pending) s n c) where
+  abbrev r : Roster
+  r = M .roster
+
+  abbrev r′ : Roster
+  r′ = rosterAfter N (M .roster) (join s n v c)
+
+  other : (x : ℕ) → T (seated r x) → x ≢ s
+  other x t q = false-T (ok .empty) (subst (λ (y : ℕ). T (seated r y)) q t)
+
+  still : (x : ℕ) → x ≢ s → seated r′ x ≡ seated r x
+  unfolding rosterAfter
+  still x q = ap (λ (a : SeatState). not (isFree a)) (at-other s staying (r .state) x q)
+
+  who : (x : ℕ) → T (seated r′ x) → T (seated r x) ⊎ (x ≡ s)
+  who x t = by (ℕ-discrete x s)
+    where
+      by : Dec (x ≡ s) → T (seated r x) ⊎ (x ≡ s)
+      by (yes q) = inr q
+      by (no q) = inl (rw (still x q) at t)
+
+  -- the newcomer has no links, and had none
+  same-link : (x k : ℕ) (d : Side) → cond (eqb x s) none (M .link x k d) ≡ M .link x k d
+  same-link x k d = by (ℕ-discrete x s)
+    where
+      bare : (o : Option ℕ) → M .link x k d ≡ o → x ≡ s → none ≡ o
+      bare none e q = refl
+      bare (some y) e q = absurd (other x (link-linked h e .0 .one) q)
+
+      by : Dec (x ≡ s) → cond (eqb x s) none (M .link x k d) ≡ M .link x k d
+      by (yes q) = rw (eq-eqb x s q) (bare (M .link x k d) refl q)
+      by (no q) = rw (ne-eqb x s q)
+
+  grows : (l : Laws r) (l′ : Laws r′) → Grows (worldOf W r l) (worldOf W r′ l′) s c
+  unfolding rosterAfter
+  grows l l′ = record {
+    same-W = refl;
+    fresh = λ t. false-T (ok .empty) t;
+    new = rw (at-same s staying (r .state) s refl) tt;
+    still = λ x t. rw (still x (other x t)) t;
+    from = who;
+    same-num = λ x q. at-other s n (r .number) x q;
+    same-vec = λ x q. at-other s v (r .vector) x q;
+    same-comp = λ x q. refl;
+    contact = refl;
+  }
+
+  pub sane-join : Sane W M open-phase → Sane W (accept N W M (join s n v c)) open-phase
+  unfolding accept linksAfter sends takes
+  sane-join (in-open i) = by (decLt c N)
+    where
+      sent : Bool → List Msg
+      sent b = cond b (meet c s 0 ∷ []) []
+
+      meets : (b : Bool) → b ≡ true → Meets (stateOf M) (record { link = λ x k d. cond (eqb x s) none (M .link x k d); pend = λ m. T (pendingAfter (sent b) none (M .pending) m) }) c s
+      meets true e = record {
+        same-link = same-link;
+        kept = λ m t. after-old (sent true) (M .pending) m t;
+        hello = after-sent (sent true) (M .pending) (meet c s 0) (List·Memᴰ·head refl);
+        only = λ m t. one (after-only-sent (sent true) (M .pending) m t);
+      }
+        where
+          one : {m : Msg} → T (M .pending m) ⊎ List·Memᴰ m (meet c s 0 ∷ []) → T (M .pending m) ⊎ (m ≡ meet c s 0)
+          one (inl t) = inl t
+          one (inr t) = inr (List·Memᴰ·eq-of-singleton t)
+      meets false e = true-false e refl
+
+      l : Laws r
+      l = sound-laws h
+
+      by : Dec (c < N) → Sane W (accept N W M (join s n v c)) open-phase
+      by (yes p) = in-open (λ l′. invariant-join (grows l l′) (meets (ltb c N) (lt-ltb c N p)) (ok .contact p) (i l))
+      by (no p) = in-open (λ l′. invariant-first (worldOf W r′ l′) _ alone (λ x k d. same-link x k d ∙ bare x k d (M .link x k d) refl) (λ m t. silent (ltb c N) (le-ltb c N (omega arith)) m t))
+        where
+          nobody-in : (x : ℕ) → T (seated r x) → ⊥
+          nobody-in x t = ok .alone (omega arith) x (h .seats x t) t
+
+          newcomer : (x : ℕ) → T (seated r x) ⊎ (x ≡ s) → x ≡ s
+          newcomer x (inl t) = absurd (nobody-in x t)
+          newcomer x (inr q) = q
+
+          alone : (x y : ℕ) → T (seated r′ x) → T (seated r′ y) → x ≡ y
+          alone x y t u = newcomer x (who x t) ∙ sym (newcomer y (who y u))
+
+          bare : (x k : ℕ) (d : Side) (o : Option ℕ) → M .link x k d ≡ o → o ≡ none
+          bare x k d none e = refl
+          bare x k d (some y) e = absurd (nobody-in x (link-linked h e .0 .one))
+
+          silent : (b : Bool) → b ≡ false → (m : Msg) → T (pendingAfter (sent b) none (M .pending) m) → ⊥
+          silent true e m t = true-false refl e
+          silent false e m t = none-in (after-only-sent [] (M .pending) m t)
+            where
+              none-in : T (M .pending m) ⊎ List·Memᴰ m [] → ⊥
+              none-in (inl u) = nobody-in (nameOf m .to) (ok-to (i l .proper .pend-ok u))
+              none-in (inr u) = List·Memᴰ·not-nil u
+
+-- leave: who is seated stays the same, and so do the pending messages
+seated-leave : (N : ℕ) (r : Roster) (s : ℕ) → isFree (r .state s) ≡ false → seated (rosterAfter N r (leave s)) ≡ seated r
+unfolding rosterAfter
+seated-leave N r s f = fun-ext (λ x. by x (ℕ-discrete x s))
+  where
+    by : (x : ℕ) → Dec (x ≡ s) → not (isFree (at s leaving (r .state) x)) ≡ not (isFree (r .state x))
+    by x (yes e) = rw (at-same s leaving (r .state) x e, e, f)
+    by x (no e) = rw (at-other s leaving (r .state) x e)
+
+pub after-none : (p : Msg → Bool) → pendingAfter [] none p ≡ p
+unfolding pendingAfter among isTaken
+after-none p = fun-ext (λ m. by (p m))
+  where
+    by : (b : Bool) → (b && true) ≡ b
+    by true = refl
+    by false = refl
+
+-- the invariant depends on who is seated, and not on who leaves
+module _ (W : ℕ) (num vec : ℕ → ℕ) (L : Links) (small : (x : ℕ) → num x < 2 ^ numberBits) where
+  abbrev Differ : (ℕ → Bool) → Type 0
+  Differ f = (x y : ℕ) → T (f x) → T (f y) → num x ≡ num y → x ≡ y
+
+  abbrev Holds : (ℕ → Bool) → (Msg → Bool) → Type 0
+  Holds f p = (a : Differ f) → Invariant (record { W = W; Seated = λ x. T (f x); num = num; vec = vec; comp = λ x. 0; small = small; differ = a }) (record { link = L; pend = λ m. T (p m) })
+
+  same-holds : {f g : ℕ → Bool} {p q : Msg → Bool} → f ≡ g → p ≡ q → Holds f p → Holds g q
+  same-holds e e′ h = subst₂ Holds e e′ h
+
+module _ {N W : ℕ} (M : Meaning) (s : ℕ) (ok : Leaves N W (M .roster) (M .pending) s) where
+  pub sane-leave : Sane W M open-phase → Sane W (accept N W M (leave s)) open-phase
+  unfolding accept linksAfter sends takes rosterAfter
+  sane-leave (in-open i) = in-open (λ l. same-holds W (M .roster .number) (M .roster .vector) (M .link) (l .small) (sym (seated-leave N (M .roster) s (ok .occupied))) (sym (after-none (M .pending)))
+      (λ a. i (record { small = l .small; differ = a })) (l .differ))

@@ -1,0 +1,166 @@
+-- Demand 3 on the meaning: one theorem about every list of calls, refused ones included, for any seat count and width; and soundness
+-- after every list. Assumes nothing but that the arguments fit their types.
+use Prim.Native.Nat.{ℕ, zero, suc, _+_, _≤_, _<_}
+use mathlib.Core.Path.{_≡_, refl, sym, _∙_, ap, ap₂, subst}
+use mathlib.Core.Option.{Option, none, some}
+use mathlib.Core.Bool.{Bool, true, false}
+use mathlib.Core.List.{List, [], _∷_}
+use native.Mathlib.Omega.{arith}
+use lib.Dec.{T}
+use Rattle.graph.specs.Graph.{IsGraph}
+use Rattle.graph.proofs.Tests.{false-T, not-T-false}
+use Rattle.protocol.specs.Message.{Msg, Name, named}
+use Rattle.protocol.specs.Numbering.{somePending}
+use Rattle.protocol.specs.State.{Phase, open-phase, clearing, Roster, Meaning, members, nobody, opened}
+use Rattle.protocol.specs.Table.{Call, join, leave, deliver, turn, isPending, refusal}
+use Rattle.protocol.specs.Calls.{rosterAfter, sends, takes, pendingAfter, accept, unlessRefused, Outcome, call}
+use Rattle.protocol.specs.Sound.{Sound}
+use Rattle.protocol.specs.Run.{Logged, Event, Standing, logOf, step, steps, run, rosterOf, pendingOf, RefusedByTable, Settled, accepted, Demand3, InRange, AllInRange}
+use Rattle.protocol.proofs.Numbering.{none-pending, pending-none}
+use Rattle.protocol.proofs.Delivery.{stateOf, delivered, accept-deliver}
+use Rattle.protocol.proofs.World.{Quiet}
+use Rattle.protocol.proofs.Invariant.{invariant-first}
+use Rattle.protocol.proofs.SoundFacts.{pending-exists}
+use Rattle.protocol.proofs.Accepted.{join-rows, leave-rows, deliver-row, turn-row}
+use Rattle.protocol.proofs.KeepSound.{opened-sound, accept-sound, call-sound}
+use Rattle.protocol.proofs.Measure.{bound}
+use Rattle.protocol.proofs.Reached.{worldOf, Sane, in-open, Reached, sane-deliver, bound-less, reached-graph}
+use Rattle.protocol.proofs.ReachedCalls.{sane-join, sane-leave}
+use Rattle.protocol.proofs.ReachedTurn.{sane-turn}
+
+-- the message that an accepted delivery takes
+pub record Taken (N W : ℕ) (M : Meaning) (n : Name) : Type 0 where
+  pub message : Msg
+  pub is : named n ≡ some message
+  pub was : T (M .pending message)
+
+pub deliver-taken : (N W : ℕ) (M : Meaning) (n : Name) → refusal N W (M .roster) (M .pending) (deliver n) ≡ 0 → Taken N W M n
+unfolding isPending
+deliver-taken N W M n e = by (named n) refl (deliver-row N W (M .roster) (M .pending) n e)
+  where
+    by : (o : Option Msg) → named n ≡ o → T (isPending (M .pending) o) → Taken N W M n
+    by none f t = absurd t
+    by (some m) f t = record { message = m; is = f; was = t }
+
+module _ (N W : ℕ) where
+  reached-opened : Reached N W opened
+  unfolding opened nobody
+  reached-opened = record { sound = opened-sound N W; sane = in-open (λ l. invariant-first (worldOf W nobody l) (stateOf opened) (λ x y p q. absurd p) (λ x k d. refl) (λ m p. p)) }
+
+  -- nothing pending, as the table tests it and as a fact
+  quiet-none : {M : Meaning} → Sound N W M → somePending N W (M .pending) ≡ false → Quiet (stateOf M)
+  quiet-none {M} h e m t = false-T (none-pending N W (M .pending) e m (pending-exists h m t)) t
+
+  none-quiet : (M : Meaning) → Quiet (stateOf M) → somePending N W (M .pending) ≡ false
+  none-quiet M q = pending-none N W (M .pending) (λ m x. not-T-false (λ t. q m t))
+
+  -- a join or a leave keeps the phase
+  phase-join : (M : Meaning) (s n v c : ℕ) → accept N W M (join s n v c) .roster .phase ≡ M .roster .phase
+  unfolding accept rosterAfter
+  phase-join M s n v c = refl
+
+  phase-leave : (M : Meaning) (s : ℕ) → accept N W M (leave s) .roster .phase ≡ M .roster .phase
+  unfolding accept rosterAfter
+  phase-leave M s = refl
+
+  sane-accept : {M : Meaning} → Reached N W M → (c : Call) → refusal N W (M .roster) (M .pending) c ≡ 0 → Sane W (accept N W M c) (accept N W M c .roster .phase)
+  sane-accept {M} g (join s n v c) e =
+      let ok = join-rows N W (M .roster) (M .pending) s n v c e in
+      subst (Sane W (accept N W M (join s n v c))) (sym (phase-join M s n v c ∙ ok .opens)) (sane-join (g .sound) s n v c ok (subst (Sane W M) (ok .opens) (g .sane)))
+  sane-accept {M} g (leave s) e =
+      let ok = leave-rows N W (M .roster) (M .pending) s e in
+      subst (Sane W (accept N W M (leave s))) (sym (phase-leave M s ∙ ok .opens)) (sane-leave M s ok (subst (Sane W M) (ok .opens) (g .sane)))
+  sane-accept {M} g (deliver n) e =
+      let t = deliver-taken N W M n e in
+      subst (λ (K : Meaning). Sane W K (K .roster .phase)) (sym (accept-deliver N W M n (t .message) (t .is))) (sane-deliver (g .sane) (t .message) (t .was))
+  sane-accept {M} g turn e = sane-turn (g .sound) (quiet-none (g .sound) (turn-row N W (M .roster) (M .pending) e)) (g .sane)
+
+  reached-accept : {M : Meaning} → Reached N W M → (c : Call) → InRange N W c → refusal N W (M .roster) (M .pending) c ≡ 0 → Reached N W (accept N W M c)
+  reached-accept {M} g c q e = record { sound = accept-sound N W M (g .sound) c q e; sane = sane-accept g c e }
+
+  pub reached-call : {M : Meaning} → Reached N W M → (c : Call) → InRange N W c → Reached N W (call N W M c .meaning)
+  unfolding call unlessRefused
+  reached-call {M} g c q = by (refusal N W (M .roster) (M .pending) c) refl
+    where
+      by : (n : ℕ) → refusal N W (M .roster) (M .pending) c ≡ n → Reached N W (unlessRefused n M (accept N W M c))
+      by zero e = reached-accept g c q e
+      by (suc n) e = g
+
+  -- part 5: no list of deliveries has more accepted ones than the bound
+  ends-step : {M : Meaning} → Reached N W M → (n : Name) (ns : List Name) → ((K : Meaning) → Reached N W K → accepted N W K ns ≤ bound N W K)
+      → unlessRefused (call N W M (deliver n) .refused) 0 1 + accepted N W (call N W M (deliver n) .meaning) ns ≤ bound N W M
+  unfolding call unlessRefused
+  ends-step {M} g n ns ih = by (refusal N W (M .roster) (M .pending) (deliver n)) refl
+    where
+      by : (a : ℕ) → refusal N W (M .roster) (M .pending) (deliver n) ≡ a → unlessRefused a 0 1 + accepted N W (unlessRefused a M (accept N W M (deliver n))) ns ≤ bound N W M
+      by zero e =
+          let t = deliver-taken N W M n e in
+          let f = accept-deliver N W M n (t .message) (t .is) in
+          omega (arith, ih (accept N W M (deliver n)) (reached-accept g (deliver n) tt e), ap (bound N W) f, bound-less g (t .message) (t .was))
+      by (suc a) e = omega (arith, ih M g)
+
+  ends : (ns : List Name) (M : Meaning) → Reached N W M → accepted N W M ns ≤ bound N W M
+  unfolding accepted
+  ends [] M g = omega arith
+  ends (n ∷ ns) M g = ends-step g n ns (λ K k. ends ns K k)
+
+  -- what goes through a list
+  pub record Track (s : Standing) : Type 0 where
+    pub reached : Reached N W (s .now)
+    pub refusals : RefusedByTable N W (s .history)
+    pub lots : s .now .roster ≡ rosterOf N W (logOf (s .history))
+    pub pending : s .now .pending ≡ pendingOf N W (s .history)
+
+  lots-step : (M : Meaning) {r : Roster} (c : Call) (n : ℕ) → M .roster ≡ r → unlessRefused n M (accept N W M c) .roster ≡ unlessRefused n r (rosterAfter N r c)
+  unfolding unlessRefused accept
+  lots-step M c zero e = ap (λ (r : Roster). rosterAfter N r c) e
+  lots-step M c (suc n) e = e
+
+  pending-step : (M : Meaning) {p : Msg → Bool} (c : Call) (n : ℕ) → M .pending ≡ p
+      → unlessRefused n M (accept N W M c) .pending ≡ (λ m. unlessRefused n (p m) (pendingAfter (sends N W M c) (takes c) p m))
+  unfolding unlessRefused accept
+  pending-step M c zero e = ap {B = Msg → Bool} (λ (p : Msg → Bool) (m : Msg). pendingAfter (sends N W M c) (takes c) p m) e
+  pending-step M c (suc n) e = e
+
+  track-step : {s : Standing} (c : Call) → InRange N W c → Track s → Track (step N W s c)
+  unfolding step call rosterOf logOf pendingOf
+  track-step {s} c q t = record {
+    reached = reached-call (t .reached) c q;
+    refusals = (ap₂ (λ (r : Roster) (p : Msg → Bool). refusal N W r p c) (t .lots) (t .pending), t .refusals);
+    lots = lots-step (s .now) c (refusal N W (s .now .roster) (s .now .pending) c) (t .lots);
+    pending = pending-step (s .now) c (refusal N W (s .now .roster) (s .now .pending) c) (t .pending);
+  }
+
+  track-steps : (cs : List Call) {s : Standing} → AllInRange N W cs → Track s → Track (steps N W s cs)
+  unfolding steps
+  track-steps [] a t = t
+  track-steps (c ∷ cs) a t = track-steps cs (a .1) (track-step c (a .0) t)
+
+  -- the invariant of every list
+  pub track-run : (cs : List Call) → AllInRange N W cs → Track (run N W cs)
+  unfolding run opened rosterOf logOf pendingOf
+  track-run cs a = track-steps cs a (record { reached = reached-opened; refusals = tt; lots = refl; pending = refl })
+
+  track-demand : {s : Standing} → Track s → Demand3 N W (bound N W) s
+  track-demand {s} t = record {
+    refusals = t .refusals;
+    lots = t .lots;
+    messages = λ m. ap (λ (p : Msg → Bool). p m) (t .pending);
+    none-left = ((λ e m. settled (quiet-none (t .reached .sound) e) m), λ q. none-quiet (s .now) (quiet q));
+    graph = λ q. subst (λ (r : Roster). IsGraph N W (members r) (s .now .link)) (t .lots) (reached-graph (t .reached) (quiet q));
+    ends = λ ns. ends ns (s .now) (t .reached);
+  }
+    where
+      settled : Quiet (stateOf (s .now)) → (m : Msg) → pendingOf N W (s .history) m ≡ false
+      settled q m = sym (ap (λ (p : Msg → Bool). p m) (t .pending)) ∙ not-T-false (λ u. q m u)
+
+      quiet : Settled N W (s .history) → Quiet (stateOf (s .now))
+      quiet q m u = false-T (q m) (subst (λ (p : Msg → Bool). T (p m)) (t .pending) u)
+
+  -- THE THEOREM: demand 3 after every list of calls
+  pub every-list : (cs : List Call) → AllInRange N W cs → Demand3 N W (bound N W) (run N W cs)
+  every-list cs a = track-demand (track-run cs a)
+
+  -- and the meaning is sound after every list, so that refusal 2 is never met
+  pub every-list-sound : (cs : List Call) → AllInRange N W cs → Sound N W (run N W cs .now)
+  every-list-sound cs a = track-run cs a .reached .sound
