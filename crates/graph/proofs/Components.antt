@@ -7,18 +7,14 @@ use native.Mathlib.Omega.{arith}
 use native.Mathlib.Decide.{decLe}
 use lib.Dec.{T}
 use Rattle.graph.specs.Side.{Side, left, opp}
-use Rattle.graph.specs.Graph.{Lots, Links, graph, IsGraph}
-use Rattle.graph.specs.Constraints.{Constraints, OneList, Joined, same, linked, turned, through}
+use Rattle.graph.specs.Graph.{Lots, Links, graph, IsGraph, Laws}
+use Rattle.graph.specs.Constraints.{Constraints, OneList, Joined, same, linked, turned, through, Labels}
 use Rattle.graph.proofs.Order.{side-or-opp}
-use Rattle.graph.proofs.Laws.{Laws, twoSeated, laws-two}
+use Rattle.graph.proofs.Laws.{twoSeated, laws-two}
 use Rattle.graph.proofs.Walk.{Walk, here, there, walk-iterate, iterate-walk, walk-append, walk-rest}
 use Rattle.graph.proofs.Walk.{constraints-sorted, walk-member, walk-reverse}
 use Rattle.graph.proofs.Levels.{link-ground}
 use Rattle.graph.proofs.SkipGraph.{skip-graph, walk-list, graph-constraints, graph-one-list}
-
--- the labels of the lots are the connected components of the links
-pub record Labels (W : ℕ) (G : Lots) (L : Links) : Type 0 where
-  pub label : (x y : ℕ) → T (G .member x) → T (G .member y) → (G .component x ≡ G .component y) ↔ Joined W G L x y
 
 -- x and z lie in one level-0 list
 record Listed (L : Links) (x z : ℕ) : Type 0 where

@@ -1,17 +1,13 @@
--- What is assumed of lots on N seats: a member sits below N, and the numbers of members differ. Two instances show that it can be met.
-use Prim.Native.Nat.{ℕ, _<_}
+-- Members compared by their numbers, and two instances of the laws of lots, which show that they can be met. Assumes nothing.
+use Prim.Native.Nat.{ℕ}
 use mathlib.Core.Path.{_≡_}
 use mathlib.Core.Logic.{_⊎_, inl, inr}
 use mathlib.Core.Bool.{false}
 use native.Mathlib.Decide.{ℕ-discrete}
 use lib.Dec.{T, ltb, ltb→lt}
 use Rattle.graph.specs.Side.{Side}
-use Rattle.graph.specs.Graph.{Lots}
+use Rattle.graph.specs.Graph.{Lots, Laws}
 use Rattle.graph.proofs.Order.{Lt, lt-either}
-
-pub record Laws (N : ℕ) (G : Lots) : Type 0 where
-  pub seat : (x : ℕ) → T (G .member x) → x < N
-  pub differ : (x y : ℕ) → T (G .member x) → T (G .member y) → G .number x ≡ G .number y → x ≡ y
 
 -- two members are one, or one lies on side d of the other
 pub member-compare : {N : ℕ} {G : Lots} → Laws N G → (d : Side) (x y : ℕ) → T (G .member x) → T (G .member y)

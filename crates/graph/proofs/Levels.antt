@@ -22,7 +22,7 @@ module _ (W : ℕ) (G : Lots) (L : Links) where
   record Agrees (k x : ℕ) (d : Side) (i : ℕ) : Type 0 where
     lot : ℕ
     iterated : iterate L k d (suc i) x ≡ some lot
-    agree : Agree W G L k x lot
+    agree : Agree W G k x lot
 
   dec-agrees : (k x : ℕ) (d : Side) (i : ℕ) → Dec (Agrees k x d i)
   dec-agrees k x d i = by (iterate L k d (suc i) x) refl
@@ -31,7 +31,7 @@ module _ (W : ℕ) (G : Lots) (L : Links) where
       by none e = no (λ a. none-some e (a .iterated))
       by (some z) e = go (decLt k (shared W (G .vector x) (G .vector z)))
         where
-          go : Dec (Agree W G L k x z) → Dec (Agrees k x d i)
+          go : Dec (Agree W G k x z) → Dec (Agrees k x d i)
           go (yes a) = yes (record { lot = z; iterated = e; agree = a })
           go (no n) = no (λ a. let s = a .iterated in let r : a .lot ≡ z = cc in n (rw r at (a .agree)))
 
@@ -39,7 +39,7 @@ module _ (W : ℕ) (G : Lots) (L : Links) where
   record Up (k x : ℕ) (d : Side) (i z : ℕ) : Type 0 where
     lot : ℕ
     link : L x (suc k) d ≡ some lot
-    agree : Agree W G L k x lot
+    agree : Agree W G k x lot
     steps : ℕ
     walk : Walk L k d (suc steps) x lot
     left-over : ℕ
@@ -48,7 +48,7 @@ module _ (W : ℕ) (G : Lots) (L : Links) where
 
 module _ {W : ℕ} {G : Lots} {L : Links} (c : Constraints W G L) where
   -- the first on a walk that agrees is the link one level up
-  up : {k x i z : ℕ} {d : Side} → T (G .member x) → k < W → Walk L k d (suc i) x z → Agree W G L k x z → Up W G L k x d i z
+  up : {k x i z : ℕ} {d : Side} → T (G .member x) → k < W → Walk L k d (suc i) x z → Agree W G k x z → Up W G L k x d i z
   up {k} {x} {i} {z} {d} m l w a = by (first-below (Agrees W G L k x d) (dec-agrees W G L k x d) (suc i))
     where
       by : First (Agrees W G L k x d) (suc i) ⊎ ((n : ℕ) → n < suc i → Agrees W G L k x d n → ⊥) → Up W G L k x d i z
@@ -69,7 +69,7 @@ module _ {W : ℕ} {G : Lots} {L : Links} (c : Constraints W G L) where
             onward = r .2;
           }
 
-  climb : (n : ℕ) {k x z : ℕ} {d : Side} (j : ℕ) → j < n → T (G .member x) → k < W → Walk L k d (suc j) x z → Agree W G L k x z
+  climb : (n : ℕ) {k x z : ℕ} {d : Side} (j : ℕ) → j < n → T (G .member x) → k < W → Walk L k d (suc j) x z → Agree W G k x z
       → (i : ℕ) × Walk L (suc k) d (suc i) x z
   climb zero j b m l w a = absurd (omega arith)
   climb (suc n) {k} {x} {z} {d} j b m l w a =
@@ -78,7 +78,7 @@ module _ {W : ℕ} {G : Lots} {L : Links} (c : Constraints W G L) where
       u : Up W G L k x d j z
       u = up m l w a
 
-      onward-agree : Agree W G L k (u .lot) z
+      onward-agree : Agree W G k (u .lot) z
       onward-agree = let s = shared-sym W (G .vector (u .lot)) (G .vector x) in
           shared-trans W (suc k) (G .vector (u .lot)) (G .vector x) (G .vector z) (rw s (u .agree)) a
 
@@ -89,23 +89,23 @@ module _ {W : ℕ} {G : Lots} {L : Links} (c : Constraints W G L) where
       by (suc r) t v ih = let q = ih r (omega arith) v in (suc (q .0), there (u .link) (q .1))
 
   -- a walk between lots that agree in one bit more is a walk one level up
-  pub walk-up : {k j x z : ℕ} {d : Side} → T (G .member x) → k < W → Walk L k d (suc j) x z → Agree W G L k x z
+  pub walk-up : {k j x z : ℕ} {d : Side} → T (G .member x) → k < W → Walk L k d (suc j) x z → Agree W G k x z
       → (i : ℕ) × Walk L (suc k) d (suc i) x z
   walk-up {j = j} m l w a = climb (suc j) j (omega arith) m l w a
 
   -- it cannot be that a link is no walk one level down to a lot that agrees
   not-not-lower : {k x y : ℕ} {d : Side} → T (G .member x) → k < W → L x (suc k) d ≡ some y
-      → ((j : ℕ) → Walk L k d (suc j) x y → Agree W G L k x y → ⊥) → ⊥
+      → ((j : ℕ) → Walk L k d (suc j) x y → Agree W G k x y → ⊥) → ⊥
   not-not-lower {k} {x} {y} {d} m l e f = none-some (c .last x k d m l (λ j i z b q a. below (up m l (iterate-walk (suc i) q) a))) e
     where
       below : {i z : ℕ} → Up W G L k x d i z → ⊥
       below u = let g = u .link in let s : u .lot ≡ y = cc in
           f (u .steps) (subst (Walk L k d (suc (u .steps)) x) s (u .walk)) (rw s at (u .agree))
 
-  pub link-agree : {k x y : ℕ} {d : Side} → T (G .member x) → k < W → L x (suc k) d ≡ some y → Agree W G L k x y
+  pub link-agree : {k x y : ℕ} {d : Side} → T (G .member x) → k < W → L x (suc k) d ≡ some y → Agree W G k x y
   link-agree {k} {x} {y} m l e = by (decLt k (shared W (G .vector x) (G .vector y)))
     where
-      by : Dec (Agree W G L k x y) → Agree W G L k x y
+      by : Dec (Agree W G k x y) → Agree W G k x y
       by (yes a) = a
       by (no n) = absurd (not-not-lower m l e (λ j w. n))
 

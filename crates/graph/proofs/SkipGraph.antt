@@ -8,11 +8,11 @@ use native.Mathlib.Omega.{arith}
 use native.Mathlib.Decide.{decLt}
 use lib.Dec.{T}
 use Rattle.graph.specs.Side.{Side, left, right, opp}
-use Rattle.graph.specs.Graph.{Lots, Links, IsGraph}
+use Rattle.graph.specs.Graph.{Lots, Links, IsGraph, Laws}
 use Rattle.graph.specs.Constraints.{iterate, Agree, NoneBefore, Constraints, OneList}
 use Rattle.graph.proofs.Tests.{none-some}
 use Rattle.graph.proofs.Order.{Lt, lt-opp, opp-lt, lt-asym, lt-side, lt-ne, lt-on}
-use Rattle.graph.proofs.Laws.{Laws, member-compare}
+use Rattle.graph.proofs.Laws.{member-compare}
 use Rattle.graph.proofs.Neighbour.{InList, list-refl, list-sym, list-trans, list-lower, Nearest, nobody, nearest}
 use Rattle.graph.proofs.Neighbour.{nobody-there, nearest-list, nearest-side, nearest-first, nearest-unique}
 use Rattle.graph.proofs.Neighbour.{graph-nearest, nearest-graph}
@@ -114,7 +114,7 @@ module _ {N W : ℕ} {G : Lots} {L : Links} (laws : Laws N G) (g : IsGraph N W G
       by p s (inr (inr t)) = inr t
 
   first : (x k y j : ℕ) (d : Side) → T (G .member x) → k < W → iterate L k d (suc j) x ≡ some y
-      → Agree W G L k x y → NoneBefore W G L k x d j → L x (suc k) d ≡ some y
+      → Agree W G k x y → NoneBefore W G L k x d j → L x (suc k) d ≡ some y
   first x k y j d m l e a before = nearest-link m l (nearest list (walk-order graph-sorted low m w) (λ z p s.
       let v = reach-graph m low (list-lower p) s in by p (v .0) (v .1) (decLt (v .0) j)))
     where

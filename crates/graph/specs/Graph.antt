@@ -1,5 +1,5 @@
 -- Lots, the lists of a level, and the skip graph of a set of members: document 000, section 2, cut at W bits. Assumes nothing.
-use Prim.Native.Nat.{ℕ, zero, suc, _≤_}
+use Prim.Native.Nat.{ℕ, zero, suc, _≤_, _<_}
 use mathlib.Core.Path.{_≡_}
 use mathlib.Core.Option.{Option, none, some}
 use mathlib.Core.Bool.{Bool, cond, _&&_}
@@ -13,6 +13,11 @@ pub record Lots : Type 0 where
   pub number : ℕ → ℕ
   pub vector : ℕ → ℕ
   pub component : ℕ → ℕ
+
+-- what is assumed of lots on N seats: members sit below N, and their numbers differ
+pub record Laws (N : ℕ) (G : Lots) : Type 0 where
+  pub seat : (x : ℕ) → T (G .member x) → x < N
+  pub differ : (x y : ℕ) → T (G .member x) → T (G .member y) → G .number x ≡ G .number y → x ≡ y
 
 -- links by lot, level and side: a seat or none
 abbrev pub Links : Type 0

@@ -3,6 +3,10 @@ use Prim.Native.Nat.{ℕ, zero, suc, _-_, _/_, _%_, _^_}
 use mathlib.Core.Bool.{Bool, true, false, not, cond}
 use lib.Dec.{eqb}
 
+-- the width of the vectors in a record
+abbrev pub width : ℕ
+width = 8
+
 -- two bits are equal
 abbrev pub sameBit : Bool → Bool → Bool
 sameBit true b = b

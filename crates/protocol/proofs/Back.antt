@@ -10,7 +10,7 @@ use Rattle.graph.proofs.Tests.{none-some}
 use Rattle.protocol.specs.Message.{Msg, meet}
 use Rattle.protocol.proofs.World.{World, State, seat-tri}
 use Rattle.protocol.proofs.Delivery.{link-cases, link-kept}
-use Rattle.protocol.proofs.Open.{Old, no-old, far, on, back, hand, Sets, sets, Opened, Proper, ok-pair}
+use Rattle.protocol.proofs.Open.{no-old, far, on, back, hand, Sets, sets, Opened, Proper, ok-pair}
 
 module _ (G : World) where
   -- what has become of a delivered MEET(x, y, k)
@@ -44,7 +44,8 @@ module _ {G : World} where
       same q (inl f) = linked (f ∙ ap some q)
       same q (inr (v, sets l′ o′)) = linked (t .moved (sets l′ o′))
 
-      near : {o : ℕ} → S .link x k d ≡ some o → Lt (G .num) d o y → (S′ .link x k d ≡ some o) ⊎ ((v : Option ℕ) × Sets G S (meet x y k) x k d v) → Met G S′ x y k d
+      near : {o : ℕ} → S .link x k d ≡ some o → Lt (G .num) d o y → (S′ .link x k d ≡ some o) ⊎ ((v : Option ℕ) × Sets G S (meet x y k) x k d v)
+          → Met G S′ x y k d
       near {o} e n (inl f) = passed o f (h .link-side e) n (t .came (on l e n))
       near e n (inr (v, sets l′ o′)) = linked (t .moved (sets l′ o′))
 
@@ -57,7 +58,8 @@ module _ {G : World} where
       by none e = linked (t .moved (sets l (no-old e)))
       by (some o) e = tri o e (seat-tri G d o y (h .link-pair e .snd) (ok-pair (h .pend-ok (t .was)) .snd))
 
-  pub lost : {S S′ : State} {m : Msg} {x k o : ℕ} {d : Side} {v : Option ℕ} → Opened G S m S′ → S .link x k d ≡ some o → Sets G S m x k d v → Lost G S′ x k d o
+  pub lost : {S S′ : State} {m : Msg} {x k o : ℕ} {d : Side} {v : Option ℕ} → Opened G S m S′ → S .link x k d ≡ some o → Sets G S m x k d v
+      → Lost G S′ x k d o
   lost t e (sets l (no-old f)) = none-some f e
   lost {o = o} t e (sets {y = w} l (far v f n)) =
       let q : v ≡ o = cc in
@@ -75,7 +77,8 @@ module _ {G : World} where
   old-way : {S S′ : State} {m : Msg} {a b j : ℕ} {f : Side} → Proper G S → Opened G S m S′ → WayBack G S a j f b → WayBack G S′ a j f b
   old-way {S} {S′} {m} {a} {b} {j} {f} h t q = by (q .backs)
     where
-      lk : (S′ .link (q .lot) j (opp f) ≡ some a) ⊎ ((v : Option ℕ) × Sets G S m (q .lot) j (opp f) v) → S .link (q .lot) j (opp f) ≡ some a → WayBack G S′ a j f b
+      lk : (S′ .link (q .lot) j (opp f) ≡ some a) ⊎ ((v : Option ℕ) × Sets G S m (q .lot) j (opp f) v) → S .link (q .lot) j (opp f) ≡ some a
+          → WayBack G S′ a j f b
       lk (inl e) o = record { lot = q .lot; after = q .after; upto = q .upto; backs = inl e }
       lk (inr s) o = lost-way (q .upto) (lost t o (s .1))
 

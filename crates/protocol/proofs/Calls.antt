@@ -1,23 +1,23 @@
 -- The small functions of the calls, as facts: a value at one place, the pending set after a call, the links after a change, lists made
 -- seat by seat, and rows of the table that do not apply. Assumes nothing.
 use Prim.Native.Nat.{ℕ, zero, suc, _<_}
-use mathlib.Core.Path.{_≡_, refl, sym, _∙_, ap, subst}
+use mathlib.Core.Path.{_≡_, refl, sym, subst}
 use mathlib.Core.Logic.{_⊎_, inl, inr, _≢_}
 use mathlib.Core.Option.{Option, none, some}
 use mathlib.Core.Bool.{Bool, true, false, not, cond, _&&_, _||_}
-use mathlib.Core.List.{List, [], _∷_, _++_, List·Memᴰ, List·Memᴰ·head, List·Memᴰ·eq-of-singleton, List·Memᴰ·not-nil, Memᴰ·append-left, Memᴰ·append-right, List·Memᴰ·append-cases}
+use mathlib.Core.List.{List, _∷_, _++_, List·Memᴰ, List·Memᴰ·head, List·Memᴰ·eq-of-singleton, List·Memᴰ·not-nil, Memᴰ·append-left, Memᴰ·append-right}
+use mathlib.Core.List.{List·Memᴰ·append-cases}
 use native.Mathlib.Omega.{arith}
 use native.Mathlib.Decide.{ℕ-discrete}
 use lib.Dec.{T, eqb, eqb→eq}
 use borrow.Author.Tests.{eq-eqb, ne-eqb}
-use Rattle.graph.specs.Side.{Side, left, right, Side-discrete}
+use Rattle.graph.specs.Side.{Side, left, right}
 use Rattle.graph.specs.Graph.{Links}
-use Rattle.graph.proofs.Tests.{dec-T, T-true, not-T-false, and-T, and-fst, and-snd, or-cases, or-left, or-right, true-false}
-use Rattle.protocol.specs.Message.{Msg, sameMsg, among}
+use Rattle.graph.proofs.Tests.{dec-T, not-T-false, and-T, and-fst, and-snd, or-cases, or-left, or-right}
+use Rattle.protocol.specs.Message.{Msg, among}
 use Rattle.protocol.specs.Rules.{Change, keep, set, toLink}
 use Rattle.protocol.specs.Table.{Row, row, first}
 use Rattle.protocol.specs.Calls.{at, each, isTaken, pendingAfter, sameSide, applied}
-use Rattle.protocol.proofs.Message.{same-eq, eq-same}
 
 -- a value at one place
 module _ {A : Type 0} (s : ℕ) (a : A) (f : ℕ → A) where
@@ -78,12 +78,14 @@ pub applied-at : (t l : ℕ) (s : Side) (o : Option ℕ) (L : Links) → applied
 unfolding applied
 applied-at t l s o L = rw (eq-eqb t t refl, eq-eqb l l refl, side-self s)
 
-pub applied-frame : (t : ℕ) (c : Change) (L : Links) (x k : ℕ) (d : Side) → (applied t c L x k d ≡ L x k d) ⊎ ((o : Option ℕ) × (x ≡ t) × (c ≡ set k d o))
+pub applied-frame : (t : ℕ) (c : Change) (L : Links) (x k : ℕ) (d : Side)
+    → (applied t c L x k d ≡ L x k d) ⊎ ((o : Option ℕ) × (x ≡ t) × (c ≡ set k d o))
 unfolding applied
 applied-frame t keep L x k d = inl refl
 applied-frame t (set l s o) L x k d = by (dec-T (eqb x t && (eqb k l && sameSide d s)))
   where
-    by : Dec (T (eqb x t && (eqb k l && sameSide d s))) → (cond (eqb x t && (eqb k l && sameSide d s)) o (L x k d) ≡ L x k d) ⊎ ((w : Option ℕ) × (x ≡ t) × (set l s o ≡ set k d w))
+    by : Dec (T (eqb x t && (eqb k l && sameSide d s)))
+        → (cond (eqb x t && (eqb k l && sameSide d s)) o (L x k d) ≡ L x k d) ⊎ ((w : Option ℕ) × (x ≡ t) × (set l s o ≡ set k d w))
     by (yes u) =
         let v = and-snd (eqb x t) (eqb k l && sameSide d s) u in
         let e = eqb→eq k l (and-fst (eqb k l) (sameSide d s) v) in
@@ -124,7 +126,8 @@ unfolding each
 each-out zero f h = absurd (List·Memᴰ·not-nil h)
 each-out (suc n) f {m} h = by (List·Memᴰ·append-cases (each n f) h) (λ q. each-out n f q)
   where
-    by : List·Memᴰ m (each n f) ⊎ List·Memᴰ m (f n) → (List·Memᴰ m (each n f) → (i : ℕ) × (i < n) × List·Memᴰ m (f i)) → (i : ℕ) × (i < suc n) × List·Memᴰ m (f i)
+    by : List·Memᴰ m (each n f) ⊎ List·Memᴰ m (f n) → (List·Memᴰ m (each n f) → (i : ℕ) × (i < n) × List·Memᴰ m (f i))
+        → (i : ℕ) × (i < suc n) × List·Memᴰ m (f i)
     by (inl q) ih = let r = ih q in (r .0, omega (arith, r .1), r .2)
     by (inr q) ih = (n, omega arith, q)
 

@@ -1,13 +1,13 @@
 -- Phase clearing: kinds 4 to 7 as relations, and the invariant that leads from the skip graph of all lots to that of the staying lots.
 -- Leavers' links never change; a staying lot's link is its old one or its target, the first staying lot of its list on that side; and
 -- where it is not yet its target a message is on its way. Assumes nothing.
-use Prim.Native.Nat.{ℕ, _≤_, _<_}
-use mathlib.Core.Path.{_≡_, refl, sym, _∙_, ap, subst}
+use Prim.Native.Nat.{ℕ, _≤_}
+use mathlib.Core.Path.{_≡_, refl, sym, _∙_, subst}
 use mathlib.Core.Logic.{_⊎_, inl, inr, _≢_}
 use mathlib.Core.Option.{Option, none, some}
-use Rattle.graph.specs.Side.{Side, opp}
+use Rattle.graph.specs.Side.{Side}
 use Rattle.graph.specs.Graph.{Links}
-use Rattle.graph.proofs.Order.{Lt, lt-trans, lt-side, lt-eq}
+use Rattle.graph.proofs.Order.{Lt, lt-trans, lt-side}
 use Rattle.graph.proofs.Tests.{some-inj, none-some}
 use Rattle.protocol.specs.Message.{Msg, going, seek, found, none-found}
 use Rattle.protocol.proofs.World.{World, State, Quiet, Pair, pair-sym, pair-trans, pair-level}
@@ -17,7 +17,8 @@ module _ (G : World) (Stay : ℕ → Type 0) where
   -- the target: o is the nearest staying lot on side d in x's list of level k, if any
   pub data Target (k x : ℕ) (d : Side) : Option ℕ → Type 0 where
     nobody : ((z : ℕ) → Pair G k x z → Stay z → Lt (G .num) d x z → ⊥) → Target k x d none
-    nearest : {y : ℕ} → Pair G k x y → Stay y → Lt (G .num) d x y → ((z : ℕ) → Pair G k x z → Stay z → Lt (G .num) d x z → (z ≡ y) ⊎ Lt (G .num) d y z) → Target k x d (some y)
+    nearest : {y : ℕ} → Pair G k x y → Stay y → Lt (G .num) d x y
+        → ((z : ℕ) → Pair G k x z → Stay z → Lt (G .num) d x z → (z ≡ y) ⊎ Lt (G .num) d y z) → Target k x d (some y)
 
   -- what the delivery of a message sends
   pub data Sends (S : State) : Msg → Msg → Type 0 where
@@ -45,7 +46,8 @@ module _ (G : World) (Stay : ℕ → Type 0) where
   pub data Ok : Msg → Type 0 where
     ok-going : {x k : ℕ} {d : Side} → G .Seated x → k ≤ G .W → Ok (going x k d)
     -- no staying lot lies between x and z
-    ok-seek : {z x k : ℕ} {d : Side} → Stay x → Pair G k x z → Lt (G .num) d x z → ((w : ℕ) → Pair G k x w → Stay w → Lt (G .num) d x w → (w ≡ z) ⊎ Lt (G .num) d z w) → Ok (seek z x k)
+    ok-seek : {z x k : ℕ} {d : Side} → Stay x → Pair G k x z → Lt (G .num) d x z
+        → ((w : ℕ) → Pair G k x w → Stay w → Lt (G .num) d x w → (w ≡ z) ⊎ Lt (G .num) d z w) → Ok (seek z x k)
     ok-found : {x z k : ℕ} {d : Side} → Stay x → Lt (G .num) d x z → Target k x d (some z) → Ok (found x z k)
     ok-none : {x k : ℕ} {d : Side} → G .Seated x → k ≤ G .W → Stay x → Target k x d none → Ok (none-found x k d)
 
@@ -74,7 +76,8 @@ module _ {G : World} {Stay : ℕ → Type 0} where
   target-good (nobody h) e = none-some refl e
   target-good {k} {x} {y} {d} (nearest p s l h) e = subst (λ (v : ℕ). Good G Stay x k d v) (some-inj e) (record { pair = p; side = l; near = h })
 
-  pub good : {L : Links} {S : State} {x k y : ℕ} {d : Side} → AllLinks G Stay L → Clearing G Stay L S → Stay x → S .link x k d ≡ some y → Good G Stay x k d y
+  pub good : {L : Links} {S : State} {x k y : ℕ} {d : Side} → AllLinks G Stay L → Clearing G Stay L S → Stay x → S .link x k d ≡ some y
+      → Good G Stay x k d y
   good {L} {S} {x} {k} {y} {d} b c st e = by (c .stayer x k d st)
     where
       by : (S .link x k d ≡ L x k d) ⊎ Target G Stay k x d (S .link x k d) → Good G Stay x k d y
@@ -83,7 +86,8 @@ module _ {G : World} {Stay : ℕ → Type 0} where
 
   -- past a leaver z there is no staying lot before z's own link
   past : {z x k : ℕ} {d : Side} {A : ℕ → Type 0} → ¬ (Stay z) → Pair G k x z
-      → ((v : ℕ) → Pair G k x v → Stay v → Lt (G .num) d x v → (v ≡ z) ⊎ Lt (G .num) d z v) → ((v : ℕ) → Pair G k z v → Lt (G .num) d z v → A v) → (v : ℕ) → Pair G k x v → Stay v → Lt (G .num) d x v → A v
+      → ((v : ℕ) → Pair G k x v → Stay v → Lt (G .num) d x v → (v ≡ z) ⊎ Lt (G .num) d z v) → ((v : ℕ) → Pair G k z v → Lt (G .num) d z v → A v)
+      → (v : ℕ) → Pair G k x v → Stay v → Lt (G .num) d x v → A v
   past {z} {d = d} {A = A} ns p near f v q s l = by (near v q s l)
     where
       by : (v ≡ z) ⊎ Lt (G .num) d z v → A v
@@ -108,20 +112,24 @@ module _ {G : World} {Stay : ℕ → Type 0} where
   sets-target {x = x} {k = k} (ok-found {z = z} st l b) (to-found l′) = subst (λ (a : Side). Target G Stay k x a (some z)) (lt-side l l′) b
   sets-target (ok-none sx w st b) to-none = b
 
-  set-target : {L : Links} {S S′ : State} {m : Msg} {x k : ℕ} {d : Side} {o : Option ℕ} → Clearing G Stay L S → Cleared G Stay S m S′ → Sets G Stay S m x k d o → Target G Stay k x d (S′ .link x k d)
+  set-target : {L : Links} {S S′ : State} {m : Msg} {x k : ℕ} {d : Side} {o : Option ℕ} → Clearing G Stay L S → Cleared G Stay S m S′
+      → Sets G Stay S m x k d o → Target G Stay k x d (S′ .link x k d)
   set-target {x = x} {k = k} {d = d} c t s = subst (Target G Stay k x d) (sym (t .moved s)) (sets-target (c .ok (t .was)) s)
 
   -- a job goes on
-  job-going : {L : Links} {S S′ : State} {x k : ℕ} {d : Side} → AllLinks G Stay L → Clearing G Stay L S → Stay x → Cleared G Stay S (going x k d) S′ → S .link x k d ≢ none → (v : Option ℕ) → S .link x k d ≡ v → Todo G Stay S′ x k d
+  job-going : {L : Links} {S S′ : State} {x k : ℕ} {d : Side} → AllLinks G Stay L → Clearing G Stay L S → Stay x → Cleared G Stay S (going x k d) S′
+      → S .link x k d ≢ none → (v : Option ℕ) → S .link x k d ≡ v → Todo G Stay S′ x k d
   job-going b c st t ne none e = absurd (ne e)
   job-going b c st t ne (some y) e = by-seek y (good b c st e .side) (t .came (asks st e))
 
-  job-seek : {L : Links} {S S′ : State} {x z k : ℕ} {d : Side} → AllLinks G Stay L → Clearing G Stay L S → Lt (G .num) d x z → Cleared G Stay S (seek z x k) S′ → Dec (Stay z) → (v : Option ℕ) → S .link z k d ≡ v → Todo G Stay S′ x k d
+  job-seek : {L : Links} {S S′ : State} {x z k : ℕ} {d : Side} → AllLinks G Stay L → Clearing G Stay L S → Lt (G .num) d x z
+      → Cleared G Stay S (seek z x k) S′ → Dec (Stay z) → (v : Option ℕ) → S .link z k d ≡ v → Todo G Stay S′ x k d
   job-seek {z = z} b c l t (yes s) v e = by-found z l (t .came (answers s))
   job-seek b c l t (no s) none e = by-none (t .came (gives-up s l e))
   job-seek {z = z} {k = k} {d = d} b c l t (no s) (some w) e = by-seek w (lt-trans l (b .side (sym (c .leaver z k d s) ∙ e))) (t .came (passes s l e))
 
-  job-kept : {L : Links} {S S′ : State} {m : Msg} → AllLinks G Stay L → Clearing G Stay L S → ((z : ℕ) → Dec (Stay z)) → Cleared G Stay S m S′ → (x k : ℕ) (d : Side) → Stay x → Todo G Stay S x k d → Todo G Stay S′ x k d
+  job-kept : {L : Links} {S S′ : State} {m : Msg} → AllLinks G Stay L → Clearing G Stay L S → ((z : ℕ) → Dec (Stay z)) → Cleared G Stay S m S′
+      → (x k : ℕ) (d : Side) → Stay x → Todo G Stay S x k d → Todo G Stay S′ x k d
   job-kept {L} {S} {S′} {m} b c dec t x k d st td = fr (t .frame x k d) td
     where
       at : {n : Msg} → n ≡ m → Cleared G Stay S n S′
@@ -151,7 +159,8 @@ module _ {G : World} {Stay : ℕ → Type 0} where
       fr (inl f) (by-found z l p) = tf z l (t .kept _ p)
       fr (inl f) (by-none p) = tn (t .kept _ p)
 
-  pub clearing-kept : {L : Links} {S S′ : State} {m : Msg} → AllLinks G Stay L → ((z : ℕ) → Dec (Stay z)) → Clearing G Stay L S → Cleared G Stay S m S′ → Clearing G Stay L S′
+  pub clearing-kept : {L : Links} {S S′ : State} {m : Msg} → AllLinks G Stay L → ((z : ℕ) → Dec (Stay z)) → Clearing G Stay L S
+      → Cleared G Stay S m S′ → Clearing G Stay L S′
   clearing-kept {L} {S} {S′} {m} b dec c t = record {
     leaver = λ z k d ns. lv z k d ns (t .frame z k d);
     stayer = λ x k d st. sy x k d st (t .frame x k d);
@@ -159,15 +168,18 @@ module _ {G : World} {Stay : ℕ → Type 0} where
     job = λ x k d sx st. job-kept b c dec t x k d st (c .job x k d sx st);
   }
     where
-      lv : (z k : ℕ) (d : Side) → ¬ (Stay z) → (S′ .link z k d ≡ S .link z k d) ⊎ ((o : Option ℕ) × Sets G Stay S m z k d o) → S′ .link z k d ≡ L z k d
+      lv : (z k : ℕ) (d : Side) → ¬ (Stay z) → (S′ .link z k d ≡ S .link z k d) ⊎ ((o : Option ℕ) × Sets G Stay S m z k d o)
+          → S′ .link z k d ≡ L z k d
       lv z k d ns (inl f) = f ∙ c .leaver z k d ns
       lv z k d ns (inr s) = absurd (ns (sets-stay (c .ok (t .was)) (s .1)))
 
-      up : (x k : ℕ) (d : Side) → S′ .link x k d ≡ S .link x k d → (S .link x k d ≡ L x k d) ⊎ Target G Stay k x d (S .link x k d) → (S′ .link x k d ≡ L x k d) ⊎ Target G Stay k x d (S′ .link x k d)
+      up : (x k : ℕ) (d : Side) → S′ .link x k d ≡ S .link x k d → (S .link x k d ≡ L x k d) ⊎ Target G Stay k x d (S .link x k d)
+          → (S′ .link x k d ≡ L x k d) ⊎ Target G Stay k x d (S′ .link x k d)
       up x k d f (inl e) = inl (f ∙ e)
       up x k d f (inr q) = inr (subst (Target G Stay k x d) (sym f) q)
 
-      sy : (x k : ℕ) (d : Side) → Stay x → (S′ .link x k d ≡ S .link x k d) ⊎ ((o : Option ℕ) × Sets G Stay S m x k d o) → (S′ .link x k d ≡ L x k d) ⊎ Target G Stay k x d (S′ .link x k d)
+      sy : (x k : ℕ) (d : Side) → Stay x → (S′ .link x k d ≡ S .link x k d) ⊎ ((o : Option ℕ) × Sets G Stay S m x k d o)
+          → (S′ .link x k d ≡ L x k d) ⊎ Target G Stay k x d (S′ .link x k d)
       sy x k d st (inl f) = up x k d f (c .stayer x k d st)
       sy x k d st (inr s) = inr (set-target c t (s .1))
 
@@ -176,7 +188,8 @@ module _ {G : World} {Stay : ℕ → Type 0} where
       ok (inr s) = sends-ok b c (c .ok (t .was)) s
 
   -- nothing pending: each staying lot's link is its target
-  pub clearing-quiet : {L : Links} {S : State} → Clearing G Stay L S → Quiet S → (x k : ℕ) (d : Side) → G .Seated x → Stay x → Target G Stay k x d (S .link x k d)
+  pub clearing-quiet : {L : Links} {S : State} → Clearing G Stay L S → Quiet S → (x k : ℕ) (d : Side) → G .Seated x → Stay x
+      → Target G Stay k x d (S .link x k d)
   clearing-quiet {L} {S} c q x k d sx st = by (c .job x k d sx st)
     where
       by : Todo G Stay S x k d → Target G Stay k x d (S .link x k d)

@@ -4,9 +4,9 @@ use Prim.Native.Nat.{ℕ}
 use mathlib.Core.Path.{_≡_, refl, sym, ap, subst}
 use mathlib.Core.Option.{Option, none, some}
 use mathlib.Core.Bool.{Bool, true, false, cond}
-use mathlib.Core.List.{List, [], _∷_, List·Memᴰ, List·Memᴰ·head, List·Memᴰ·eq-of-singleton, List·Memᴰ·not-nil}
+use mathlib.Core.List.{[], _∷_, List·Memᴰ, List·Memᴰ·head, List·Memᴰ·eq-of-singleton, List·Memᴰ·not-nil}
 use lib.Dec.{T}
-use Rattle.graph.specs.Side.{Side, sideOf}
+use Rattle.graph.specs.Side.{Side}
 use Rattle.graph.proofs.Order.{Lt, lt-side, side-of}
 use Rattle.graph.proofs.Tests.{none-some, true-T, false-T}
 use Rattle.protocol.specs.Message.{Msg, going, seek, found, none-found, nameOf}
@@ -30,7 +30,8 @@ pub data View (G : World) (S : State) (Stay : ℕ → Type 0) : Msg → Effect �
   v-idle : {x k : ℕ} {d : Side} → ¬ (Stay x) → View G S Stay (going x k d) (sending [])
   v-answer : {z x k : ℕ} → Stay z → View G S Stay (seek z x k) (sending (found x z k ∷ []))
   v-pass : {z x k w : ℕ} {d : Side} → ¬ (Stay z) → Lt (G .num) d x z → S .link z k d ≡ some w → View G S Stay (seek z x k) (sending (seek w x k ∷ []))
-  v-none : {z x k : ℕ} {d : Side} → ¬ (Stay z) → Lt (G .num) d x z → S .link z k d ≡ none → View G S Stay (seek z x k) (sending (none-found x k d ∷ []))
+  v-none : {z x k : ℕ} {d : Side} → ¬ (Stay z) → Lt (G .num) d x z → S .link z k d ≡ none
+      → View G S Stay (seek z x k) (sending (none-found x k d ∷ []))
   v-found : {x z k : ℕ} {d : Side} → Lt (G .num) d x z → View G S Stay (found x z k) (setting k d (some z))
   v-gone : {x k : ℕ} {d : Side} → View G S Stay (none-found x k d) (setting k d none)
 
@@ -39,11 +40,13 @@ module _ (G : World) (S : State) (state : ℕ → SeatState) where
   unfolding effect parting
   going-view {x} {k} {d} = by (isStaying (state x)) refl
     where
-      by : (b : Bool) → isStaying (state x) ≡ b → View G S (Stays state) (going x k d) (sending (cond b (toLink (S .link x k d) (λ z. seek z x k)) []))
+      by : (b : Bool) → isStaying (state x) ≡ b
+          → View G S (Stays state) (going x k d) (sending (cond b (toLink (S .link x k d) (λ z. seek z x k)) []))
       by true e = v-ask (true-T e)
       by false e = v-idle (λ t. false-T e t)
 
-  seek-view : {z x k : ℕ} {d : Side} → Lt (G .num) d x z → View G S (Stays state) (seek z x k) (effect (G .W) (G .num) (G .vec) (entryIn G S (state z) z) (seek z x k))
+  seek-view : {z x k : ℕ} {d : Side} → Lt (G .num) d x z
+      → View G S (Stays state) (seek z x k) (effect (G .W) (G .num) (G .vec) (entryIn G S (state z) z) (seek z x k))
   unfolding effect seeking passing
   seek-view {z} {x} {k} {d} l = rw (side-of (G .num) l) (by (isStaying (state z)) refl (S .link z k d) refl)
     where
@@ -53,16 +56,19 @@ module _ (G : World) (S : State) (state : ℕ → SeatState) where
       by false e none f = v-none (λ t. false-T e t) l f
       by false e (some w) f = v-pass (λ t. false-T e t) l f
 
-  found-view : {x z k : ℕ} {d : Side} → Lt (G .num) d x z → View G S (Stays state) (found x z k) (effect (G .W) (G .num) (G .vec) (entryIn G S (state x) x) (found x z k))
+  found-view : {x z k : ℕ} {d : Side} → Lt (G .num) d x z
+      → View G S (Stays state) (found x z k) (effect (G .W) (G .num) (G .vec) (entryIn G S (state x) x) (found x z k))
   unfolding effect
   found-view l = rw (side-of (G .num) l) (v-found l)
 
-  gone-view : {x k : ℕ} {d : Side} → View G S (Stays state) (none-found x k d) (effect (G .W) (G .num) (G .vec) (entryIn G S (state x) x) (none-found x k d))
+  gone-view : {x k : ℕ} {d : Side}
+      → View G S (Stays state) (none-found x k d) (effect (G .W) (G .num) (G .vec) (entryIn G S (state x) x) (none-found x k d))
   unfolding effect
   gone-view = v-gone
 
   -- each message that is proper in clearing goes one of these ways
-  pub clearing-view : {m : Msg} → Ok G (Stays state) m → View G S (Stays state) m (effect (G .W) (G .num) (G .vec) (entryIn G S (state (nameOf m .to)) (nameOf m .to)) m)
+  pub clearing-view : {m : Msg} → Ok G (Stays state) m
+      → View G S (Stays state) m (effect (G .W) (G .num) (G .vec) (entryIn G S (state (nameOf m .to)) (nameOf m .to)) m)
   clearing-view (ok-going sx w) = going-view
   clearing-view (ok-seek st p l near) = seek-view l
   clearing-view (ok-found st l b) = found-view l
@@ -71,10 +77,13 @@ module _ (G : World) (S : State) (state : ℕ → SeatState) where
 -- each way is what the relations say
 module _ {G : World} {S : State} {Stay : ℕ → Type 0} where
   -- one message is sent, and no link is set
-  right-one : {m n : Msg} → Sends G Stay S m n → ((a : Msg) → Sends G Stay S m a → a ≡ n) → ((x k : ℕ) (d : Side) (v : Option ℕ) → Sets G Stay S m x k d v → ⊥) → Right (Sends G Stay S) (Sets G Stay S) m (sending (n ∷ []))
-  right-one {m} s only z = record { all = λ {n = a} t. List·Memᴰ·head (only a t); mem = λ i. subst (Sends G Stay S m) (sym (List·Memᴰ·eq-of-singleton i)) s; puts = λ t. absurd (z _ _ _ _ t); sets = λ e. keep-set e }
+  right-one : {m n : Msg} → Sends G Stay S m n → ((a : Msg) → Sends G Stay S m a → a ≡ n)
+      → ((x k : ℕ) (d : Side) (v : Option ℕ) → Sets G Stay S m x k d v → ⊥) → Right (Sends G Stay S) (Sets G Stay S) m (sending (n ∷ []))
+  right-one {m} s only z =
+      record { all = λ {n = a} t. List·Memᴰ·head (only a t); mem = λ i. subst (Sends G Stay S m) (sym (List·Memᴰ·eq-of-singleton i)) s; puts = λ t. absurd (z _ _ _ _ t); sets = λ e. keep-set e }
 
-  right-ask : {x k : ℕ} {d : Side} → Stay x → Right (Sends G Stay S) (Sets G Stay S) (going x k d) (sending (toLink (S .link x k d) (λ z. seek z x k)))
+  right-ask : {x k : ℕ} {d : Side} → Stay x
+      → Right (Sends G Stay S) (Sets G Stay S) (going x k d) (sending (toLink (S .link x k d) (λ z. seek z x k)))
   right-ask {x} {k} {d} st = record {
     all = λ s. by s;
     mem = λ i. let q = link-out (S .link x k d) (λ z. seek z x k) i in subst (Sends G Stay S (going x k d)) (sym (q .2)) (asks st (q .1));
@@ -99,7 +108,8 @@ module _ {G : World} {S : State} {Stay : ℕ → Type 0} where
       by (passes ns l e) = absurd (ns st)
       by (gives-up ns l e) = absurd (ns st)
 
-  right-pass : {z x k w : ℕ} {d : Side} → ¬ (Stay z) → Lt (G .num) d x z → S .link z k d ≡ some w → Right (Sends G Stay S) (Sets G Stay S) (seek z x k) (sending (seek w x k ∷ []))
+  right-pass : {z x k w : ℕ} {d : Side} → ¬ (Stay z) → Lt (G .num) d x z → S .link z k d ≡ some w
+      → Right (Sends G Stay S) (Sets G Stay S) (seek z x k) (sending (seek w x k ∷ []))
   right-pass {z} {x} {k} {w} {d} ns l e = right-one (passes ns l e) (λ a s. by s) (λ y j d v t. elim t [ ])
     where
       by : {a : Msg} → Sends G Stay S (seek z x k) a → a ≡ seek w x k
@@ -107,7 +117,8 @@ module _ {G : World} {S : State} {Stay : ℕ → Type 0} where
       by (passes {w = v} ns′ m f) = let g : S .link z k d ≡ some v = rw (lt-side m l) at f in let r : v ≡ w = cc in ap (λ (y : ℕ). seek y x k) r
       by (gives-up ns′ m f) = none-some (rw (lt-side m l) at f) e
 
-  right-none : {z x k : ℕ} {d : Side} → ¬ (Stay z) → Lt (G .num) d x z → S .link z k d ≡ none → Right (Sends G Stay S) (Sets G Stay S) (seek z x k) (sending (none-found x k d ∷ []))
+  right-none : {z x k : ℕ} {d : Side} → ¬ (Stay z) → Lt (G .num) d x z → S .link z k d ≡ none
+      → Right (Sends G Stay S) (Sets G Stay S) (seek z x k) (sending (none-found x k d ∷ []))
   right-none {z} {x} {k} {d} ns l e = right-one (gives-up ns l e) (λ a s. by s) (λ y j d v t. elim t [ ])
     where
       by : {a : Msg} → Sends G Stay S (seek z x k) a → a ≡ none-found x k d
@@ -116,7 +127,8 @@ module _ {G : World} {S : State} {Stay : ℕ → Type 0} where
       by (gives-up ns′ m f) = ap (λ (c : Side). none-found x k c) (lt-side m l)
 
   right-found : {x z k : ℕ} {d : Side} → Lt (G .num) d x z → Right (Sends G Stay S) (Sets G Stay S) (found x z k) (setting k d (some z))
-  right-found {x} {z} {k} {d} l = record { all = λ s. elim s [ ]; mem = λ m. absurd (List·Memᴰ·not-nil m); puts = λ s. ps s; sets = λ f. subst put f (to-found l) }
+  right-found {x} {z} {k} {d} l =
+      record { all = λ s. elim s [ ]; mem = λ m. absurd (List·Memᴰ·not-nil m); puts = λ s. ps s; sets = λ f. subst put f (to-found l) }
     where
       put : Change → Type 0
       put keep = ⊥
@@ -126,7 +138,8 @@ module _ {G : World} {S : State} {Stay : ℕ → Type 0} where
       ps (to-found m) = (refl, ap (λ (e : Side). set k e (some z)) (lt-side l m))
 
   right-gone : {x k : ℕ} {d : Side} → Right (Sends G Stay S) (Sets G Stay S) (none-found x k d) (setting k d none)
-  right-gone {x} {k} {d} = record { all = λ s. elim s [ ]; mem = λ m. absurd (List·Memᴰ·not-nil m); puts = λ s. ps s; sets = λ f. subst put f to-none }
+  right-gone {x} {k} {d} =
+      record { all = λ s. elim s [ ]; mem = λ m. absurd (List·Memᴰ·not-nil m); puts = λ s. ps s; sets = λ f. subst put f to-none }
     where
       put : Change → Type 0
       put keep = ⊥

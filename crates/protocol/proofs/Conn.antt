@@ -32,11 +32,13 @@ module _ {G : World} where
   lost-conn : {S′ : State} {x k y : ℕ} {d : Side} → Lost G S′ x k d y → Conn S′ k x y
   lost-conn q = ctrans (clink (q .new)) (cmeet (q .told))
 
-  link-conn : {S S′ : State} {m : Msg} {x k y : ℕ} {d : Side} → Opened G S m S′ → S .link x k d ≡ some y → (S′ .link x k d ≡ some y) ⊎ ((v : Option ℕ) × Sets G S m x k d v) → Conn S′ k x y
+  link-conn : {S S′ : State} {m : Msg} {x k y : ℕ} {d : Side} → Opened G S m S′ → S .link x k d ≡ some y
+      → (S′ .link x k d ≡ some y) ⊎ ((v : Option ℕ) × Sets G S m x k d v) → Conn S′ k x y
   link-conn t e (inl f) = clink f
   link-conn t e (inr s) = lost-conn (lost t e (s .1))
 
-  meet-conn : {S S′ : State} {m : Msg} {x y k : ℕ} → Proper G S → Opened G S m S′ → S .pend (meet x y k) → (meet x y k ≡ m) ⊎ S′ .pend (meet x y k) → Conn S′ k x y
+  meet-conn : {S S′ : State} {m : Msg} {x y k : ℕ} → Proper G S → Opened G S m S′ → S .pend (meet x y k) → (meet x y k ≡ m) ⊎ S′ .pend (meet x y k)
+      → Conn S′ k x y
   meet-conn {S} {S′} {m} {x} {y} {k} h t p (inl e) =
       let o = h .pend-ok p in
       met-conn (met h (subst (λ (n : Msg). Opened G S n S′) (sym e) t) (seat-side G x y (ok-pair o .fst) (ok-pair o .snd) (ok-ne o) .1))

@@ -1,20 +1,18 @@
 -- A delivery as a relation between two states, for any rules given as relations; and that the function which delivers is one,
 -- where its effect is what the relations say. A proof device: contracts and readers see `effect`. Assumes nothing.
 use Prim.Native.Nat.{ℕ}
-use mathlib.Core.Path.{_≡_, refl, sym, _∙_, ap, subst}
+use mathlib.Core.Path.{_≡_, sym, _∙_, ap, subst}
 use mathlib.Core.Logic.{_⊎_, inl, inr, _≢_}
-use mathlib.Core.Option.{Option, none, some}
-use mathlib.Core.Bool.{Bool, cond}
+use mathlib.Core.Option.{Option, some}
 use mathlib.Core.List.{List, List·Memᴰ}
 use lib.Dec.{T}
 use Rattle.graph.specs.Side.{Side}
-use Rattle.graph.specs.Graph.{Links}
-use Rattle.graph.proofs.Tests.{some-inj}
 use Rattle.protocol.specs.Message.{Msg, Name, nameOf, named, among}
-use Rattle.protocol.specs.Rules.{Change, keep, set, Effect}
+use Rattle.protocol.specs.Rules.{Change, set, Effect}
 use Rattle.protocol.specs.State.{Meaning}
 use Rattle.protocol.specs.Table.{deliver}
-use Rattle.protocol.specs.Calls.{isTaken, pendingAfter, applied, rule, rosterAfter, deliverySends, deliveryLinks, sends, takes, linksAfter, accept}
+use Rattle.protocol.specs.Calls.{isTaken, pendingAfter, applied, rule, rosterAfter, deliverySends, deliveryLinks, sends, takes, linksAfter}
+use Rattle.protocol.specs.Calls.{accept}
 use Rattle.protocol.proofs.Message.{same-eq, eq-same, among-mem, mem-among}
 use Rattle.protocol.proofs.Calls.{after-came, after-kept, after-only, applied-at, applied-frame}
 use Rattle.protocol.proofs.World.{State}
@@ -37,7 +35,8 @@ module _ {Sends : Msg → Msg → Type 0} {Sets : Msg → ℕ → ℕ → Side �
       by (inr s) = inr (subst (λ (o : Option ℕ). Sets m x k d o) (sym (t .moved (s .1)) ∙ e) (s .1))
 
   -- an old link is kept, or another was set in its place
-  pub link-kept : {x k y : ℕ} {d : Side} → Delivery Sends Sets S m S′ → S .link x k d ≡ some y → (S′ .link x k d ≡ some y) ⊎ ((o : Option ℕ) × Sets m x k d o)
+  pub link-kept : {x k y : ℕ} {d : Side} → Delivery Sends Sets S m S′ → S .link x k d ≡ some y
+      → (S′ .link x k d ≡ some y) ⊎ ((o : Option ℕ) × Sets m x k d o)
   link-kept {x} {k} {y} {d} t e = by (t .frame x k d)
     where
       by : (S′ .link x k d ≡ S .link x k d) ⊎ ((o : Option ℕ) × Sets m x k d o) → (S′ .link x k d ≡ some y) ⊎ ((o : Option ℕ) × Sets m x k d o)
@@ -102,6 +101,7 @@ delivers {Sends} {Sets} W M m r w = record {
     mv : {x k : ℕ} {d : Side} {o : Option ℕ} → Sets m x k d o → applied t c (M .link) x k d ≡ o
     mv {x} {k} {d} {o} s = let q = r .puts s in rw (q .0, q .1) (applied-at t k d o (M .link))
 
-    fr : {x k : ℕ} {d : Side} → (applied t c (M .link) x k d ≡ M .link x k d) ⊎ ((o : Option ℕ) × (x ≡ t) × (c ≡ set k d o)) → (applied t c (M .link) x k d ≡ M .link x k d) ⊎ ((o : Option ℕ) × Sets m x k d o)
+    fr : {x k : ℕ} {d : Side} → (applied t c (M .link) x k d ≡ M .link x k d) ⊎ ((o : Option ℕ) × (x ≡ t) × (c ≡ set k d o))
+        → (applied t c (M .link) x k d ≡ M .link x k d) ⊎ ((o : Option ℕ) × Sets m x k d o)
     fr (inl e) = inl e
     fr {x} {k} {d} (inr (o, e, f)) = inr (o, subst (λ (y : ℕ). Sets m y k d o) (sym e) (r .sets f))

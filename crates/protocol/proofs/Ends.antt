@@ -1,29 +1,27 @@
 -- Every delivery lowers the measure: in phase open a link that gets nearer pays for what its MEET sends, and every other delivery sends
 -- less than it takes. Assumes nothing.
-use Prim.Native.Nat.{ℕ, zero, suc, _+_, _-_, _*_, _≤_, _<_}
-use mathlib.Core.Path.{_≡_, refl, sym, _∙_, ap, subst}
+use Prim.Native.Nat.{ℕ, suc, _+_, _-_, _*_, _≤_, _<_}
+use mathlib.Core.Path.{_≡_, refl}
 use mathlib.Core.Logic.{_⊎_, inl, inr, _≢_}
 use mathlib.Core.Option.{Option, none, some}
 use mathlib.Core.Bool.{Bool, true, false, not, cond}
 use mathlib.Core.List.{List, [], _∷_, _++_, List·Memᴰ}
 use native.Mathlib.Omega.{arith}
 use native.Mathlib.Nat.{mul-le-mul-left}
-use native.Mathlib.Decide.{ℕ-discrete}
 use lib.Dec.{T, ltb}
 use Rattle.graph.specs.Side.{Side, left, right, opp, sideOf}
-use Rattle.graph.specs.Graph.{Links}
-use Rattle.graph.proofs.Order.{Lt, lt-opp, lt-trans, side-of}
-use Rattle.protocol.specs.Message.{Msg, meet, probe, pull, going, seek, found, none-found}
+use Rattle.graph.proofs.Order.{Lt, lt-trans, side-of}
+use Rattle.protocol.specs.Message.{Msg, meet, probe, pull}
 use Rattle.protocol.specs.Numbering.{exists}
 use Rattle.protocol.specs.State.{Meaning}
-use Rattle.protocol.specs.Rules.{SeatState, Change, keep, set, Effect, toLink, sending, setting}
-use Rattle.protocol.proofs.World.{World, State, share, bitOf, Pair, pair-level}
+use Rattle.protocol.specs.Rules.{SeatState, keep, Effect, toLink, setting}
+use Rattle.protocol.proofs.World.{World, State, bitOf, Pair}
 use Rattle.protocol.proofs.Delivery.{Right, stateOf}
-use Rattle.protocol.proofs.Open.{Old, no-old, far, Sends, Sets, sets, sets-pair, Opened, Ok, Proper}
+use Rattle.protocol.proofs.Open.{no-old, far, Sends, Sets, sets, sets-pair, Opened, Ok, Proper}
 use Rattle.protocol.proofs.OpenEffect.{View, v-same, v-near, v-set, v-up, v-pass, v-hit, v-go, entryIn}
-use Rattle.protocol.proofs.Settled.{dist}
-use Rattle.protocol.proofs.Sum.{sum, sum-le, sum-less, total, mass, mass-step}
-use Rattle.protocol.proofs.Measure.{numbers, room, rank, reach, reaches, room-most, room-less, dist-most, dist-pos, dist-on, dist-in, rank-meet, rank-probe, rank-pull}
+use Rattle.protocol.proofs.Sum.{sum-le, sum-less, total, mass, mass-step}
+use Rattle.protocol.proofs.Measure.{numbers, room, rank, reach, reaches, room-less, dist-most, dist-pos, dist-on, dist-in, rank-meet}
+use Rattle.protocol.proofs.Measure.{rank-probe, rank-pull}
 
 module _ (r : Msg → ℕ) where
   total-append : (a b : List Msg) → total r (a ++ b) ≡ total r a + total r b
@@ -49,9 +47,11 @@ pub data Cost (G : World) (S : State) (m : Msg) (e : Effect) : Type 0 where
 module _ (G : World) (S : State) (st : SeatState) where
   open World G using (num, small)
 
-  cost-set : {x y : ℕ} {d : Side} (k : ℕ) → Lt num d x y → total (rank num) (setting (G .W) num (G .vec) (entryIn G S st x) x y k d .sent) < rank num (meet x y k) + 8 * numbers
+  cost-set : {x y : ℕ} {d : Side} (k : ℕ) → Lt num d x y
+      → total (rank num) (setting (G .W) num (G .vec) (entryIn G S st x) x y k d .sent) < rank num (meet x y k) + 8 * numbers
   unfolding setting total
-  cost-set {x} {y} {d} k l = omega (arith, rank-meet num small y x k, total-append (rank num) old asks, total-link (rank num) (S .link x k d) (λ o. meet y o k) numbers olds, total-cond (rank num) (ltb k (G .W)) (probe y x k ∷ pulls), rank-probe num small y x k, total-link (rank num) (S .link x k (opp d)) (λ z. pull z (not (bitOf G k x)) k (opp d)) (4 * numbers - 1) news)
+  cost-set {x} {y} {d} k l =
+      omega (arith, rank-meet num small y x k, total-append (rank num) old asks, total-link (rank num) (S .link x k d) (λ o. meet y o k) numbers olds, total-cond (rank num) (ltb k (G .W)) (probe y x k ∷ pulls), rank-probe num small y x k, total-link (rank num) (S .link x k (opp d)) (λ z. pull z (not (bitOf G k x)) k (opp d)) (4 * numbers - 1) news)
     where
       old : List Msg
       old = toLink (S .link x k d) (λ o. meet y o k)
@@ -68,9 +68,11 @@ module _ (G : World) (S : State) (st : SeatState) where
       news : (z : ℕ) → S .link x k (opp d) ≡ some z → rank num (pull z (not (bitOf G k x)) k (opp d)) ≤ 4 * numbers - 1
       news z e = omega (arith, rank-pull num small z (not (bitOf G k x)) k (opp d))
 
-  cost-pass : {x y : ℕ} {d : Side} (k : ℕ) → Proper G S → Lt num d y x → total (rank num) (toLink (S .link x k d) (λ z. probe z y k)) < rank num (probe x y k)
+  cost-pass : {x y : ℕ} {d : Side} (k : ℕ) → Proper G S → Lt num d y x
+      → total (rank num) (toLink (S .link x k d) (λ z. probe z y k)) < rank num (probe x y k)
   unfolding rank
-  cost-pass {x} {y} {d} k h l = rw (side-of num l) (omega (arith, total-link (rank num) (S .link x k d) (λ z. probe z y k) (numbers + room num d x) each))
+  cost-pass {x} {y} {d} k h l =
+      rw (side-of num l) (omega (arith, total-link (rank num) (S .link x k d) (λ z. probe z y k) (numbers + room num d x) each))
     where
       each : (z : ℕ) → S .link x k d ≡ some z → numbers + 1 + room num (sideOf (num y) (num z)) z ≤ numbers + room num d x
       each z e = rw (side-of num (lt-trans l (h .link-side e))) (omega (arith, room-less num small (h .link-side e)))
@@ -79,9 +81,11 @@ module _ (G : World) (S : State) (st : SeatState) where
   unfolding rank
   cost-hit x b k d = omega (arith, total-link (rank num) (S .link x k (opp d)) (λ z. probe z x k) (2 * numbers) (λ z e. rank-probe num small z x k))
 
-  cost-go : (x : ℕ) (b : Bool) (k : ℕ) (d : Side) → Proper G S → total (rank num) (toLink (S .link x k d) (λ z. pull z b k d)) < rank num (pull x b k d)
+  cost-go : (x : ℕ) (b : Bool) (k : ℕ) (d : Side) → Proper G S
+      → total (rank num) (toLink (S .link x k d) (λ z. pull z b k d)) < rank num (pull x b k d)
   unfolding rank
-  cost-go x b k d h = omega (arith, total-link (rank num) (S .link x k d) (λ z. pull z b k d) (3 * numbers + room num d x - 1) (λ z e. omega (arith, room-less num small (h .link-side e))))
+  cost-go x b k d h =
+      omega (arith, total-link (rank num) (S .link x k d) (λ z. pull z b k d) (3 * numbers + room num d x - 1) (λ z e. omega (arith, room-less num small (h .link-side e))))
 
   pub view-cost : {m : Msg} {e : Effect} → Proper G S → View G S st m e → Cost G S m e
   unfolding total rank
@@ -97,7 +101,8 @@ module _ (G : World) (S : State) (st : SeatState) where
 module _ (G : World) where
   open World G using (num, small)
 
-  set-nearer : {S S′ : State} {m : Msg} {x k : ℕ} {d : Side} {v : Option ℕ} → Opened G S m S′ → Sets G S m x k d v → reach num x (S′ .link x k d) < reach num x (S .link x k d)
+  set-nearer : {S S′ : State} {m : Msg} {x k : ℕ} {d : Side} {v : Option ℕ} → Opened G S m S′ → Sets G S m x k d v
+      → reach num x (S′ .link x k d) < reach num x (S .link x k d)
   unfolding reach
   set-nearer {x = x} t (sets {y = y} l (no-old e)) = rw (t .moved (sets l (no-old e)), e) (dist-most num small x y)
   set-nearer t (sets l (far o e n)) = rw (t .moved (sets l (far o e n)), e) (dist-in num small l n)
@@ -111,7 +116,8 @@ module _ (G : World) where
       by (inr s) = omega (arith, set-nearer t (s .1))
 
   module _ (N W : ℕ) {S S′ : State} {m : Msg} (t : Opened G S m S′) where
-    row-le : (x k : ℕ) → reach num x (S′ .link x k left) + reach num x (S′ .link x k right) ≤ reach num x (S .link x k left) + reach num x (S .link x k right)
+    row-le : (x k : ℕ)
+        → reach num x (S′ .link x k left) + reach num x (S′ .link x k right) ≤ reach num x (S .link x k left) + reach num x (S .link x k right)
     row-le x k = omega (arith, reach-le t x k left, reach-le t x k right)
 
     reaches-le : reaches num N W (S′ .link) ≤ reaches num N W (S .link)
@@ -125,10 +131,12 @@ module _ (G : World) where
 
     reaches-less : {x k : ℕ} {d : Side} {v : Option ℕ} → x < N → k ≤ W → Sets G S m x k d v → reaches num N W (S′ .link) < reaches num N W (S .link)
     unfolding reaches
-    reaches-less {x} {k} {d} p q s = sum-less N _ _ (λ y l. sum-le (suc W) _ _ (λ j i. row-le y j)) x p (sum-less (suc W) _ _ (λ j i. row-le x j) k (omega arith) (row-less x k d (set-nearer t s)))
+    reaches-less {x} {k} {d} p q s =
+        sum-less N _ _ (λ y l. sum-le (suc W) _ _ (λ j i. row-le y j)) x p (sum-less (suc W) _ _ (λ j i. row-le x j) k (omega arith) (row-less x k d (set-nearer t s)))
 
 -- the measure of phase open falls
-pub open-less : (N W : ℕ) (G : World) (M M′ : Meaning) {m : Msg} {e : Effect} → Ok G m → Opened G (stateOf M) m (stateOf M′) → Right (Sends G (stateOf M)) (Sets G (stateOf M)) m e
+pub open-less : (N W : ℕ) (G : World) (M M′ : Meaning) {m : Msg} {e : Effect} → Ok G m → Opened G (stateOf M) m (stateOf M′)
+    → Right (Sends G (stateOf M)) (Sets G (stateOf M)) m e
     → Cost G (stateOf M) m e → T (exists N W m) → ((x k y : ℕ) → Pair G k x y → (x < N) × (k ≤ W))
     → 8 * numbers * reaches (G .num) N W (M′ .link) + mass N W (rank (G .num)) (M′ .pending) < 8 * numbers * reaches (G .num) N W (M .link) + mass N W (rank (G .num)) (M .pending)
 open-less N W G M M′ {m} {e} o t r c x place = by c
@@ -140,6 +148,9 @@ open-less N W G M M′ {m} {e} o t r c x place = by c
         go (inl p) = inl p
         go (inr s) = inr (r .all s)
 
-    by : Cost G (stateOf M) m e → 8 * numbers * reaches (G .num) N W (M′ .link) + mass N W (rank (G .num)) (M′ .pending) < 8 * numbers * reaches (G .num) N W (M .link) + mass N W (rank (G .num)) (M .pending)
+    by : Cost G (stateOf M) m e
+        → 8 * numbers * reaches (G .num) N W (M′ .link) + mass N W (rank (G .num)) (M′ .pending) < 8 * numbers * reaches (G .num) N W (M .link) + mass N W (rank (G .num)) (M .pending)
     by (free f l) = omega (arith, mul-le-mul-left (8 * numbers) (reaches-le G N W t), lighter)
-    by (paid {x = a} {k = k} {y = y} s l) = let q = place a k y (sets-pair o s) in omega (arith, mul-le-mul-left (8 * numbers) (reaches-less G N W t (q .0) (q .1) s), lighter)
+    by (paid {x = a} {k = k} {y = y} s l) =
+        let q = place a k y (sets-pair o s) in
+        omega (arith, mul-le-mul-left (8 * numbers) (reaches-less G N W t (q .0) (q .1) s), lighter)

@@ -1,19 +1,47 @@
--- The definitions evaluated: document 01's cases (f), (i), (j), refusals in the table's order, and a small record drained and settled.
--- Assumes nothing.
-use Prim.Native.Nat.{ℕ, zero, suc, _+_, _-_}
+-- The definitions evaluated before anything was proved of them: document 01's cases (i) and (j), refusals in the table's order, and at
+-- three seats and width 2 the settled record Q, drained, with its leave and turns (case (k)). Assumes nothing.
+use Prim.Native.Nat.{ℕ, zero, suc}
 use mathlib.Core.Path.{_≡_, refl}
 use mathlib.Core.Option.{Option, none, some}
-use mathlib.Core.Bool.{Bool, true, false, not, cond}
-use mathlib.Core.List.{List, [], _∷_, _++_}
-use Rattle.graph.specs.Side.{Side, left, right, opp, onSide, sideOf}
+use mathlib.Core.Bool.{Bool, true, false}
+use mathlib.Core.List.{List, [], _∷_}
+use Rattle.graph.specs.Side.{Side, left, right, onSide, sideOf}
 use Rattle.graph.specs.Vector.{bit, equalBits, shared}
-use Rattle.protocol.specs.Message.{Msg, meet, probe, pull, going, seek, found, none-found, Name, name, nameOf, ifZero, ifBit, named, sameMsg, among}
+use Rattle.protocol.specs.Message.{Msg, meet, probe, Name, name, nameOf, ifZero, ifBit, named, sameMsg, among}
 use Rattle.protocol.specs.Numbering.{any, count, pairAt, pullAt, sideAt, split, messageAt, somePending}
-use Rattle.protocol.specs.Rules.{Entry, staying, Effect, effect, setting, meeting, probing, pulling, parting, passing, seeking, toLink, keep, set}
-use Rattle.protocol.specs.State.{Meaning, open-phase, nobody, opened}
+use Rattle.protocol.specs.Rules.{Entry, staying, Effect, keep, set, toLink}
+use Rattle.protocol.specs.Rules.{setting, meeting, probing, pulling, parting, passing, seeking, effect}
+use Rattle.protocol.specs.State.{Meaning, nobody, opened}
 use Rattle.protocol.specs.Table.{Call, join, leave, deliver, turn, first, isPending, rows, refusal}
-use Rattle.protocol.specs.Calls.{at, freed, afterTurn, rosterAfter, rule, each, farewell, farewells, turnSends, deliverySends, sends, takes, isTaken, pendingAfter, applied, unlinked, turnLinks, deliveryLinks, linksAfter, accept, unlessRefused, call}
-use Rattle.protocol.specs.Run.{Logged, Event, Standing, logOf, step, steps, run}
+use Rattle.protocol.specs.Calls.{at, freed, afterTurn, rosterAfter, rule, each, farewell, farewells, turnSends, deliverySends}
+use Rattle.protocol.specs.Calls.{sends, takes, isTaken, pendingAfter, applied, unlinked, turnLinks, deliveryLinks, linksAfter}
+use Rattle.protocol.specs.Calls.{accept, unlessRefused, call}
+use Rattle.protocol.specs.Run.{Logged, logOf, step, steps, run}
+
+-- cases (i) and (j): lots 100, 200, 300 on seats 0, 1, 2; lot 100 has no left link, and at level 0 the right link o
+number : ℕ → ℕ
+number zero = 100
+number (suc zero) = 200
+number (suc (suc n)) = 300
+
+links-of : Option ℕ → ℕ → Side → Option ℕ
+links-of o k left = none
+links-of o zero right = o
+links-of o (suc k) right = none
+
+lot-100 : Option ℕ → Entry
+lot-100 o = record { state = staying; number = 100; vector = 0; link = links-of o }
+
+-- (i) right link 300, MEET about 200: link 200, and 200 gets MEET about 100, MEET about 300, PROBE about 100
+case-i : effect 8 number (λ x. 0) (lot-100 (some 2)) (meet 0 1 0)
+    ≡ record { change = set 0 right (some 1); sent = meet 1 0 0 ∷ meet 1 2 0 ∷ probe 1 0 0 ∷ [] }
+unfolding effect setting meeting toLink sideOf onSide number links-of lot-100 bit
+case-i = refl
+
+-- (j) right link 200, MEET about 300: passed to 200
+case-j : effect 8 number (λ x. 0) (lot-100 (some 1)) (meet 0 2 0) ≡ record { change = keep; sent = meet 1 2 0 ∷ [] }
+unfolding effect setting meeting toLink sideOf onSide number links-of lot-100 bit
+case-j = refl
 
 -- the refusal numbers of a log, latest first
 refusals : List Logged → List ℕ
@@ -22,8 +50,9 @@ refusals (l ∷ ls) = l .refused ∷ refusals ls
 
 calls : List Call
 calls =
-    join 0 100 0 0 ∷ join 0 100 0 255 ∷ join 1 200 2 0 ∷ join 2 200 1 0 ∷ join 3 300 1 0 ∷ join 2 300 1 200 ∷ join 2 300 1 255 ∷ join 2 300 1 0
-    ∷ leave 3 ∷ deliver (name 1 0 2 1 0) ∷ deliver (name 1 0 1 0 0) ∷ deliver (name 1 0 1 0 0) ∷ deliver (name 8 0 1 0 0) ∷ turn ∷ leave 1 ∷ leave 1 ∷ []
+    join 0 100 0 0 ∷ join 0 100 0 255 ∷ join 1 200 2 0 ∷ join 2 200 1 0 ∷ join 3 300 1 0 ∷ join 2 300 1 200 ∷ join 2 300 1 255
+    ∷ join 2 300 1 0 ∷ leave 3 ∷ deliver (name 1 0 2 1 0) ∷ deliver (name 1 0 1 0 0) ∷ deliver (name 1 0 1 0 0)
+    ∷ deliver (name 8 0 1 0 0) ∷ turn ∷ leave 1 ∷ leave 1 ∷ []
 
 refused : refusals (logOf (run 3 2 calls .history)) ≡ 9 ∷ 0 ∷ 11 ∷ 10 ∷ 10 ∷ 0 ∷ 10 ∷ 3 ∷ 0 ∷ 6 ∷ 3 ∷ 3 ∷ 5 ∷ 0 ∷ 0 ∷ 6 ∷ []
 unfolding refusals calls logOf run step steps opened nobody call unlessRefused accept refusal rows first any isPending rosterAfter at sends takes isTaken pendingAfter deliverySends linksAfter deliveryLinks applied rule effect setting meeting probing pulling parting passing seeking toLink onSide sideOf bit equalBits shared named ifZero ifBit sameMsg among somePending count messageAt split pairAt pullAt sideAt
@@ -37,21 +66,34 @@ search p (suc n) i = elim (p i) as (λ b. ℕ) [ true ↦ i | false ↦ search p
 -- deliver the smallest pending message, f times
 drain : (N W : ℕ) → ℕ → Meaning → Meaning
 drain N W zero M = M
-drain N W (suc f) M = let i = search (λ j. M .pending (messageAt N W j)) (count N W) 0 in drain N W f (call N W M (deliver (nameOf (messageAt N W i))) .meaning)
+drain N W (suc f) M =
+    let i = search (λ j. M .pending (messageAt N W j)) (count N W) 0 in
+    drain N W f (call N W M (deliver (nameOf (messageAt N W i))) .meaning)
 
-three : Meaning
-three = run 3 2 (join 0 100 0 255 ∷ join 1 200 2 0 ∷ join 2 300 1 0 ∷ []) .now
+-- Q: lots 100, 200, 300 with vectors 00, 10, 01
+settled-Q : Meaning
+settled-Q = drain 3 2 24 (run 3 2 (join 0 100 0 255 ∷ join 1 200 2 0 ∷ join 2 300 1 0 ∷ []) .now)
 
 links : Meaning → List (Option ℕ)
-links M = M .link 0 0 right ∷ M .link 1 0 left ∷ M .link 1 0 right ∷ M .link 2 0 left ∷ M .link 0 1 right ∷ M .link 2 1 left ∷ M .link 1 1 left ∷ M .link 1 1 right ∷ M .link 0 2 right ∷ []
+links M =
+    M .link 0 0 right ∷ M .link 1 0 left ∷ M .link 1 0 right ∷ M .link 2 0 left
+    ∷ M .link 0 1 right ∷ M .link 2 1 left ∷ M .link 1 1 left ∷ M .link 1 1 right ∷ M .link 0 2 right ∷ []
 
-drained : Meaning
-drained = drain 3 2 24 three
+Q-settled : somePending 3 2 (settled-Q .pending) ≡ false
+unfolding settled-Q drain search run step steps opened nobody call unlessRefused accept refusal rows first any isPending rosterAfter at sends takes isTaken pendingAfter deliverySends linksAfter deliveryLinks applied rule effect setting meeting probing pulling parting passing seeking toLink onSide sideOf bit equalBits shared named ifZero ifBit sameMsg among somePending count messageAt split pairAt pullAt sideAt
+Q-settled = refl
 
-settled : somePending 3 2 (drained .pending) ≡ false
-unfolding drained drain search three run step steps opened nobody call unlessRefused accept refusal rows first any isPending rosterAfter at sends takes isTaken pendingAfter deliverySends linksAfter deliveryLinks applied rule effect setting meeting probing pulling parting passing seeking toLink onSide sideOf bit equalBits shared named ifZero ifBit sameMsg among somePending count messageAt split pairAt pullAt sideAt
-settled = refl
+Q-links : links settled-Q ≡ some 1 ∷ some 0 ∷ some 2 ∷ some 1 ∷ some 2 ∷ some 0 ∷ none ∷ none ∷ none ∷ []
+unfolding links settled-Q drain search run step steps opened nobody call unlessRefused accept refusal rows first any isPending rosterAfter at sends takes isTaken pendingAfter deliverySends linksAfter deliveryLinks applied rule effect setting meeting probing pulling parting passing seeking toLink onSide sideOf bit equalBits shared named ifZero ifBit sameMsg among somePending count messageAt split pairAt pullAt sideAt
+Q-links = refl
 
-right-links : links drained ≡ some 1 ∷ some 0 ∷ some 2 ∷ some 1 ∷ some 2 ∷ some 0 ∷ none ∷ none ∷ none ∷ []
-unfolding links drained drain search three run step steps opened nobody call unlessRefused accept refusal rows first any isPending rosterAfter at sends takes isTaken pendingAfter deliverySends linksAfter deliveryLinks applied rule effect setting meeting probing pulling parting passing seeking toLink onSide sideOf bit equalBits shared named ifZero ifBit sameMsg among somePending count messageAt split pairAt pullAt sideAt
-right-links = refl
+-- (k) leave 1, turn, deliver all, turn: 100 and 300 are linked at levels 0 and 1, and seat 1 is as opened
+after : Meaning → Call → Meaning
+after M c = call 3 2 M c .meaning
+
+left-Q : Meaning
+left-Q = after (drain 3 2 8 (after (after settled-Q (leave 1)) turn)) turn
+
+case-k : links left-Q ≡ some 2 ∷ none ∷ none ∷ some 0 ∷ some 2 ∷ some 0 ∷ none ∷ none ∷ none ∷ []
+unfolding links left-Q after settled-Q drain search freed afterTurn each farewell farewells turnSends unlinked turnLinks run step steps opened nobody call unlessRefused accept refusal rows first any isPending rosterAfter at sends takes isTaken pendingAfter deliverySends linksAfter deliveryLinks applied rule effect setting meeting probing pulling parting passing seeking toLink onSide sideOf bit equalBits shared named ifZero ifBit sameMsg among somePending count messageAt split pairAt pullAt sideAt
+case-k = refl

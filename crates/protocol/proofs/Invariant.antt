@@ -1,21 +1,21 @@
 -- What every state in phase open has, kept by deliveries; that it gives the exact skip graph once nothing is pending; and that an exact
 -- graph with nothing pending has it again. Assumes nothing.
-use Prim.Native.Nat.{ℕ, zero, suc, _+_, _-_, _≤_, _<_}
+use Prim.Native.Nat.{ℕ, zero, suc, _≤_, _<_}
 use mathlib.Core.Path.{_≡_, refl, sym, _∙_, ap, subst}
 use mathlib.Core.Logic.{_⊎_, inl, inr}
 use mathlib.Core.Option.{Option, none, some}
 use native.Mathlib.Omega.{arith}
 use Rattle.graph.specs.Side.{Side, right, opp}
-use Rattle.graph.proofs.Order.{Lt, lt-opp, opp-lt, lt-asym, lt-ne, lt-eq}
+use Rattle.graph.proofs.Order.{Lt, lt-opp, opp-lt, lt-asym, lt-ne}
 use Rattle.graph.proofs.Tests.{none-some}
 use Rattle.protocol.specs.Message.{Msg}
 use Rattle.protocol.proofs.World.{World, State, Quiet, Pair, pair-sym, pair-trans, seat-tri}
 use Rattle.protocol.proofs.Open.{Opened, Proper, proper-kept}
 use Rattle.protocol.proofs.Back.{WaysBack, back-kept}
-use Rattle.protocol.proofs.Conn.{Conn, crefl, clink, csym, ctrans, Whole, conn-eq, conn-kept}
+use Rattle.protocol.proofs.Conn.{Conn, clink, csym, ctrans, Whole, conn-eq, conn-kept}
 use Rattle.protocol.proofs.Segment.{Segment, joined, Segments}
 use Rattle.protocol.proofs.SegmentKept.{segments-kept}
-use Rattle.protocol.proofs.Settled.{Sym, dist, dist-less, Next, Exact, quiet-exact}
+use Rattle.protocol.proofs.Settled.{Sym, dist, dist-less, Exact, quiet-exact}
 
 pub record Invariant (G : World) (S : State) : Type 0 where
   pub proper : Proper G S
@@ -52,15 +52,18 @@ module _ {G : World} where
   exact-sym {S} h = record { back = λ {x} {k} {y} {d} e. exact-back (h k) e (S .link y k (opp d)) refl }
 
   -- an exact graph connects what shares k bits
-  reach : {S : State} {k : ℕ} → Exact G S k → (f : ℕ) {x y : ℕ} {d : Side} → dist (G .num x) (G .num y) < f → Pair G k x y → Lt (G .num) d x y → Conn S k x y
+  reach : {S : State} {k : ℕ} → Exact G S k → (f : ℕ) {x y : ℕ} {d : Side} → dist (G .num x) (G .num y) < f → Pair G k x y → Lt (G .num) d x y
+      → Conn S k x y
   reach h zero l p m = absurd (omega arith)
   reach {S} {k} h (suc f) {x} {y} {d} l p m = by (S .link x k d) refl (λ v q n. reach h f q n)
     where
-      go-on : (v : ℕ) → S .link x k d ≡ some v → (y ≡ v) ⊎ Lt (G .num) d v y → ((v : ℕ) → dist (G .num v) (G .num y) < f → Pair G k v y → Lt (G .num) d v y → Conn S k v y) → Conn S k x y
+      go-on : (v : ℕ) → S .link x k d ≡ some v → (y ≡ v) ⊎ Lt (G .num) d v y
+          → ((v : ℕ) → dist (G .num v) (G .num y) < f → Pair G k v y → Lt (G .num) d v y → Conn S k v y) → Conn S k x y
       go-on v e (inl q) ih = ctrans (clink e) (conn-eq (sym q))
       go-on v e (inr n) ih = ctrans (clink e) (ih v (omega (arith, dist-less (h .next e .side) n .1)) (pair-trans (pair-sym (h .next e .pair)) p) n)
 
-      by : (v : Option ℕ) → S .link x k d ≡ v → ((v : ℕ) → dist (G .num v) (G .num y) < f → Pair G k v y → Lt (G .num) d v y → Conn S k v y) → Conn S k x y
+      by : (v : Option ℕ) → S .link x k d ≡ v → ((v : ℕ) → dist (G .num v) (G .num y) < f → Pair G k v y → Lt (G .num) d v y → Conn S k v y)
+          → Conn S k x y
       by none e ih = absurd (h .last e y p m)
       by (some v) e ih = go-on v e (h .next e .least y p m) ih
 
@@ -101,7 +104,8 @@ module _ {G : World} where
       proper = record { link-pair = λ {x} {k} e. h k .next e .pair; link-side = λ {x} {k} e. h k .next e .side; pend-ok = λ p. absurd (q _ p) }
 
 -- at most one lot, no links and no messages
-pub invariant-first : (G : World) (S : State) → ((x y : ℕ) → G .Seated x → G .Seated y → x ≡ y) → ((x k : ℕ) (d : Side) → S .link x k d ≡ none) → Quiet S → Invariant G S
+pub invariant-first : (G : World) (S : State) → ((x y : ℕ) → G .Seated x → G .Seated y → x ≡ y) → ((x k : ℕ) (d : Side) → S .link x k d ≡ none)
+    → Quiet S → Invariant G S
 invariant-first G S one bare q = record {
   proper = record { link-pair = λ e. none-some (bare _ _ _) e; link-side = λ e. none-some (bare _ _ _) e; pend-ok = λ p. absurd (q _ p) };
   back = record { way = λ e. none-some (bare _ _ _) e };

@@ -1,17 +1,17 @@
 -- A join keeps the invariant of phase open: a seat alone, tied to its contact's component by the MEET just sent. Assumes nothing.
 use Prim.Native.Nat.{ℕ, suc, _≤_, _<_}
-use mathlib.Core.Path.{_≡_, refl, sym, _∙_, ap, subst}
+use mathlib.Core.Path.{_≡_, sym, _∙_, ap, subst}
 use mathlib.Core.Logic.{_⊎_, inl, inr, _≢_}
-use mathlib.Core.Option.{Option, none, some}
+use mathlib.Core.Option.{some}
 use native.Mathlib.Omega.{arith}
 use Rattle.graph.specs.Side.{Side, opp}
 use Rattle.graph.proofs.Order.{Lt, toL, toR}
 use Rattle.protocol.specs.Message.{Msg, meet}
 use Rattle.protocol.proofs.World.{World, State, share, bitOf, Pair}
 use Rattle.protocol.proofs.Open.{Ok, ok-meet, ok-probe, ok-pull, Proper, ok-pair}
-use Rattle.protocol.proofs.Back.{WayBack, WaysBack}
+use Rattle.protocol.proofs.Back.{WayBack}
 use Rattle.protocol.proofs.Conn.{Conn, crefl, clink, cmeet, csym, ctrans, Whole, conn-eq}
-use Rattle.protocol.proofs.Segment.{Segment, out, home, pullb, pullf, Done, joined, todo, Segments}
+use Rattle.protocol.proofs.Segment.{Segment, out, home, pullb, pullf, Done, joined, todo}
 use Rattle.protocol.proofs.Invariant.{Invariant}
 
 -- the world has one lot more, on the seat s, in the component of c
@@ -92,7 +92,8 @@ module _ {G G′ : World} {s c : ℕ} (g : Grows G G′ s c) where
         ok (inr e) = subst (Ok G′) (sym e) (ok-meet (zero-pair G′ (g .still c sc) (g .new) (g .same-comp c (ne sc) ∙ sym (g .contact))) (ne sc))
 
     way-up : {x k y : ℕ} {d : Side} → S .link x k d ≡ some y → WayBack G S x k d y → WayBack G′ S′ x k d y
-    way-up {x} {k} {y} {d} e w = record { lot = w .lot; after = lt-up (h .link-pair e .fst) sw (w .after); upto = to (w .upto); backs = bk (w .backs) }
+    way-up {x} {k} {y} {d} e w =
+        record { lot = w .lot; after = lt-up (h .link-pair e .fst) sw (w .after); upto = to (w .upto); backs = bk (w .backs) }
       where
         sw : G .Seated (w .lot)
         sw = way-seated h w
@@ -101,7 +102,8 @@ module _ {G G′ : World} {s c : ℕ} (g : Grows G G′ s c) where
         to (inl q) = inl q
         to (inr l) = inr (lt-up sw (h .link-pair e .snd) l)
 
-        bk : (S .link (w .lot) k (opp d) ≡ some x) ⊎ S .pend (meet (w .lot) x k) → (S′ .link (w .lot) k (opp d) ≡ some x) ⊎ S′ .pend (meet (w .lot) x k)
+        bk : (S .link (w .lot) k (opp d) ≡ some x) ⊎ S .pend (meet (w .lot) x k)
+            → (S′ .link (w .lot) k (opp d) ≡ some x) ⊎ S′ .pend (meet (w .lot) x k)
         bk (inl q) = inl (j .same-link (w .lot) k (opp d) ∙ q)
         bk (inr p) = inr (j .kept (meet (w .lot) x k) p)
 
@@ -161,7 +163,8 @@ invariant-join {G} {S = S} g j sc i = record {
   proper = proper-join g j sc h;
   back = record { way = λ e. let f = old g j sc h e in way-up g j sc h f (i .back .way f) };
   whole = whole-join g j sc h (i .whole);
-  segments = record { seg = λ {k} {d} {u} {m} {a} {b} q. let p = seg-down g j sc h q in done-up g j sc h (bit-same g k a (ne g (seg-start g j sc h p))) (i .segments .seg p) };
+  segments =
+      record { seg = λ {k} {d} {u} {m} {a} {b} q. let p = seg-down g j sc h q in done-up g j sc h (bit-same g k a (ne g (seg-start g j sc h p))) (i .segments .seg p) };
 }
   where
     h : Proper G S

@@ -18,7 +18,8 @@ use Rattle.protocol.specs.Table.{join, leave, refusal}
 use Rattle.protocol.specs.Calls.{at, rosterAfter, sends, takes, linksAfter, accept}
 use Rattle.protocol.specs.Sound.{numberBits, linkOk, messageOk, Sound}
 use Rattle.protocol.proofs.Calls.{at-same, at-other, at-all}
-use Rattle.protocol.proofs.SoundFacts.{Two, Linked, Proper, p-meet, p-probe, p-pull, linked-ok, proper-ok, link-linked, pending-proper, pending-after}
+use Rattle.protocol.proofs.SoundFacts.{Two, Linked, Proper, p-meet, p-probe, p-pull, linked-ok, proper-ok, link-linked, pending-proper}
+use Rattle.protocol.proofs.SoundFacts.{pending-after}
 use Rattle.protocol.proofs.Accepted.{Joins, join-rows, Leaves, leave-rows}
 
 -- lot x of roster r is seated in r′, with the same number and vector

@@ -14,14 +14,16 @@ use Rattle.graph.specs.Vector.{sameBit, bit, shared}
 use Rattle.graph.proofs.Tests.{true-T, some-inj, none-some}
 use Rattle.graph.proofs.Order.{Lt, lt-trans, lt-opp, lt-ne′}
 use Rattle.protocol.specs.Message.{Msg, meet, probe, pull, Name, nameOf, named}
-use Rattle.protocol.specs.Rules.{Change, keep, set, Effect, effect, toLink, sending, setting, meeting, probing, pulling, parting, passing, seeking}
+use Rattle.protocol.specs.Rules.{Change, keep, set, Effect, effect, toLink, sending, setting, meeting, probing, pulling, parting, passing}
+use Rattle.protocol.specs.Rules.{seeking}
 use Rattle.protocol.specs.State.{Phase, open-phase, clearing, Roster, Meaning, isFree, stays, entry}
 use Rattle.protocol.specs.Table.{deliver, isPending, refusal}
 use Rattle.protocol.specs.Calls.{rosterAfter, rule, deliverySends, sends, takes, pendingAfter, applied, deliveryLinks, linksAfter, accept}
 use Rattle.protocol.specs.Sound.{messageOk, Sound}
 use Rattle.protocol.proofs.Calls.{applied-frame, applied-at}
 use Rattle.protocol.proofs.Accepted.{deliver-row}
-use Rattle.protocol.proofs.SoundFacts.{Two, Linked, Proper, p-meet, p-probe, p-pull, p-going, p-seek, p-found, p-none, two-sym, two-via, two-level, link-linked, two-lt, linked-ok, proper-ok, pending-proper, pending-after}
+use Rattle.protocol.proofs.SoundFacts.{Two, Linked, Proper, p-meet, p-probe, p-pull, p-going, p-seek, p-found, p-none, two-sym, two-via}
+use Rattle.protocol.proofs.SoundFacts.{two-level, link-linked, two-lt, linked-ok, proper-ok, pending-proper, pending-after}
 
 -- all messages of a list
 pub data All (P : Msg → Type 0) : List Msg → Type 0 where

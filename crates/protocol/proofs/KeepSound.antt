@@ -2,11 +2,9 @@
 -- their types. Assumes nothing.
 use Prim.Native.Nat.{ℕ, zero, suc}
 use mathlib.Core.Path.{_≡_, refl}
-use mathlib.Core.Bool.{Bool, false}
-use lib.Dec.{T}
+use mathlib.Core.Bool.{false}
 use lib.Pow.{pow-pos}
 use Rattle.graph.proofs.Tests.{false-T, none-some}
-use Rattle.protocol.specs.Message.{Msg}
 use Rattle.protocol.specs.Numbering.{somePending}
 use Rattle.protocol.specs.State.{Meaning, nobody, opened}
 use Rattle.protocol.specs.Table.{Call, join, leave, deliver, turn, refusal}

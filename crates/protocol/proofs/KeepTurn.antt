@@ -15,7 +15,8 @@ use Rattle.protocol.specs.Numbering.{any}
 use Rattle.protocol.specs.Rules.{SeatState, free, staying, leaving}
 use Rattle.protocol.specs.State.{Phase, open-phase, clearing, Roster, Meaning, isFree, isLeaving, seated, leaves}
 use Rattle.protocol.specs.Table.{turn}
-use Rattle.protocol.specs.Calls.{freed, afterTurn, rosterAfter, each, farewell, farewells, turnSends, sends, takes, pendingAfter, unlinked, turnLinks, linksAfter, accept}
+use Rattle.protocol.specs.Calls.{freed, afterTurn, rosterAfter, each, farewell, farewells, turnSends, sends, takes, pendingAfter, unlinked}
+use Rattle.protocol.specs.Calls.{turnLinks, linksAfter, accept}
 use Rattle.protocol.specs.Sound.{numberBits, messageOk, Sound}
 use Rattle.protocol.proofs.Any.{any-in}
 use Rattle.protocol.proofs.Calls.{link-out, each-out}

@@ -12,7 +12,8 @@ use Rattle.protocol.specs.Message.{Msg, meet, probe, pull, going, seek, 
 use Rattle.protocol.specs.Rules.{Entry, Change, keep, set, Effect, setting, meeting, probing, pulling, parting, passing, seeking, effect}
 use Rattle.protocol.specs.State.{Meaning, entry}
 use Rattle.protocol.specs.Table.{deliver}
-use Rattle.protocol.specs.Calls.{rosterAfter, rule, deliverySends, sends, takes, isTaken, pendingAfter, sameSide, applied, deliveryLinks, linksAfter, accept}
+use Rattle.protocol.specs.Calls.{rosterAfter, rule, deliverySends, sends, takes, isTaken, pendingAfter, sameSide, applied, deliveryLinks}
+use Rattle.protocol.specs.Calls.{linksAfter, accept}
 use Rattle.protocol.specs.Local.{Names, by-link, by-meet, by-probe, by-seek, by-found, Agree}
 use Rattle.protocol.proofs.Message.{named-name}
 use Rattle.protocol.proofs.Calls.{applied-other}

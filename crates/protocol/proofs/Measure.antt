@@ -1,17 +1,15 @@
 -- The number that every accepted delivery lowers: how far links still are, and a rank for each pending message. It is made of the
 -- numbers of the lots alone. Assumes nothing.
-use Prim.Native.Nat.{ℕ, zero, suc, _+_, _-_, _*_, _^_, _≤_, _<_}
-use mathlib.Core.Path.{_≡_, refl, sym, ap, subst}
+use Prim.Native.Nat.{ℕ, suc, _+_, _-_, _*_, _^_, _≤_, _<_}
 use mathlib.Core.Option.{Option, none, some}
 use mathlib.Core.Bool.{Bool}
 use native.Mathlib.Omega.{arith}
-use Rattle.graph.specs.Side.{Side, left, right, opp, sideOf}
+use Rattle.graph.specs.Side.{Side, left, right, sideOf}
 use Rattle.graph.specs.Graph.{Links}
-use Rattle.graph.proofs.Order.{Lt, toL, toR, side-of}
+use Rattle.graph.proofs.Order.{Lt, toL, toR}
 use Rattle.protocol.specs.Message.{Msg, meet, probe, pull, going, seek, found, none-found}
 use Rattle.protocol.specs.Sound.{numberBits}
 use Rattle.protocol.specs.State.{Phase, open-phase, clearing, Meaning}
-use Rattle.protocol.proofs.World.{World}
 use Rattle.protocol.proofs.Settled.{dist}
 use Rattle.protocol.proofs.Sum.{sum, mass}
 

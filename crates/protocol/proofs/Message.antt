@@ -1,16 +1,17 @@
 -- Every message has exactly one name, what names none is none, and equality and membership as tests. Assumes nothing.
-use Prim.Native.Nat.{ℕ, zero, suc}
+use Prim.Native.Nat.{ℕ}
 use mathlib.Core.Path.{_≡_, refl, sym, _∙_, ap, subst}
-use mathlib.Core.Logic.{_⊎_, inl, inr, ⊎-elim, _≢_}
+use mathlib.Core.Logic.{_⊎_, inl, inr, ⊎-elim}
 use mathlib.Core.Option.{Option, none, some}
 use mathlib.Core.Bool.{Bool, true, false, cond, _&&_, _||_}
-use mathlib.Core.List.{List, [], _∷_, _++_, List·Memᴰ, List·Memᴰ·head, List·Memᴰ·tail, List·Memᴰ·cases-cons, List·Memᴰ·not-nil, List·Memᴰ·append-cases}
+use mathlib.Core.List.{List, [], _∷_, List·Memᴰ, List·Memᴰ·head, List·Memᴰ·tail, List·Memᴰ·cases-cons, List·Memᴰ·not-nil}
 use native.Mathlib.Omega.{arith}
 use lib.Dec.{T, eqb, eqb→eq}
 use borrow.Author.Tests.{eqb-true, eq-eqb}
 use Rattle.graph.specs.Side.{Side, left, right}
-use Rattle.graph.proofs.Tests.{and-T, and-fst, and-snd, or-cases, or-left, or-right, dec-T}
-use Rattle.protocol.specs.Message.{Msg, meet, probe, pull, going, seek, found, none-found, Name, name, nameOf, sideNumber, bitNumber, ifZero, ifBit, named, sameMsg, among}
+use Rattle.graph.proofs.Tests.{and-fst, and-snd, or-cases, or-left, or-right, dec-T}
+use Rattle.protocol.specs.Message.{Msg, meet, probe, pull, going, seek, found, none-found, Name, name, nameOf, sideNumber, ifZero, ifBit, named}
+use Rattle.protocol.specs.Message.{sameMsg, among}
 
 pub some-inj : {x y : Msg} → some x ≡ some y → x ≡ y
 some-inj e = cc
@@ -46,7 +47,8 @@ zero-case {m} n o e = test (eqb n 0) (λ t. (eqb-true n 0 t, rw t at e)) (λ f. 
 
 bit-case : {m : Msg} (n : ℕ) (o p : Option Msg) → ifBit n o p ≡ some m → ((n ≡ 0) × (o ≡ some m)) ⊎ ((n ≡ 1) × (p ≡ some m))
 unfolding ifBit
-bit-case {m} n o p e = test (eqb n 0) (λ t. inl (eqb-true n 0 t, rw t at e)) (λ f. inr (test (eqb n 1) (λ t. (eqb-true n 1 t, rw (f, t) at e)) (λ g. none-some refl (rw (f, g) at e))))
+bit-case {m} n o p e =
+    test (eqb n 0) (λ t. inl (eqb-true n 0 t, rw t at e)) (λ f. inr (test (eqb n 1) (λ t. (eqb-true n 1 t, rw (f, t) at e)) (λ g. none-some refl (rw (f, g) at e))))
 
 -- the first branch of a test on the kind, or the rest
 kind-case : {m : Msg} (k i : ℕ) (o p : Option Msg) → cond (eqb k i) o p ≡ some m → ((k ≡ i) × (o ≡ some m)) ⊎ (p ≡ some m)
@@ -56,7 +58,8 @@ module _ {m : Msg} (k t a l s : ℕ) where
   plain : (o : Msg) (i : ℕ) → nameOf o ≡ name i t a l 0 → ifZero s (some o) ≡ some m → k ≡ i → nameOf m ≡ name k t a l s
   plain o i n e q = let z = zero-case s (some o) e in sym (ap nameOf (some-inj (z .1))) ∙ n ∙ (λ j. name (sym q j) t a l (sym (z .0) j))
 
-  sided : (f : Side → Msg) (i : ℕ) → ((d : Side) → nameOf (f d) ≡ name i t a l (sideNumber d)) → ifBit s (some (f left)) (some (f right)) ≡ some m → k ≡ i → nameOf m ≡ name k t a l s
+  sided : (f : Side → Msg) (i : ℕ) → ((d : Side) → nameOf (f d) ≡ name i t a l (sideNumber d)) → ifBit s (some (f left)) (some (f right)) ≡ some m
+      → k ≡ i → nameOf m ≡ name k t a l s
   sided f i n e q = by (bit-case s (some (f left)) (some (f right)) e)
     where
       by : ((s ≡ 0) × (some (f left) ≡ some m)) ⊎ ((s ≡ 1) × (some (f right) ≡ some m)) → nameOf m ≡ name k t a l s
@@ -67,8 +70,11 @@ abbrev wanting : (t l s : ℕ) → Bool → Option Msg
 wanting t l s b = ifBit s (some (pull t b l left)) (some (pull t b l right))
 
 module _ {m : Msg} (k t a l s : ℕ) where
-  about-0 : (f : Side → Msg) (i : ℕ) → ((d : Side) → nameOf (f d) ≡ name i t 0 l (sideNumber d)) → ifZero a (ifBit s (some (f left)) (some (f right))) ≡ some m → k ≡ i → nameOf m ≡ name k t a l s
-  about-0 f i n e q = let z = zero-case a (ifBit s (some (f left)) (some (f right))) e in sided k t 0 l s f i n (z .1) q ∙ (λ j. name k t (sym (z .0) j) l s)
+  about-0 : (f : Side → Msg) (i : ℕ) → ((d : Side) → nameOf (f d) ≡ name i t 0 l (sideNumber d))
+      → ifZero a (ifBit s (some (f left)) (some (f right))) ≡ some m → k ≡ i → nameOf m ≡ name k t a l s
+  about-0 f i n e q =
+      let z = zero-case a (ifBit s (some (f left)) (some (f right))) e in
+      sided k t 0 l s f i n (z .1) q ∙ (λ j. name k t (sym (z .0) j) l s)
 
   wanted : ifBit a (wanting t l s false) (wanting t l s true) ≡ some m → k ≡ 3 → nameOf m ≡ name k t a l s
   wanted e q = by (bit-case a (wanting t l s false) (wanting t l s true) e)

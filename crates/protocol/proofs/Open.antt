@@ -1,6 +1,6 @@
 -- Kinds 1 to 3 as relations: what MEET, PROBE and PULL send and set, which messages and links are proper in phase open, and that
 -- deliveries keep them so. Assumes nothing.
-use Prim.Native.Nat.{ℕ, suc, _≤_, _<_}
+use Prim.Native.Nat.{ℕ, suc, _<_}
 use mathlib.Core.Path.{_≡_}
 use mathlib.Core.Logic.{_⊎_, inl, inr, _≢_}
 use mathlib.Core.Option.{Option, none, some}
@@ -26,7 +26,8 @@ module _ (G : World) (S : State) where
     back : {x y k : ℕ} {d : Side} → Lt num d x y → Old x k d y → Sends (meet x y k) (meet y x k)
     hand : {x y k o : ℕ} {d : Side} → Lt num d x y → S .link x k d ≡ some o → Lt num d y o → Sends (meet x y k) (meet y o k)
     ask : {x y k : ℕ} {d : Side} → Lt num d x y → Old x k d y → k < W → Sends (meet x y k) (probe y x k)
-    call : {x y k z : ℕ} {d : Side} → Lt num d x y → Old x k d y → k < W → S .link x k (opp d) ≡ some z → Sends (meet x y k) (pull z (not (bitOf G k x)) k (opp d))
+    call : {x y k z : ℕ} {d : Side} → Lt num d x y → Old x k d y → k < W → S .link x k (opp d) ≡ some z
+        → Sends (meet x y k) (pull z (not (bitOf G k x)) k (opp d))
     up : {x y k : ℕ} → k < share G x y → Sends (probe x y k) (meet x y (suc k))
     pass : {x y k z : ℕ} {d : Side} → ¬ (k < share G x y) → Lt num d y x → S .link x k d ≡ some z → Sends (probe x y k) (probe z y k)
     hit : {x k z : ℕ} {b : Bool} {d : Side} → bitOf G k x ≡ b → S .link x k (opp d) ≡ some z → Sends (pull x b k d) (probe z x k)

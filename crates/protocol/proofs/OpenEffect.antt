@@ -1,11 +1,12 @@
 -- The effect of MEET, PROBE and PULL: one case for each way that a rule can go, and each case is what the relations of Open say.
 -- Assumes nothing.
-use Prim.Native.Nat.{ℕ, suc, _≤_, _<_}
+use Prim.Native.Nat.{ℕ, suc, _<_}
 use mathlib.Core.Path.{_≡_, refl, sym, _∙_, ap, subst}
 use mathlib.Core.Logic.{_⊎_, inl, inr, _≢_}
 use mathlib.Core.Option.{Option, none, some}
 use mathlib.Core.Bool.{Bool, true, false, not, cond}
-use mathlib.Core.List.{List, [], _∷_, _++_, List·Memᴰ, List·Memᴰ·head, List·Memᴰ·tail, List·Memᴰ·cases-cons, List·Memᴰ·eq-of-singleton, List·Memᴰ·not-nil, Memᴰ·append-left, Memᴰ·append-right, List·Memᴰ·append-cases}
+use mathlib.Core.List.{List, [], _∷_, _++_, List·Memᴰ, List·Memᴰ·head, List·Memᴰ·tail, List·Memᴰ·cases-cons, List·Memᴰ·eq-of-singleton}
+use mathlib.Core.List.{List·Memᴰ·not-nil, Memᴰ·append-left, Memᴰ·append-right, List·Memᴰ·append-cases}
 use lib.Dec.{T, eqb, ltb, ltb→lt, lt→ltb}
 use borrow.Author.Tests.{eq-eqb, eqb-true, ltb-true, lt-ltb}
 use Rattle.graph.specs.Side.{Side, opp, onSide, sideOf}
@@ -18,7 +19,8 @@ use Rattle.protocol.specs.Rules.{SeatState, Entry, Change, keep, set, Ef
 use Rattle.protocol.proofs.Calls.{link-in, link-out}
 use Rattle.protocol.proofs.World.{World, State, share, bitOf, Pair, seat-side, seat-tri}
 use Rattle.protocol.proofs.Delivery.{Right}
-use Rattle.protocol.proofs.Open.{Old, no-old, far, Sends, on, back, hand, ask, call, up, pass, hit, go, Sets, sets, Ok, ok-meet, ok-probe, ok-pull, Proper, not-old}
+use Rattle.protocol.proofs.Open.{Old, no-old, far, Sends, on, back, hand, ask, call, up, pass, hit, go, Sets, sets, Ok, ok-meet, ok-probe}
+use Rattle.protocol.proofs.Open.{ok-pull, Proper, not-old}
 
 pub keep-set : {A : Type 0} {k : ℕ} {d : Side} {o : Option ℕ} → keep ≡ set k d o → A
 keep-set e = absurd (subst Stays e tt)
@@ -59,20 +61,25 @@ module _ {G : World} {S : State} where
   meet-sends {x} {y} {k} {d} l (back l′ o) = subst (λ (c : Side). MeetSends G S x y k c (meet y x k)) (lt-side l′ l) (m-back o)
   meet-sends {x} {y} {k} {d} l (hand {o = o} l′ e n) = subst (λ (c : Side). MeetSends G S x y k c (meet y o k)) (lt-side l′ l) (m-hand e n)
   meet-sends {x} {y} {k} {d} l (ask l′ o w) = subst (λ (c : Side). MeetSends G S x y k c (probe y x k)) (lt-side l′ l) (m-ask o w)
-  meet-sends {x} {y} {k} {d} l (call {z = z} {d = c} l′ o w e) = subst (λ (b : Side). MeetSends G S x y k b (pull z (not (bitOf G k x)) k (opp c))) (lt-side l′ l) (m-call o w e)
+  meet-sends {x} {y} {k} {d} l (call {z = z} {d = c} l′ o w e) =
+      subst (λ (b : Side). MeetSends G S x y k b (pull z (not (bitOf G k x)) k (opp c))) (lt-side l′ l) (m-call o w e)
 
 -- the ways that the three rules can go
 pub data View (G : World) (S : State) (st : SeatState) : Msg → Effect → Type 0 where
   v-same : {x y k : ℕ} {d : Side} → Lt (G .num) d x y → S .link x k d ≡ some y → View G S st (meet x y k) (sending [])
-  v-near : {x y k o : ℕ} {d : Side} → Lt (G .num) d x y → S .link x k d ≡ some o → Lt (G .num) d o y → View G S st (meet x y k) (sending (meet o y k ∷ []))
-  v-set : {x y k : ℕ} {d : Side} → Lt (G .num) d x y → Old G S x k d y → View G S st (meet x y k) (setting (G .W) (G .num) (G .vec) (entryIn G S st x) x y k d)
+  v-near : {x y k o : ℕ} {d : Side} → Lt (G .num) d x y → S .link x k d ≡ some o → Lt (G .num) d o y
+      → View G S st (meet x y k) (sending (meet o y k ∷ []))
+  v-set : {x y k : ℕ} {d : Side} → Lt (G .num) d x y → Old G S x k d y
+      → View G S st (meet x y k) (setting (G .W) (G .num) (G .vec) (entryIn G S st x) x y k d)
   v-up : {x y k : ℕ} → k < share G x y → View G S st (probe x y k) (sending (meet x y (suc k) ∷ []))
-  v-pass : {x y k : ℕ} {d : Side} → ¬ (k < share G x y) → Lt (G .num) d y x → View G S st (probe x y k) (sending (toLink (S .link x k d) (λ z. probe z y k)))
+  v-pass : {x y k : ℕ} {d : Side} → ¬ (k < share G x y) → Lt (G .num) d y x
+      → View G S st (probe x y k) (sending (toLink (S .link x k d) (λ z. probe z y k)))
   v-hit : {x k : ℕ} {b : Bool} {d : Side} → bitOf G k x ≡ b → View G S st (pull x b k d) (sending (toLink (S .link x k (opp d)) (λ z. probe z x k)))
   v-go : {x k : ℕ} {b : Bool} {d : Side} → bitOf G k x ≢ b → View G S st (pull x b k d) (sending (toLink (S .link x k d) (λ z. pull z b k d)))
 
 module _ (G : World) (S : State) (st : SeatState) where
-  meeting-view : {x y k : ℕ} {d : Side} → Proper G S → G .Seated y → Lt (G .num) d x y → (v : Option ℕ) → S .link x k d ≡ v → View G S st (meet x y k) (meeting (G .W) (G .num) (G .vec) (entryIn G S st x) x y k d v)
+  meeting-view : {x y k : ℕ} {d : Side} → Proper G S → G .Seated y → Lt (G .num) d x y → (v : Option ℕ) → S .link x k d ≡ v
+      → View G S st (meet x y k) (meeting (G .W) (G .num) (G .vec) (entryIn G S st x) x y k d v)
   unfolding meeting
   meeting-view h sy l none e = v-set l (no-old e)
   meeting-view {x} {y} {k} {d} h sy l (some o) e = by (eqb o y) refl (onSide d (G .num o) (G .num y)) refl
@@ -88,7 +95,8 @@ module _ (G : World) (S : State) (st : SeatState) where
       by false p true q = v-near l e (on-lt (G .num) d o y (true-T q))
       by false p false q = v-set l (far o e (beyond p q (seat-tri G d o y (h .link-pair e .snd) sy)))
 
-  meet-view : {x y k : ℕ} → Proper G S → Pair G k x y → x ≢ y → View G S st (meet x y k) (effect (G .W) (G .num) (G .vec) (entryIn G S st x) (meet x y k))
+  meet-view : {x y k : ℕ} → Proper G S → Pair G k x y → x ≢ y
+      → View G S st (meet x y k) (effect (G .W) (G .num) (G .vec) (entryIn G S st x) (meet x y k))
   unfolding effect
   meet-view {x} {y} {k} h p ne =
       let q = seat-side G x y (p .fst) (p .snd) ne in
@@ -105,7 +113,8 @@ module _ (G : World) (S : State) (st : SeatState) where
       e : sideOf (G .num x) (G .num y) ≡ q .0
       e = side-of (G .num) (q .1)
 
-      by : (b : Bool) → ltb k (share G x y) ≡ b → View G S st (probe x y k) (sending (cond b (meet x y (suc k) ∷ []) (toLink (S .link x k (opp (q .0))) (λ z. probe z y k))))
+      by : (b : Bool) → ltb k (share G x y) ≡ b
+          → View G S st (probe x y k) (sending (cond b (meet x y (suc k) ∷ []) (toLink (S .link x k (opp (q .0))) (λ z. probe z y k))))
       by true t = v-up (ltb-true k (share G x y) t)
       by false t = v-pass (λ w. true-false (lt-ltb k (share G x y) w) t) (lt-opp (q .1))
 
@@ -113,7 +122,8 @@ module _ (G : World) (S : State) (st : SeatState) where
   unfolding effect pulling
   pull-view {x} {k} {b} {d} = by (sameBit (bitOf G k x) b) refl
     where
-      by : (t : Bool) → sameBit (bitOf G k x) b ≡ t → View G S st (pull x b k d) (sending (cond t (toLink (S .link x k (opp d)) (λ z. probe z x k)) (toLink (S .link x k d) (λ z. pull z b k d))))
+      by : (t : Bool) → sameBit (bitOf G k x) b ≡ t
+          → View G S st (pull x b k d) (sending (cond t (toLink (S .link x k (opp d)) (λ z. probe z x k)) (toLink (S .link x k d) (λ z. pull z b k d))))
       by true e = v-hit (same-eq (bitOf G k x) b e)
       by false e = v-go (λ q. true-false (eq-same (bitOf G k x) b q) e)
 
@@ -129,11 +139,13 @@ module _ (G : World) (S : State) (st : SeatState) where
   Is m e = Right (Sends G S) (Sets G S) m e
 
   -- nothing is set where the link is y or nearer
-  none-set : {x y k o : ℕ} {d : Side} {A : Type 0} → Lt (G .num) d x y → S .link x k d ≡ some o → (o ≡ y) ⊎ Lt (G .num) d o y → {a j : ℕ} {c : Side} {v : Option ℕ} → Sets G S (meet x y k) a j c v → A
+  none-set : {x y k o : ℕ} {d : Side} {A : Type 0} → Lt (G .num) d x y → S .link x k d ≡ some o → (o ≡ y) ⊎ Lt (G .num) d o y
+      → {a j : ℕ} {c : Side} {v : Option ℕ} → Sets G S (meet x y k) a j c v → A
   none-set {x} {y} {k} l e u (sets l′ p) = not-old e u (subst (λ (s : Side). Old G S x k s y) (lt-side l′ l) p)
 
   right-same : {x y k : ℕ} {d : Side} → Lt (G .num) d x y → S .link x k d ≡ some y → Is (meet x y k) (sending [])
-  right-same {x} {y} {k} {d} l e = record { all = λ s. by (meet-sends l s); mem = λ m. absurd (List·Memᴰ·not-nil m); puts = λ s. none-set l e (inl refl) s; sets = λ f. keep-set f }
+  right-same {x} {y} {k} {d} l e =
+      record { all = λ s. by (meet-sends l s); mem = λ m. absurd (List·Memᴰ·not-nil m); puts = λ s. none-set l e (inl refl) s; sets = λ f. keep-set f }
     where
       by : {n : Msg} → MeetSends G S x y k d n → List·Memᴰ n []
       by (m-on f n) = absurd (lt-ne n (cc))
@@ -157,9 +169,11 @@ module _ (G : World) (S : State) (st : SeatState) where
       by (m-ask p w) = not-old e (inr q) p
       by (m-call p w f) = not-old e (inr q) p
 
-  right-set : {x y k : ℕ} {d : Side} → Lt (G .num) d x y → Old G S x k d y → Is (meet x y k) (setting (G .W) (G .num) (G .vec) (entryIn G S st x) x y k d)
+  right-set : {x y k : ℕ} {d : Side} → Lt (G .num) d x y → Old G S x k d y
+      → Is (meet x y k) (setting (G .W) (G .num) (G .vec) (entryIn G S st x) x y k d)
   unfolding setting
-  right-set {x} {y} {k} {d} l p = record { all = λ s. by (meet-sends l s); mem = λ m. head (List·Memᴰ·cases-cons m); puts = λ s. ps s; sets = λ f. st-is f }
+  right-set {x} {y} {k} {d} l p =
+      record { all = λ s. by (meet-sends l s); mem = λ m. head (List·Memᴰ·cases-cons m); puts = λ s. ps s; sets = λ f. st-is f }
     where
       old : List Msg
       old = toLink (S .link x k d) (λ o. meet y o k)
@@ -206,7 +220,8 @@ module _ (G : World) (S : State) (st : SeatState) where
           Put (set j c v) = Sets G S (meet x y k) x j c v
 
   -- one message to a link, and no link set
-  right-link : {m : Msg} (o : Option ℕ) (f : ℕ → Msg) → ((z : ℕ) → o ≡ some z → Sends G S m (f z)) → ((n : Msg) → Sends G S m n → (z : ℕ) × (o ≡ some z) × (n ≡ f z))
+  right-link : {m : Msg} (o : Option ℕ) (f : ℕ → Msg) → ((z : ℕ) → o ≡ some z → Sends G S m (f z))
+      → ((n : Msg) → Sends G S m n → (z : ℕ) × (o ≡ some z) × (n ≡ f z))
       → ((x k : ℕ) (d : Side) (v : Option ℕ) → Sets G S m x k d v → ⊥) → Is m (sending (toLink o f))
   right-link {m} o f g h z = record {
     all = λ {n} s. let q = h n s in subst (λ (a : Msg). List·Memᴰ a (toLink o f)) (sym (q .2)) (link-in o f (q .1));
@@ -216,13 +231,15 @@ module _ (G : World) (S : State) (st : SeatState) where
   }
 
   right-up : {x y k : ℕ} → k < share G x y → Is (probe x y k) (sending (meet x y (suc k) ∷ []))
-  right-up {x} {y} {k} q = record { all = λ s. by s; mem = λ m. subst (Sends G S (probe x y k)) (sym (List·Memᴰ·eq-of-singleton m)) (up q); puts = λ s. elim s [ ]; sets = λ e. keep-set e }
+  right-up {x} {y} {k} q =
+      record { all = λ s. by s; mem = λ m. subst (Sends G S (probe x y k)) (sym (List·Memᴰ·eq-of-singleton m)) (up q); puts = λ s. elim s [ ]; sets = λ e. keep-set e }
     where
       by : {n : Msg} → Sends G S (probe x y k) n → List·Memᴰ n (meet x y (suc k) ∷ [])
       by (up p) = List·Memᴰ·head refl
       by (pass p l e) = absurd (p q)
 
-  right-pass : {x y k : ℕ} {d : Side} → ¬ (k < share G x y) → Lt (G .num) d y x → Is (probe x y k) (sending (toLink (S .link x k d) (λ z. probe z y k)))
+  right-pass : {x y k : ℕ} {d : Side} → ¬ (k < share G x y) → Lt (G .num) d y x
+      → Is (probe x y k) (sending (toLink (S .link x k d) (λ z. probe z y k)))
   right-pass {x} {y} {k} {d} q l = right-link (S .link x k d) (λ z. probe z y k) (λ z e. pass q l e) (λ n s. by s) (λ a j c v s. elim s [ ])
     where
       by : {n : Msg} → Sends G S (probe x y k) n → (z : ℕ) × (S .link x k d ≡ some z) × (n ≡ probe z y k)

@@ -1,28 +1,23 @@
 -- What every meaning that calls reach has: it is sound, and its phase's invariant holds. It is kept by deliveries; with nothing pending
 -- the links are the graph of the members; and each accepted delivery lowers the bound. Assumes nothing.
-use Prim.Native.Nat.{ℕ, zero, suc, _+_, _^_, _≤_, _<_}
-use mathlib.Core.Path.{_≡_, refl, sym, _∙_, ap, subst}
-use mathlib.Core.Logic.{_⊎_, inl, inr}
+use Prim.Native.Nat.{ℕ, _^_, _<_}
+use mathlib.Core.Path.{_≡_, refl}
 use mathlib.Core.Option.{Option, none, some}
-use mathlib.Core.Bool.{Bool, true, false, cond}
-use native.Mathlib.Omega.{arith}
+use mathlib.Core.Bool.{cond}
 use lib.Dec.{T}
 use Rattle.graph.specs.Side.{Side}
-use Rattle.graph.specs.Graph.{Lots, Links, IsGraph}
-use Rattle.graph.proofs.Order.{Lt}
+use Rattle.graph.specs.Graph.{Links, IsGraph, Laws as LotLaws}
 use Rattle.graph.proofs.Tests.{dec-T}
-use Rattle.graph.proofs.Laws as G
 use Rattle.graph.proofs.Neighbour.{InList, Nearest, nobody, nearest, nearest-graph}
-use Rattle.protocol.specs.Message.{Msg, Name, named, nameOf}
-use Rattle.protocol.specs.Numbering.{exists}
+use Rattle.protocol.specs.Message.{Msg, nameOf}
 use Rattle.protocol.specs.State.{Phase, open-phase, clearing, Roster, Meaning, isClearing, seated, stays, member, members}
 use Rattle.protocol.specs.Calls.{rule}
 use Rattle.protocol.specs.Sound.{numberBits, Sound}
-use Rattle.protocol.proofs.World.{World, State, Quiet, Pair, pair-level}
-use Rattle.protocol.proofs.Delivery.{Delivery, Right, stateOf, delivered, delivers}
+use Rattle.protocol.proofs.World.{World, Quiet, Pair, pair-level}
+use Rattle.protocol.proofs.Delivery.{stateOf, delivered, delivers}
 use Rattle.protocol.proofs.Open as Open
 use Rattle.protocol.proofs.OpenEffect as OpenEffect
-use Rattle.protocol.proofs.Settled.{Next, Exact}
+use Rattle.protocol.proofs.Settled.{Exact}
 use Rattle.protocol.proofs.Invariant.{Invariant, invariant-kept, invariant-quiet}
 use Rattle.protocol.proofs.Clearing as Clearing
 use Rattle.protocol.proofs.ClearingEffect as ClearingEffect
@@ -62,34 +57,39 @@ module _ {N W : ℕ} {M : Meaning} (h : Sound N W M) where
 
 module _ (W : ℕ) (M : Meaning) (m : Msg) (t : T (M .pending m)) (l : Laws (M .roster)) where
   -- the effect of a pending message, in each phase
-  open-effect : Invariant (worldOf W (M .roster) l) (stateOf M) → OpenEffect.View (worldOf W (M .roster) l) (stateOf M) (M .roster .state (nameOf m .to)) m (rule W M m)
+  open-effect : Invariant (worldOf W (M .roster) l) (stateOf M)
+      → OpenEffect.View (worldOf W (M .roster) l) (stateOf M) (M .roster .state (nameOf m .to)) m (rule W M m)
   unfolding rule
   open-effect i = OpenEffect.open-view (worldOf W (M .roster) l) (stateOf M) (M .roster .state (nameOf m .to)) (i .proper) (i .proper .pend-ok t)
 
-  clearing-effect : {L : Links} → Clearing.Clearing (worldOf W (M .roster) l) (Stayer (M .roster)) L (stateOf M) → ClearingEffect.View (worldOf W (M .roster) l) (stateOf M) (Stayer (M .roster)) m (rule W M m)
+  clearing-effect : {L : Links} → Clearing.Clearing (worldOf W (M .roster) l) (Stayer (M .roster)) L (stateOf M)
+      → ClearingEffect.View (worldOf W (M .roster) l) (stateOf M) (Stayer (M .roster)) m (rule W M m)
   unfolding rule
   clearing-effect c = ClearingEffect.clearing-view (worldOf W (M .roster) l) (stateOf M) (M .roster .state) (c .ok t)
 
   open-delivery : Invariant (worldOf W (M .roster) l) (stateOf M) → Open.Opened (worldOf W (M .roster) l) (stateOf M) m (stateOf (delivered W M m))
   open-delivery i = delivers W M m (OpenEffect.view-right (worldOf W (M .roster) l) (stateOf M) (M .roster .state (nameOf m .to)) (open-effect i)) t
 
-  clearing-delivery : {L : Links} → Clearing.Clearing (worldOf W (M .roster) l) (Stayer (M .roster)) L (stateOf M) → Clearing.Cleared (worldOf W (M .roster) l) (Stayer (M .roster)) (stateOf M) m (stateOf (delivered W M m))
+  clearing-delivery : {L : Links} → Clearing.Clearing (worldOf W (M .roster) l) (Stayer (M .roster)) L (stateOf M)
+      → Clearing.Cleared (worldOf W (M .roster) l) (Stayer (M .roster)) (stateOf M) m (stateOf (delivered W M m))
   clearing-delivery c = delivers W M m (ClearingEffect.view-right (clearing-effect c)) t
 
 -- a delivery keeps the invariant
 pub sane-deliver : {W : ℕ} {M : Meaning} {p : Phase} → Sane W M p → (m : Msg) → T (M .pending m) → Sane W (delivered W M m) p
 sane-deliver {W} {M} (in-open i) m t = in-open (λ l. invariant-kept (i l) (open-delivery W M m t l (i l)))
-sane-deliver {W} {M} (in-clearing L a c) m t = in-clearing L a (λ l. Clearing.clearing-kept (a l) (λ z. dec-T (stays (M .roster) z)) (c l) (clearing-delivery W M m t l (c l)))
+sane-deliver {W} {M} (in-clearing L a c) m t =
+    in-clearing L a (λ l. Clearing.clearing-kept (a l) (λ z. dec-T (stays (M .roster) z)) (c l) (clearing-delivery W M m t l (c l)))
 
 -- a delivery lowers the bound
-weight-less : {N W : ℕ} {M : Meaning} {p : Phase} → Sound N W M → Sane W M p → (m : Msg) → T (M .pending m) → weight N W p (delivered W M m) < weight N W p M
+weight-less : {N W : ℕ} {M : Meaning} {p : Phase} → Sound N W M → Sane W M p → (m : Msg) → T (M .pending m)
+    → weight N W p (delivered W M m) < weight N W p M
 unfolding weight
 weight-less {N} {W} {M} h (in-open i) m t =
     let l = sound-laws h in
     let v = open-effect W M m t l (i l) in
     let G = worldOf W (M .roster) l in
     open-less N W G M (delivered W M m) (i l .proper .pend-ok t) (open-delivery W M m t l (i l)) (OpenEffect.view-right G (stateOf M) _ v)
-        (view-cost G (stateOf M) _ (i l .proper) v) (pending-exists h m t) (λ x k y p. (h .seats x (p .fst), pair-level p))
+    (view-cost G (stateOf M) _ (i l .proper) v) (pending-exists h m t) (λ x k y p. (h .seats x (p .fst), pair-level p))
 weight-less {N} {W} {M} h (in-clearing L a c) m t =
     let l = sound-laws h in
     let v = clearing-effect W M m t l (c l) in
@@ -117,7 +117,7 @@ member-seated r x t = by (r .phase) t
     by open-phase t = t
     by clearing t = stays-seated r x t
 
-pub members-laws : {N W : ℕ} {M : Meaning} → Sound N W M → G.Laws N (members (M .roster))
+pub members-laws : {N W : ℕ} {M : Meaning} → Sound N W M → LotLaws N (members (M .roster))
 members-laws {M = M} h = record {
   seat = λ x t. h .seats x (member-seated (M .roster) x t);
   differ = λ x y t u e. h .differ x y (member-seated (M .roster) x t) (member-seated (M .roster) y u) e;
@@ -125,7 +125,8 @@ members-laws {M = M} h = record {
 
 module _ {W : ℕ} (M : Meaning) (l : Laws (M .roster)) {x k : ℕ} {d : Side} where
   -- phase open: the exact links
-  open-nearest : M .roster .phase ≡ open-phase → Exact (worldOf W (M .roster) l) (stateOf M) k → T (seated (M .roster) x) → (v : Option ℕ) → M .link x k d ≡ v → Nearest W (members (M .roster)) k x d v
+  open-nearest : M .roster .phase ≡ open-phase → Exact (worldOf W (M .roster) l) (stateOf M) k → T (seated (M .roster) x) → (v : Option ℕ)
+      → M .link x k d ≡ v → Nearest W (members (M .roster)) k x d v
   open-nearest e h sx v f = by v f
     where
       inn : {z : ℕ} → InList W (members (M .roster)) k x z → Pair (worldOf W (M .roster) l) k x z
@@ -139,7 +140,8 @@ module _ {W : ℕ} (M : Meaning) (l : Laws (M .roster)) {x k : ℕ} {d : Side} w
       by (some y) f = nearest (out (h .next f .pair)) (h .next f .side) (λ z q b. h .next f .least z (inn q) b)
 
   -- phase clearing: the targets
-  clearing-nearest : M .roster .phase ≡ clearing → T (stays (M .roster) x) → {v : Option ℕ} → Clearing.Target (worldOf W (M .roster) l) (Stayer (M .roster)) k x d v → Nearest W (members (M .roster)) k x d v
+  clearing-nearest : M .roster .phase ≡ clearing → T (stays (M .roster) x) → {v : Option ℕ}
+      → Clearing.Target (worldOf W (M .roster) l) (Stayer (M .roster)) k x d v → Nearest W (members (M .roster)) k x d v
   clearing-nearest e sx b = by b
     where
       mem : (z : ℕ) → InList W (members (M .roster)) k x z → T (stays (M .roster) z)
@@ -150,17 +152,21 @@ module _ {W : ℕ} (M : Meaning) (l : Laws (M .roster)) {x k : ℕ} {d : Side} w
 
       by : {v : Option ℕ} → Clearing.Target (worldOf W (M .roster) l) (Stayer (M .roster)) k x d v → Nearest W (members (M .roster)) k x d v
       by (Clearing.nobody f) = nobody (λ z q b. f z (inn q) (mem z q) b)
-      by (Clearing.nearest {y = y} p s m f) = nearest {y = y} (record { member = rw (member-clearing (M .roster) y e) s; same = refl; bits = p .bits }) m (λ z q b. f z (inn q) (mem z q) b)
+      by (Clearing.nearest {y = y} p s m f) =
+          nearest {y = y} (record { member = rw (member-clearing (M .roster) y e) s; same = refl; bits = p .bits }) m (λ z q b. f z (inn q) (mem z q) b)
 
 -- nothing pending: the links are the graph of the members
 pub reached-graph : {N W : ℕ} {M : Meaning} → Reached N W M → Quiet (stateOf M) → IsGraph N W (members (M .roster)) (M .link)
-reached-graph {N} {W} {M} g q = record { link = λ x k d t w. nearest-graph (members-laws (g .sound)) (near (M .roster .phase) refl (g .sane) x k d t) }
+reached-graph {N} {W} {M} g q =
+    record { link = λ x k d t w. nearest-graph (members-laws (g .sound)) (near (M .roster .phase) refl (g .sane) x k d t) }
   where
     l : Laws (M .roster)
     l = sound-laws (g .sound)
 
-    near : (p : Phase) → M .roster .phase ≡ p → Sane W M p → (x k : ℕ) (d : Side) → T (member (M .roster) x) → Nearest W (members (M .roster)) k x d (M .link x k d)
-    near open-phase e (in-open i) x k d t = open-nearest M l e (invariant-quiet (i l) q k) (rw (member-open (M .roster) x e) at t) (M .link x k d) refl
+    near : (p : Phase) → M .roster .phase ≡ p → Sane W M p → (x k : ℕ) (d : Side) → T (member (M .roster) x)
+        → Nearest W (members (M .roster)) k x d (M .link x k d)
+    near open-phase e (in-open i) x k d t =
+        open-nearest M l e (invariant-quiet (i l) q k) (rw (member-open (M .roster) x e) at t) (M .link x k d) refl
     near clearing e (in-clearing L a c) x k d t =
         let s = rw (member-clearing (M .roster) x e) at t in
         clearing-nearest M l e s (Clearing.clearing-quiet (c l) q x k d (stays-seated (M .roster) x s) s)

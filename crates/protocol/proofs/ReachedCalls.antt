@@ -1,40 +1,32 @@
 -- Join and leave keep what every reached meaning has. Assumes nothing.
-use Prim.Native.Nat.{ℕ, zero, suc, _+_, _^_, _≤_, _<_}
+use Prim.Native.Nat.{ℕ, _^_, _<_}
 use mathlib.Core.Path.{_≡_, refl, sym, _∙_, ap, subst, subst₂, fun-ext}
 use mathlib.Core.Logic.{_⊎_, inl, inr, _≢_}
 use mathlib.Core.Option.{Option, none, some}
 use mathlib.Core.Bool.{Bool, true, false, not, cond, _&&_}
-use mathlib.Core.List.{List, [], _∷_, _++_, List·Memᴰ, List·Memᴰ·head, List·Memᴰ·not-nil, List·Memᴰ·eq-of-singleton, Memᴰ·append-left, Memᴰ·append-right}
+use mathlib.Core.List.{List, [], _∷_, List·Memᴰ, List·Memᴰ·head, List·Memᴰ·not-nil, List·Memᴰ·eq-of-singleton}
 use native.Mathlib.Omega.{arith}
 use native.Mathlib.Decide.{decLt, ℕ-discrete}
 use lib.Dec.{T, eqb, ltb}
 use borrow.Author.Tests.{eq-eqb, ne-eqb, lt-ltb, le-ltb}
-use Rattle.graph.specs.Side.{Side, left, right, opp}
+use Rattle.graph.specs.Side.{Side}
 use Rattle.graph.specs.Graph.{Links}
-use Rattle.graph.proofs.Order.{opp-opp}
-use Rattle.graph.proofs.Tests.{dec-T, T-true, not-T-false, false-T, true-false, none-some}
-use Rattle.protocol.specs.Message.{Msg, meet, going, nameOf, among}
-use Rattle.protocol.specs.Numbering.{any}
-use Rattle.protocol.specs.Rules.{SeatState, free, staying, leaving, isStaying}
-use Rattle.protocol.specs.State.{Phase, open-phase, clearing, Roster, Meaning, isFree, isLeaving, seated, stays, leaves}
-use Rattle.protocol.specs.Table.{Call, join, leave, turn, refusal}
-use Rattle.protocol.specs.Calls.{at, freed, afterTurn, rosterAfter, each, farewell, farewells, turnSends, sends, takes, isTaken, pendingAfter, unlinked, turnLinks, linksAfter, accept}
+use Rattle.graph.proofs.Tests.{false-T, true-false}
+use Rattle.protocol.specs.Message.{Msg, meet, nameOf, among}
+use Rattle.protocol.specs.Rules.{SeatState, staying, leaving}
+use Rattle.protocol.specs.State.{open-phase, Roster, Meaning, isFree, seated}
+use Rattle.protocol.specs.Table.{join, leave}
+use Rattle.protocol.specs.Calls.{at, rosterAfter, sends, takes, isTaken, pendingAfter, linksAfter, accept}
 use Rattle.protocol.specs.Sound.{numberBits, Sound}
-use Rattle.protocol.proofs.Any.{any-none}
 use Rattle.protocol.proofs.Message.{among-mem, mem-among}
-use Rattle.protocol.proofs.Calls.{at-same, at-other, after-came, after-kept, after-only, link-in, each-in}
-use Rattle.protocol.proofs.World.{World, State, Quiet, Pair}
+use Rattle.protocol.proofs.Calls.{at-same, at-other, after-came, after-kept, after-only}
 use Rattle.protocol.proofs.Delivery.{stateOf}
 use Rattle.protocol.proofs.Open.{ok-to}
-use Rattle.protocol.proofs.Settled.{Exact}
-use Rattle.protocol.proofs.Invariant.{Invariant, invariant-quiet, invariant-first}
+use Rattle.protocol.proofs.Invariant.{Invariant, invariant-first}
 use Rattle.protocol.proofs.Join.{Grows, Meets, invariant-join}
-use Rattle.protocol.proofs.Clearing.{Target, nobody, nearest, AllLinks, Clearing, clearing-quiet}
-use Rattle.protocol.proofs.Turn.{exact-links, clearing-start, Shrinks, clearing-end}
-use Rattle.protocol.proofs.SoundFacts.{stays-seated, two-level, link-linked}
+use Rattle.protocol.proofs.SoundFacts.{link-linked}
 use Rattle.protocol.proofs.Accepted.{Joins, Leaves}
-use Rattle.protocol.proofs.KeepTurn.{Farewell, farewell-out}
-use Rattle.protocol.proofs.Reached.{Laws, sound-laws, worldOf, Stayer, Sane, in-open, in-clearing}
+use Rattle.protocol.proofs.Reached.{Laws, sound-laws, worldOf, Sane, in-open}
 
 -- the pending messages after a call that takes none
 module _ (sent : List Msg) (p : Msg → Bool) where
@@ -112,7 +104,8 @@ module _ {N W : ℕ} {M : Meaning} (h : Sound N W M) (s n v c : ℕ) (ok : Joins
       sent : Bool → List Msg
       sent b = cond b (meet c s 0 ∷ []) []
 
-      meets : (b : Bool) → b ≡ true → Meets (stateOf M) (record { link = λ x k d. cond (eqb x s) none (M .link x k d); pend = λ m. T (pendingAfter (sent b) none (M .pending) m) }) c s
+      meets : (b : Bool) → b ≡ true
+          → Meets (stateOf M) (record { link = λ x k d. cond (eqb x s) none (M .link x k d); pend = λ m. T (pendingAfter (sent b) none (M .pending) m) }) c s
       meets true e = record {
         same-link = same-link;
         kept = λ m t. after-old (sent true) (M .pending) m t;
@@ -130,7 +123,8 @@ module _ {N W : ℕ} {M : Meaning} (h : Sound N W M) (s n v c : ℕ) (ok : Joins
 
       by : Dec (c < N) → Sane W (accept N W M (join s n v c)) open-phase
       by (yes p) = in-open (λ l′. invariant-join (grows l l′) (meets (ltb c N) (lt-ltb c N p)) (ok .contact p) (i l))
-      by (no p) = in-open (λ l′. invariant-first (worldOf W r′ l′) _ alone (λ x k d. same-link x k d ∙ bare x k d (M .link x k d) refl) (λ m t. silent (ltb c N) (le-ltb c N (omega arith)) m t))
+      by (no p) =
+          in-open (λ l′. invariant-first (worldOf W r′ l′) _ alone (λ x k d. same-link x k d ∙ bare x k d (M .link x k d) refl) (λ m t. silent (ltb c N) (le-ltb c N (omega arith)) m t))
         where
           nobody-in : (x : ℕ) → T (seated r x) → ⊥
           nobody-in x t = ok .alone (omega arith) x (h .seats x t) t
@@ -177,7 +171,8 @@ module _ (W : ℕ) (num vec : ℕ → ℕ) (L : Links) (small : (x : ℕ) → nu
   Differ f = (x y : ℕ) → T (f x) → T (f y) → num x ≡ num y → x ≡ y
 
   abbrev Holds : (ℕ → Bool) → (Msg → Bool) → Type 0
-  Holds f p = (a : Differ f) → Invariant (record { W = W; Seated = λ x. T (f x); num = num; vec = vec; comp = λ x. 0; small = small; differ = a }) (record { link = L; pend = λ m. T (p m) })
+  Holds f p =
+      (a : Differ f) → Invariant (record { W = W; Seated = λ x. T (f x); num = num; vec = vec; comp = λ x. 0; small = small; differ = a }) (record { link = L; pend = λ m. T (p m) })
 
   same-holds : {f g : ℕ → Bool} {p q : Msg → Bool} → f ≡ g → p ≡ q → Holds f p → Holds g q
   same-holds e e′ h = subst₂ Holds e e′ h
@@ -185,5 +180,6 @@ module _ (W : ℕ) (num vec : ℕ → ℕ) (L : Links) (small : (x : ℕ) → nu
 module _ {N W : ℕ} (M : Meaning) (s : ℕ) (ok : Leaves N W (M .roster) (M .pending) s) where
   pub sane-leave : Sane W M open-phase → Sane W (accept N W M (leave s)) open-phase
   unfolding accept linksAfter sends takes rosterAfter
-  sane-leave (in-open i) = in-open (λ l. same-holds W (M .roster .number) (M .roster .vector) (M .link) (l .small) (sym (seated-leave N (M .roster) s (ok .occupied))) (sym (after-none (M .pending)))
+  sane-leave (in-open i) =
+      in-open (λ l. same-holds W (M .roster .number) (M .roster .vector) (M .link) (l .small) (sym (seated-leave N (M .roster) s (ok .occupied))) (sym (after-none (M .pending)))
       (λ a. i (record { small = l .small; differ = a })) (l .differ))

@@ -16,24 +16,26 @@ use Rattle.protocol.specs.Numbering.{any}
 use Rattle.protocol.specs.Rules.{SeatState, free, staying, leaving, isStaying}
 use Rattle.protocol.specs.State.{Phase, open-phase, clearing, Roster, Meaning, isFree, isLeaving, seated, stays, leaves}
 use Rattle.protocol.specs.Table.{turn}
-use Rattle.protocol.specs.Calls.{freed, afterTurn, rosterAfter, each, farewell, farewells, turnSends, sends, takes, pendingAfter, unlinked, turnLinks, linksAfter, accept}
+use Rattle.protocol.specs.Calls.{freed, afterTurn, rosterAfter, each, farewell, farewells, turnSends, sends, takes, pendingAfter, unlinked}
+use Rattle.protocol.specs.Calls.{turnLinks, linksAfter, accept}
 use Rattle.protocol.specs.Sound.{Sound}
 use Rattle.protocol.proofs.Any.{any-none}
 use Rattle.protocol.proofs.Calls.{link-in, each-in}
-use Rattle.protocol.proofs.World.{World, State, Quiet, Pair}
+use Rattle.protocol.proofs.World.{World, Quiet}
 use Rattle.protocol.proofs.Delivery.{stateOf}
 use Rattle.protocol.proofs.Settled.{Exact}
 use Rattle.protocol.proofs.Invariant.{invariant-quiet}
-use Rattle.protocol.proofs.Clearing.{Target, nobody, nearest, AllLinks, Clearing, clearing-quiet}
+use Rattle.protocol.proofs.Clearing.{Target, nobody, nearest, clearing-quiet}
 use Rattle.protocol.proofs.Turn.{exact-links, clearing-start, Shrinks, clearing-end}
 use Rattle.protocol.proofs.SoundFacts.{stays-seated, two-level, link-linked}
-use Rattle.protocol.proofs.KeepTurn.{Farewell, farewell-out, unlinked-some}
+use Rattle.protocol.proofs.KeepTurn.{farewell-out, unlinked-some}
 use Rattle.protocol.proofs.Reached.{Laws, sound-laws, worldOf, Stayer, Sane, in-open, in-clearing}
 use Rattle.protocol.proofs.ReachedCalls.{after-only-sent, after-sent, after-none}
 
 -- the meaning after a turn in phase p
 abbrev pub turned : (N W : ℕ) → Meaning → Phase → Meaning
-turned N W M p = record { roster = afterTurn N p (M .roster); link = turnLinks p (M .roster) (M .link); pending = pendingAfter (turnSends N W p M) none (M .pending) }
+turned N W M p =
+    record { roster = afterTurn N p (M .roster); link = turnLinks p (M .roster) (M .link); pending = pendingAfter (turnSends N W p M) none (M .pending) }
 
 -- no leavers: nobody sends
 each-nothing : (n : ℕ) (f : ℕ → List Msg) → ((i : ℕ) → i < n → f i ≡ []) → each n f ≡ []
@@ -43,7 +45,8 @@ each-nothing (suc n) f h = rw (each-nothing n f (λ i l. h i (omega arith)), h n
 
 farewells-none : (N W : ℕ) (r : Roster) (L : Links) → any N (leaves r) ≡ false → farewells N W r L ≡ []
 unfolding farewells
-farewells-none N W r L e = each-nothing N (λ y. cond (leaves r y) (each (suc W) (λ k. farewell L y k left ++ farewell L y k right)) []) (λ y l. by (leaves r y) (not-T-false (λ t. any-none N (leaves r) e y l t)) y)
+farewells-none N W r L e =
+    each-nothing N (λ y. cond (leaves r y) (each (suc W) (λ k. farewell L y k left ++ farewell L y k right)) []) (λ y l. by (leaves r y) (not-T-false (λ t. any-none N (leaves r) e y l t)) y)
   where
     by : (b : Bool) → b ≡ false → (y : ℕ) → cond b (each (suc W) (λ k. farewell L y k left ++ farewell L y k right)) [] ≡ []
     by true f y = true-false refl f
@@ -53,7 +56,8 @@ farewells-none N W r L e = each-nothing N (λ y. cond (leaves r y) (each (suc W)
 pub turn-idle : (N W : ℕ) (M : Meaning) → M .roster .phase ≡ open-phase → any N (leaves (M .roster)) ≡ false → turned N W M open-phase ≡ M
 unfolding afterTurn turnLinks turnSends
 turn-idle N W M p e = λ i. record {
-  roster = record { phase = (ap (λ (b : Bool). cond b clearing open-phase) e ∙ sym p) i; state = M .roster .state; number = M .roster .number; vector = M .roster .vector };
+  roster =
+      record { phase = (ap (λ (b : Bool). cond b clearing open-phase) e ∙ sym p) i; state = M .roster .state; number = M .roster .number; vector = M .roster .vector };
   link = M .link;
   pending = (ap (λ (l : List Msg). pendingAfter l none (M .pending)) (farewells-none N W (M .roster) (M .link) e) ∙ after-none (M .pending)) i;
 }
@@ -75,9 +79,11 @@ leaves-off r x t = by (r .state x) t
     by leaving t = absurd t
 
 -- every leaver sends GOING to each of its links
-farewell-in : (N W : ℕ) (r : Roster) (L : Links) (y k x : ℕ) (d : Side) → y < N → k ≤ W → T (leaves r y) → L y k d ≡ some x → List·Memᴰ (going x k (opp d)) (farewells N W r L)
+farewell-in : (N W : ℕ) (r : Roster) (L : Links) (y k x : ℕ) (d : Side) → y < N → k ≤ W → T (leaves r y) → L y k d ≡ some x
+    → List·Memᴰ (going x k (opp d)) (farewells N W r L)
 unfolding farewells farewell
-farewell-in N W r L y k x d ly lk t e = each-in N (λ y. cond (leaves r y) (each (suc W) (λ k. farewell L y k left ++ farewell L y k right)) []) y ly (by (leaves r y) (T-true t))
+farewell-in N W r L y k x d ly lk t e =
+    each-in N (λ y. cond (leaves r y) (each (suc W) (λ k. farewell L y k left ++ farewell L y k right)) []) y ly (by (leaves r y) (T-true t))
   where
     side : (d : Side) → L y k d ≡ some x → List·Memᴰ (going x k (opp d)) (farewell L y k left ++ farewell L y k right)
     side left f = Memᴰ·append-left (farewell L y k right) (link-in (L y k left) (λ z. going z k right) f)
@@ -90,7 +96,8 @@ farewell-in N W r L y k x d ly lk t e = each-in N (λ y. cond (leaves r y) (each
 module _ {N W : ℕ} {M : Meaning} (h : Sound N W M) (q : Quiet (stateOf M)) where
   sane-shut : Sane W M open-phase → Sane W (turned N W M open-phase) clearing
   unfolding afterTurn turnLinks turnSends
-  sane-shut (in-open i) = in-clearing (M .link) (λ l. exact-links (Stayer (M .roster)) (exact l)) (λ l. clearing-start (Stayer (M .roster)) (exact l) (λ z. dec-T (stays (M .roster) z)) (λ x k d. refl) only told)
+  sane-shut (in-open i) =
+      in-clearing (M .link) (λ l. exact-links (Stayer (M .roster)) (exact l)) (λ l. clearing-start (Stayer (M .roster)) (exact l) (λ z. dec-T (stays (M .roster) z)) (λ x k d. refl) only told)
     where
       sent : List Msg
       sent = farewells N W (M .roster) (M .link)
@@ -98,7 +105,8 @@ module _ {N W : ℕ} {M : Meaning} (h : Sound N W M) (q : Quiet (stateOf M)) whe
       exact : (l : Laws (afterTurn N open-phase (M .roster))) (k : ℕ) → Exact (worldOf W (afterTurn N open-phase (M .roster)) l) (stateOf M) k
       exact l k = invariant-quiet (i (record { small = l .small; differ = l .differ })) q k
 
-      only : (m : Msg) → T (pendingAfter sent none (M .pending) m) → (x : ℕ) × (k : ℕ) × (d : Side) × (m ≡ going x k d) × T (seated (M .roster) x) × (k ≤ W)
+      only : (m : Msg) → T (pendingAfter sent none (M .pending) m)
+          → (x : ℕ) × (k : ℕ) × (d : Side) × (m ≡ going x k d) × T (seated (M .roster) x) × (k ≤ W)
       only m t = by (after-only-sent sent (M .pending) m t)
         where
           by : T (M .pending m) ⊎ List·Memᴰ m sent → (x : ℕ) × (k : ℕ) × (d : Side) × (m ≡ going x k d) × T (seated (M .roster) x) × (k ≤ W)
@@ -108,7 +116,8 @@ module _ {N W : ℕ} {M : Meaning} (h : Sound N W M) (q : Quiet (stateOf M)) whe
               let p = link-linked h (f .link) .0 in
               (f .told, f .level, opp (f .side), f .says, p .two, two-level p)
 
-      told : (y k x : ℕ) (d : Side) → ¬ (T (stays (M .roster) y)) → M .link y k (opp d) ≡ some x → T (pendingAfter sent none (M .pending) (going x k d))
+      told : (y k x : ℕ) (d : Side) → ¬ (T (stays (M .roster) y)) → M .link y k (opp d) ≡ some x
+          → T (pendingAfter sent none (M .pending) (going x k d))
       told y k x d ns e =
           let p = link-linked h e .0 in
           let m = farewell-in N W (M .roster) (M .link) y k x (opp d) (h .seats y (p .one)) (two-level p) (seated-leaves (M .roster) y (p .one) ns) e in
@@ -154,7 +163,8 @@ module _ {N W : ℕ} {M : Meaning} (h : Sound N W M) (q : Quiet (stateOf M)) whe
 
   sane-end : Sane W M clearing → Sane W (turned N W M clearing) open-phase
   unfolding turnLinks turnSends
-  sane-end (in-clearing L a c) = in-open (λ l′. clearing-end (shrinks l l′) (stateOf (turned N W M clearing)) (stateOf M) (clearing-quiet (c l) q) keep drop still)
+  sane-end (in-clearing L a c) =
+      in-open (λ l′. clearing-end (shrinks l l′) (stateOf (turned N W M clearing)) (stateOf M) (clearing-quiet (c l) q) keep drop still)
     where
       l : Laws (M .roster)
       l = sound-laws h
@@ -162,15 +172,19 @@ module _ {N W : ℕ} {M : Meaning} (h : Sound N W M) (q : Quiet (stateOf M)) whe
       still : (m : Msg) → T (pendingAfter [] none (M .pending) m) → ⊥
       still m t = q m (subst (λ (p : Msg → Bool). T (p m)) (after-none (M .pending)) t)
 
-      keep : (x k : ℕ) (d : Side) → T (seated (M .roster) x) → T (stays (M .roster) x) → cond (leaves (M .roster) x) none (unlinked (M .roster) (M .link x k d)) ≡ M .link x k d
+      keep : (x k : ℕ) (d : Side) → T (seated (M .roster) x) → T (stays (M .roster) x)
+          → cond (leaves (M .roster) x) none (unlinked (M .roster) (M .link x k d)) ≡ M .link x k d
       keep x k d sx st = rw (leaves-off (M .roster) x st) (unlinked-target (clearing-quiet (c l) q x k d sx st))
 
-      got : (x k : ℕ) (d : Side) (y : ℕ) (b : Bool) → leaves (M .roster) x ≡ b → Dec (T (stays (M .roster) x)) → cond b none (unlinked (M .roster) (M .link x k d)) ≡ some y → T (seated (M .roster) x) × T (stays (M .roster) x)
+      got : (x k : ℕ) (d : Side) (y : ℕ) (b : Bool) → leaves (M .roster) x ≡ b → Dec (T (stays (M .roster) x))
+          → cond b none (unlinked (M .roster) (M .link x k d)) ≡ some y → T (seated (M .roster) x) × T (stays (M .roster) x)
       got x k d y true f s e = none-some refl e
       got x k d y false f (yes s) e = (stays-seated (M .roster) x s, s)
-      got x k d y false f (no s) e = false-T f (seated-leaves (M .roster) x (link-linked h (unlinked-some (M .roster) (M .link x k d) y e .0) .0 .one) s)
+      got x k d y false f (no s) e =
+          false-T f (seated-leaves (M .roster) x (link-linked h (unlinked-some (M .roster) (M .link x k d) y e .0) .0 .one) s)
 
-      drop : (x k : ℕ) (d : Side) (y : ℕ) → cond (leaves (M .roster) x) none (unlinked (M .roster) (M .link x k d)) ≡ some y → T (seated (M .roster) x) × T (stays (M .roster) x)
+      drop : (x k : ℕ) (d : Side) (y : ℕ) → cond (leaves (M .roster) x) none (unlinked (M .roster) (M .link x k d)) ≡ some y
+          → T (seated (M .roster) x) × T (stays (M .roster) x)
       drop x k d y e = got x k d y (leaves (M .roster) x) refl (dec-T (stays (M .roster) x)) e
 
   -- every turn with nothing pending

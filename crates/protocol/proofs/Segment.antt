@@ -1,14 +1,12 @@
 -- Complete segments of a level's list (I3 of the proof on paper): from a lot to the next that shares one bit more with it, linked both
 -- ways. Its ends are connected one level up, or a message that will join them is on its way along it. Assumes nothing.
 use Prim.Native.Nat.{ℕ, zero, suc, _-_, _≤_, _<_}
-use mathlib.Core.Path.{_≡_, refl, sym, _∙_, ap, subst}
-use mathlib.Core.Logic.{_⊎_, inl, inr}
-use mathlib.Core.Option.{Option, some}
+use mathlib.Core.Path.{_≡_, sym, _∙_, ap, subst}
+use mathlib.Core.Option.{some}
 use native.Mathlib.Omega.{arith}
-use native.Mathlib.Decide.{decLt}
 use Rattle.graph.specs.Side.{Side, opp}
 use Rattle.graph.proofs.Order.{Lt, opp-opp, lt-trans}
-use Rattle.protocol.specs.Message.{Msg, probe, pull}
+use Rattle.protocol.specs.Message.{probe, pull}
 use Rattle.protocol.proofs.World.{World, State, share, bitOf, Pair, share-W, share-sym, share-trans, bit-eq, pair-trans}
 use Rattle.protocol.proofs.Open.{Proper}
 use Rattle.protocol.proofs.Conn.{Conn, csym}

@@ -14,7 +14,8 @@ use Rattle.protocol.proofs.World.{World, State, share, bitOf, share-sym
 use Rattle.protocol.proofs.Delivery.{link-cases}
 use Rattle.protocol.proofs.Open.{Sends, ask, call, up, pass, hit, go, Sets, sets, Opened, Proper, proper-kept}
 use Rattle.protocol.proofs.Conn.{Conn, cmeet, csym, conn-kept}
-use Rattle.protocol.proofs.Segment.{Segment, Todo, out, home, pullb, pullf, Done, joined, todo, Segments, rev, seg-level, seg-bits, seg-lt, seg-pair, seg-rev, done-rev}
+use Rattle.protocol.proofs.Segment.{Segment, Todo, out, home, pullb, pullf, Done, joined, todo, Segments, rev, seg-level, seg-bits, seg-lt}
+use Rattle.protocol.proofs.Segment.{seg-pair, seg-rev, done-rev}
 
 not-of : (b c : Bool) → c ≢ b → not b ≡ c
 not-of true true h = absurd (h refl)
@@ -49,14 +50,16 @@ module _ {G : World} {S S′ : State} {k : ℕ} {d : Side} {u : ℕ → ℕ} {m 
 
   -- the PULL of a segment moves on, or turns into a PROBE
   pull-step : Proper G S → Segment G S k d u m a b → (j : ℕ) → j < m → Opened G S (pull (u j) (bitOf G k a) k (opp d)) S′ → Done G S′ k d u m a b
-  pull-step h s zero l t = todo (out 1 (omega arith) (s .pos) (rw (s .start) at (t .came (hit {z = u 1} (ap (bitOf G k) (s .start)) (rw (opp-opp d) (s .fwd 0 l))))))
+  pull-step h s zero l t =
+      todo (out 1 (omega arith) (s .pos) (rw (s .start) at (t .came (hit {z = u 1} (ap (bitOf G k) (s .start)) (rw (opp-opp d) (s .fwd 0 l))))))
   pull-step h s (suc j) l t = todo (pullb j (omega arith) (t .came (go differ (s .bwd j (omega arith)))))
     where
       differ : bitOf G k (u (suc j)) ≢ bitOf G k a
       differ e = s .mid (suc j) (omega arith) l (bit-up G k a (u (suc j)) (seg-pair h s j (omega arith) .bits) (seg-level s) (sym e))
 
 -- each message on its way along a segment, once delivered, moves on or joins
-todo-step : {G : World} {S S′ : State} {n : Msg} {k : ℕ} {d : Side} {u : ℕ → ℕ} {m a b : ℕ} → Proper G S → Segment G S k d u m a b → Opened G S n S′ → Todo G S k d u m a b → Done G S′ k d u m a b
+todo-step : {G : World} {S S′ : State} {n : Msg} {k : ℕ} {d : Side} {u : ℕ → ℕ} {m a b : ℕ} → Proper G S → Segment G S k d u m a b → Opened G S n S′
+    → Todo G S k d u m a b → Done G S′ k d u m a b
 unfolding rev
 todo-step {G} {S} {S′} {n} {k} {d} {u} {m} {a} {b} h s t = by
   where
@@ -96,7 +99,8 @@ module _ {G : World} {S : State} where
   sets-ask : {n : Msg} {x k y : ℕ} {d : Side} → Sets G S n x k d (some y) → k < G .W → Sends G S n (probe y x k)
   sets-ask (sets l o) w = ask l o w
 
-  sets-call : {n : Msg} {x k z : ℕ} {d : Side} {v : Option ℕ} → Sets G S n x k d v → k < G .W → S .link x k (opp d) ≡ some z → Sends G S n (pull z (not (bitOf G k x)) k (opp d))
+  sets-call : {n : Msg} {x k z : ℕ} {d : Side} {v : Option ℕ} → Sets G S n x k d v → k < G .W → S .link x k (opp d) ≡ some z
+      → Sends G S n (pull z (not (bitOf G k x)) k (opp d))
   sets-call (sets l o) w e = call l o w e
 
   -- one delivery does not set both links of a lot
@@ -105,7 +109,8 @@ module _ {G : World} {S : State} where
 
 module _ {G : World} {S S′ : State} {n : Msg} where
   -- a segment that the delivery completed: its new link is fwd i
-  new-seg : {k : ℕ} {d : Side} {u : ℕ → ℕ} {m a b : ℕ} → Proper G S → Opened G S n S′ → Segment G S′ k d u m a b → (i : ℕ) → i < m → Sets G S n (u i) k d (some (u (suc i))) → Done G S′ k d u m a b
+  new-seg : {k : ℕ} {d : Side} {u : ℕ → ℕ} {m a b : ℕ} → Proper G S → Opened G S n S′ → Segment G S′ k d u m a b → (i : ℕ) → i < m
+      → Sets G S n (u i) k d (some (u (suc i))) → Done G S′ k d u m a b
   new-seg h t s zero l q = todo (out 1 (omega arith) (s .pos) (rw (s .start) at (t .came (sets-ask q (seg-level s)))))
   new-seg {k} {d} {u} {m} {a} {b} h t s (suc i) l q = by (link-cases t (s .bwd i (omega arith)))
     where
@@ -117,18 +122,21 @@ module _ {G : World} {S S′ : State} {n : Msg} where
       by (inr q′) = absurd (sets-one q q′)
 
   -- its new link is bwd i: the same read from the end
-  new-back : {k : ℕ} {d : Side} {u : ℕ → ℕ} {m a b : ℕ} → Proper G S → Opened G S n S′ → Segment G S′ k d u m a b → (i : ℕ) → i < m → Sets G S n (u (suc i)) k (opp d) (some (u i)) → Done G S′ k d u m a b
+  new-back : {k : ℕ} {d : Side} {u : ℕ → ℕ} {m a b : ℕ} → Proper G S → Opened G S n S′ → Segment G S′ k d u m a b → (i : ℕ) → i < m
+      → Sets G S n (u (suc i)) k (opp d) (some (u i)) → Done G S′ k d u m a b
   unfolding rev
   new-back {m = m} h t s i l q =
       let e₁ : m - (m - suc i) ≡ suc i = omega arith in
       let e₂ : m - suc (m - suc i) ≡ i = omega arith in
       done-rev (seg-bits s) (new-seg h t (seg-rev s) (m - suc i) (omega arith) (rw (e₁, e₂) q))
 
-  old-done : {k : ℕ} {d : Side} {u : ℕ → ℕ} {m a b : ℕ} → Proper G S → Segment G S k d u m a b → Opened G S n S′ → Done G S k d u m a b → Done G S′ k d u m a b
+  old-done : {k : ℕ} {d : Side} {u : ℕ → ℕ} {m a b : ℕ} → Proper G S → Segment G S k d u m a b → Opened G S n S′ → Done G S k d u m a b
+      → Done G S′ k d u m a b
   old-done h s t (joined c) = joined (conn-kept h t c)
   old-done h s t (todo q) = todo-step h s t q
 
-  seg-kept : {k : ℕ} {d : Side} {u : ℕ → ℕ} {m a b : ℕ} → Proper G S → Segments G S → Opened G S n S′ → Segment G S′ k d u m a b → Done G S′ k d u m a b
+  seg-kept : {k : ℕ} {d : Side} {u : ℕ → ℕ} {m a b : ℕ} → Proper G S → Segments G S → Opened G S n S′ → Segment G S′ k d u m a b
+      → Done G S′ k d u m a b
   seg-kept {k} {d} {u} {m} {a} {b} h i t s = by (all-or-one m (λ i l. link-cases t (s .fwd i l))) (all-or-one m (λ i l. link-cases t (s .bwd i l)))
     where
       by : ((i : ℕ) → i < m → S .link (u i) k d ≡ some (u (suc i))) ⊎ ((i : ℕ) × (i < m) × Sets G S n (u i) k d (some (u (suc i))))

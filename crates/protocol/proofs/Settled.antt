@@ -3,14 +3,14 @@
 use Prim.Native.Nat.{ℕ, zero, suc, _+_, _-_, _≤_, _<_}
 use mathlib.Core.Path.{_≡_, refl, sym, _∙_, ap, subst}
 use mathlib.Core.Logic.{_⊎_, inl, inr}
-use mathlib.Core.Option.{Option, none, some, Option·getD}
+use mathlib.Core.Option.{none, some, Option·getD}
 use native.Mathlib.Omega.{arith}
 use native.Mathlib.Decide.{decLt}
 use native.Mathlib.Nat.{lt-suc-self}
 use Rattle.graph.specs.Side.{Side, left, right, opp}
 use Rattle.graph.proofs.Order.{Lt, toL, toR, opp-opp, lt-irr, lt-side, lt-then}
 use Rattle.graph.proofs.Tests.{none-some}
-use Rattle.protocol.specs.Message.{Msg, meet}
+use Rattle.protocol.specs.Message.{meet}
 use Rattle.protocol.proofs.World.{World, State, Quiet, share, Pair, pair-lower, share-sym, share-trans}
 use Rattle.protocol.proofs.Open.{Proper}
 use Rattle.protocol.proofs.Back.{WayBack, WaysBack}
@@ -25,20 +25,24 @@ pub record Sym (S : State) : Type 0 where
 unfoldable pub dist : ℕ → ℕ → ℕ
 dist a b = (a - b) + (b - a)
 
-pub dist-less : {num : ℕ → ℕ} {d : Side} {x v y : ℕ} → Lt num d x v → Lt num d v y → (dist (num v) (num x) < dist (num x) (num y)) × (dist (num v) (num y) < dist (num x) (num y))
+pub dist-less : {num : ℕ → ℕ} {d : Side} {x v y : ℕ} → Lt num d x v → Lt num d v y
+    → (dist (num v) (num x) < dist (num x) (num y)) × (dist (num v) (num y) < dist (num x) (num y))
 unfolding dist
 dist-less (toL p) (toL q) = (omega arith, omega arith)
 dist-less (toR p) (toR q) = (omega arith, omega arith)
 
 module _ {G : World} where
-  sym-below : {S : State} → WaysBack G S → Quiet S → (f : ℕ) {x k y : ℕ} {d : Side} → dist (G .num x) (G .num y) < f → S .link x k d ≡ some y → S .link y k (opp d) ≡ some x
+  sym-below : {S : State} → WaysBack G S → Quiet S → (f : ℕ) {x k y : ℕ} {d : Side} → dist (G .num x) (G .num y) < f → S .link x k d ≡ some y
+      → S .link y k (opp d) ≡ some x
   sym-below i q zero l e = absurd (omega arith)
   sym-below {S} i q (suc f) {x} {k} {y} {d} l e = by (i .way e) (λ n b. sym-below i q f (omega (arith, dist-less (i .way e .after) n .0)) b)
     where
-      by : (w : WayBack G S x k d y) → (Lt (G .num) d (w .lot) y → S .link (w .lot) k (opp d) ≡ some x → S .link x k (opp (opp d)) ≡ some (w .lot)) → S .link y k (opp d) ≡ some x
+      by : (w : WayBack G S x k d y) → (Lt (G .num) d (w .lot) y → S .link (w .lot) k (opp d) ≡ some x → S .link x k (opp (opp d)) ≡ some (w .lot))
+          → S .link y k (opp d) ≡ some x
       by w ih = go (w .backs) (w .upto)
         where
-          go : (S .link (w .lot) k (opp d) ≡ some x) ⊎ S .pend (meet (w .lot) x k) → (w .lot ≡ y) ⊎ Lt (G .num) d (w .lot) y → S .link y k (opp d) ≡ some x
+          go : (S .link (w .lot) k (opp d) ≡ some x) ⊎ S .pend (meet (w .lot) x k) → (w .lot ≡ y) ⊎ Lt (G .num) d (w .lot) y
+              → S .link y k (opp d) ≡ some x
           go (inr p) u = absurd (q _ p)
           go (inl b) (inl u) = rw u at b
           go (inl b) (inr n) = let r : S .link x k d ≡ some (w .lot) = rw (opp-opp d) at (ih n b) in let u : w .lot ≡ y = cc in rw u at b
@@ -62,7 +66,9 @@ path-rev h (there e p) = path-app (path-rev h p) (there (h .back e) here)
 path-det : {S : State} {k x y z : ℕ} {d : Side} → Path S k d x y → Path S k d x z → Path S k d y z ⊎ Path S k d z y
 path-det here q = inl q
 path-det (there e p) here = inr (there e p)
-path-det {S} {k} {d = d} (there {y = v} e p) (there {y = w} {z = z} f q) = let r : v ≡ w = cc in path-det p (subst (λ (a : ℕ). Path S k d a z) (sym r) q)
+path-det {S} {k} {d = d} (there {y = v} e p) (there {y = w} {z = z} f q) =
+    let r : v ≡ w = cc in
+    path-det p (subst (λ (a : ℕ). Path S k d a z) (sym r) q)
 
 same-or-opp : (d e : Side) → (d ≡ e) ⊎ (opp d ≡ e)
 same-or-opp left left = inl refl
@@ -107,7 +113,9 @@ module _ {G : World} where
   -- a walk on side e to a lot that lies on side d begins with the link on side d
   first : {S : State} {k x z : ℕ} {d e : Side} → Proper G S → Path S k e x z → Lt (G .num) d x z → (y : ℕ) × (S .link x k d ≡ some y) × Path S k d y z
   first h here l = absurd (lt-irr l)
-  first {S} {k} {x} {z} {d} {e} h (there {y = y} f p) l = let s : e ≡ d = lt-side (lt-then (h .link-side f) (path-lt h p)) l in (y, rw s at f, rw s at p)
+  first {S} {k} {x} {z} {d} {e} h (there {y = y} f p) l =
+      let s : e ≡ d = lt-side (lt-then (h .link-side f) (path-lt h p)) l in
+      (y, rw s at f, rw s at p)
 
   exact : {S : State} {k : ℕ} → Proper G S → Sym S → Quiet S → Whole G S k → Exact G S k
   exact {S} {k} h sy q w = record {
@@ -193,7 +201,8 @@ module _ {G : World} {S : State} where
   walk-end {k} {a} zero n l s = subst (λ (z : ℕ). Conn S (suc k) a z) (s .at) n
   walk-end (suc m) n l s = absurd (s .fresh (suc m) (omega arith) (omega arith) (rw (s .at) l))
 
-  walk-step : {k a b c m x z : ℕ} {d : Side} → Sym S → Quiet S → Segments G S → S .link x k d ≡ some z → Conn S (suc k) a c → k < share G c b → Since G S k d c m x
+  walk-step : {k a b c m x z : ℕ} {d : Side} → Sym S → Quiet S → Segments G S → S .link x k d ≡ some z → Conn S (suc k) a c → k < share G c b
+      → Since G S k d c m x
       → ((c′ m′ : ℕ) → Conn S (suc k) a c′ → k < share G c′ b → Since G S k d c′ m′ z → Conn S (suc k) a b) → Conn S (suc k) a b
   walk-step {k} {a} {b} {c} {m} {x} {z} {d} sy q i e n l s rec = by (decLt k (share G c z))
     where
@@ -201,7 +210,8 @@ module _ {G : World} {S : State} where
       by (yes p) = rec z 0 (ctrans n (quiet-done q (i .seg (since-seg sy s e p)))) (share-trans G (suc k) z c b (rw (share-sym G z c) p) l) since-new
       by (no p) = rec c (suc m) n l (since-more s e p)
 
-  walk : {k a b c m x : ℕ} {d : Side} → Sym S → Quiet S → Segments G S → Path S k d x b → Conn S (suc k) a c → k < share G c b → Since G S k d c m x → Conn S (suc k) a b
+  walk : {k a b c m x : ℕ} {d : Side} → Sym S → Quiet S → Segments G S → Path S k d x b → Conn S (suc k) a c → k < share G c b → Since G S k d c m x
+      → Conn S (suc k) a b
   walk {m = m} sy q i here n l s = walk-end m n l s
   walk sy q i (there e p) n l s = walk-step sy q i e n l s (λ c′ m′ n′ l′ s′. walk sy q i p n′ l′ s′)
 

@@ -1,9 +1,9 @@
 -- Demand 3 on the meaning: one theorem about every list of calls, refused ones included, for any seat count and width; and soundness
 -- after every list. Assumes nothing but that the arguments fit their types.
-use Prim.Native.Nat.{ℕ, zero, suc, _+_, _≤_, _<_}
+use Prim.Native.Nat.{ℕ, zero, suc, _+_, _≤_}
 use mathlib.Core.Path.{_≡_, refl, sym, _∙_, ap, ap₂, subst}
 use mathlib.Core.Option.{Option, none, some}
-use mathlib.Core.Bool.{Bool, true, false}
+use mathlib.Core.Bool.{Bool, false}
 use mathlib.Core.List.{List, [], _∷_}
 use native.Mathlib.Omega.{arith}
 use lib.Dec.{T}
@@ -11,18 +11,19 @@ use Rattle.graph.specs.Graph.{IsGraph}
 use Rattle.graph.proofs.Tests.{false-T, not-T-false}
 use Rattle.protocol.specs.Message.{Msg, Name, named}
 use Rattle.protocol.specs.Numbering.{somePending}
-use Rattle.protocol.specs.State.{Phase, open-phase, clearing, Roster, Meaning, members, nobody, opened}
+use Rattle.protocol.specs.State.{Roster, Meaning, members, nobody, opened}
 use Rattle.protocol.specs.Table.{Call, join, leave, deliver, turn, isPending, refusal}
-use Rattle.protocol.specs.Calls.{rosterAfter, sends, takes, pendingAfter, accept, unlessRefused, Outcome, call}
+use Rattle.protocol.specs.Calls.{rosterAfter, sends, takes, pendingAfter, accept, unlessRefused, call}
 use Rattle.protocol.specs.Sound.{Sound}
-use Rattle.protocol.specs.Run.{Logged, Event, Standing, logOf, step, steps, run, rosterOf, pendingOf, RefusedByTable, Settled, accepted, Demand3, InRange, AllInRange}
+use Rattle.protocol.specs.Run.{Standing, logOf, step, steps, run, rosterOf, pendingOf, RefusedByTable, Settled, accepted, Demand3, InRange}
+use Rattle.protocol.specs.Run.{AllInRange}
 use Rattle.protocol.proofs.Numbering.{none-pending, pending-none}
-use Rattle.protocol.proofs.Delivery.{stateOf, delivered, accept-deliver}
+use Rattle.protocol.proofs.Delivery.{stateOf, accept-deliver}
 use Rattle.protocol.proofs.World.{Quiet}
 use Rattle.protocol.proofs.Invariant.{invariant-first}
 use Rattle.protocol.proofs.SoundFacts.{pending-exists}
 use Rattle.protocol.proofs.Accepted.{join-rows, leave-rows, deliver-row, turn-row}
-use Rattle.protocol.proofs.KeepSound.{opened-sound, accept-sound, call-sound}
+use Rattle.protocol.proofs.KeepSound.{opened-sound, accept-sound}
 use Rattle.protocol.proofs.Measure.{bound}
 use Rattle.protocol.proofs.Reached.{worldOf, Sane, in-open, Reached, sane-deliver, bound-less, reached-graph}
 use Rattle.protocol.proofs.ReachedCalls.{sane-join, sane-leave}
@@ -45,7 +46,8 @@ deliver-taken N W M n e = by (named n) refl (deliver-row N W (M .roster) (M .pen
 module _ (N W : ℕ) where
   reached-opened : Reached N W opened
   unfolding opened nobody
-  reached-opened = record { sound = opened-sound N W; sane = in-open (λ l. invariant-first (worldOf W nobody l) (stateOf opened) (λ x y p q. absurd p) (λ x k d. refl) (λ m p. p)) }
+  reached-opened =
+      record { sound = opened-sound N W; sane = in-open (λ l. invariant-first (worldOf W nobody l) (stateOf opened) (λ x y p q. absurd p) (λ x k d. refl) (λ m p. p)) }
 
   -- nothing pending, as the table tests it and as a fact
   quiet-none : {M : Meaning} → Sound N W M → somePending N W (M .pending) ≡ false → Quiet (stateOf M)
@@ -63,7 +65,8 @@ module _ (N W : ℕ) where
   unfolding accept rosterAfter
   phase-leave M s = refl
 
-  sane-accept : {M : Meaning} → Reached N W M → (c : Call) → refusal N W (M .roster) (M .pending) c ≡ 0 → Sane W (accept N W M c) (accept N W M c .roster .phase)
+  sane-accept : {M : Meaning} → Reached N W M → (c : Call) → refusal N W (M .roster) (M .pending) c ≡ 0
+      → Sane W (accept N W M c) (accept N W M c .roster .phase)
   sane-accept {M} g (join s n v c) e =
       let ok = join-rows N W (M .roster) (M .pending) s n v c e in
       subst (Sane W (accept N W M (join s n v c))) (sym (phase-join M s n v c ∙ ok .opens)) (sane-join (g .sound) s n v c ok (subst (Sane W M) (ok .opens) (g .sane)))
@@ -75,7 +78,8 @@ module _ (N W : ℕ) where
       subst (λ (K : Meaning). Sane W K (K .roster .phase)) (sym (accept-deliver N W M n (t .message) (t .is))) (sane-deliver (g .sane) (t .message) (t .was))
   sane-accept {M} g turn e = sane-turn (g .sound) (quiet-none (g .sound) (turn-row N W (M .roster) (M .pending) e)) (g .sane)
 
-  reached-accept : {M : Meaning} → Reached N W M → (c : Call) → InRange N W c → refusal N W (M .roster) (M .pending) c ≡ 0 → Reached N W (accept N W M c)
+  reached-accept : {M : Meaning} → Reached N W M → (c : Call) → InRange N W c → refusal N W (M .roster) (M .pending) c ≡ 0
+      → Reached N W (accept N W M c)
   reached-accept {M} g c q e = record { sound = accept-sound N W M (g .sound) c q e; sane = sane-accept g c e }
 
   pub reached-call : {M : Meaning} → Reached N W M → (c : Call) → InRange N W c → Reached N W (call N W M c .meaning)
@@ -92,7 +96,8 @@ module _ (N W : ℕ) where
   unfolding call unlessRefused
   ends-step {M} g n ns ih = by (refusal N W (M .roster) (M .pending) (deliver n)) refl
     where
-      by : (a : ℕ) → refusal N W (M .roster) (M .pending) (deliver n) ≡ a → unlessRefused a 0 1 + accepted N W (unlessRefused a M (accept N W M (deliver n))) ns ≤ bound N W M
+      by : (a : ℕ) → refusal N W (M .roster) (M .pending) (deliver n) ≡ a
+          → unlessRefused a 0 1 + accepted N W (unlessRefused a M (accept N W M (deliver n))) ns ≤ bound N W M
       by zero e =
           let t = deliver-taken N W M n e in
           let f = accept-deliver N W M n (t .message) (t .is) in
@@ -111,7 +116,8 @@ module _ (N W : ℕ) where
     pub lots : s .now .roster ≡ rosterOf N W (logOf (s .history))
     pub pending : s .now .pending ≡ pendingOf N W (s .history)
 
-  lots-step : (M : Meaning) {r : Roster} (c : Call) (n : ℕ) → M .roster ≡ r → unlessRefused n M (accept N W M c) .roster ≡ unlessRefused n r (rosterAfter N r c)
+  lots-step : (M : Meaning) {r : Roster} (c : Call) (n : ℕ) → M .roster ≡ r
+      → unlessRefused n M (accept N W M c) .roster ≡ unlessRefused n r (rosterAfter N r c)
   unfolding unlessRefused accept
   lots-step M c zero e = ap (λ (r : Roster). rosterAfter N r c) e
   lots-step M c (suc n) e = e

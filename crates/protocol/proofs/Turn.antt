@@ -1,5 +1,5 @@
 -- The two turns: into clearing from a settled graph, and out of it to a settled graph of the staying lots. Assumes nothing.
-use Prim.Native.Nat.{ℕ, _≤_, _<_}
+use Prim.Native.Nat.{ℕ, _≤_}
 use mathlib.Core.Path.{_≡_, refl, sym, _∙_, subst}
 use mathlib.Core.Logic.{_⊎_, inl, inr}
 use mathlib.Core.Option.{Option, none, some}
@@ -37,7 +37,8 @@ module _ {G : World} (Stay : ℕ → Type 0) {S : State} (h : (k : ℕ) → Exac
       goes (x, k, d, e, sx, w) = subst (Ok G Stay) (sym e) (ok-going sx w)
 
       linked : (x k : ℕ) (d : Side) (y : ℕ) → S .link x k d ≡ some y → Dec (Stay y) → Todo G Stay C x k d
-      linked x k d y e (yes s) = done (subst (Target G Stay k x d) (sym (same x k d ∙ e)) (nearest (h k .next e .pair) s (h k .next e .side) (λ z p t l. h k .next e .least z p l)))
+      linked x k d y e (yes s) =
+          done (subst (Target G Stay k x d) (sym (same x k d ∙ e)) (nearest (h k .next e .pair) s (h k .next e .side) (λ z p t l. h k .next e .least z p l)))
       linked x k d y e (no s) = by-going (told y k x d s (exact-sym h .back e)) (λ f. none-some f (same x k d ∙ e))
 
       job : (x k : ℕ) (d : Side) (v : Option ℕ) → S .link x k d ≡ v → Todo G Stay C x k d

@@ -6,7 +6,7 @@ use mathlib.Core.List.{List, [], _∷_, _++_}
 use lib.Dec.{eqb, ltb}
 use Rattle.graph.specs.Side.{Side, left, right, opp}
 use Rattle.graph.specs.Graph.{Links}
-use Rattle.protocol.specs.Message.{Msg, meet, probe, pull, going, seek, found, none-found, nameOf, named, sameMsg, among}
+use Rattle.protocol.specs.Message.{Msg, meet, going, nameOf, named, sameMsg, among}
 use Rattle.protocol.specs.Numbering.{any}
 use Rattle.protocol.specs.Rules.{SeatState, free, staying, leaving, Change, keep, set, Effect, effect, toLink}
 use Rattle.protocol.specs.State.{Phase, open-phase, clearing, Roster, Meaning, leaves, entry}

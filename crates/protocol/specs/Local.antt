@@ -2,7 +2,7 @@
 -- the lots that its links or the message name"). Assumes nothing.
 use Prim.Native.Nat.{ℕ}
 use mathlib.Core.Path.{_≡_}
-use mathlib.Core.Option.{Option, some}
+use mathlib.Core.Option.{some}
 use Rattle.graph.specs.Side.{Side}
 use Rattle.protocol.specs.Message.{Msg, meet, probe, seek, found, nameOf}
 use Rattle.protocol.specs.Rules.{Entry}

@@ -1,16 +1,16 @@
 -- Lists of calls from an opened record, the roster of document 01 ("Runs and the roster"), pending by history, and what demand 3 says
 -- after every list. Assumes nothing.
-use Prim.Native.Nat.{ℕ, zero, suc, _+_, _^_, _≤_, _<_}
+use Prim.Native.Nat.{ℕ, _+_, _^_, _≤_, _<_}
 use mathlib.Core.Path.{_≡_}
 use mathlib.Core.Logic.{_↔_}
-use mathlib.Core.Bool.{Bool, true, false}
+use mathlib.Core.Bool.{Bool, false}
 use mathlib.Core.List.{List, [], _∷_}
 use Rattle.graph.specs.Graph.{IsGraph}
 use Rattle.protocol.specs.Message.{Msg, Name}
 use Rattle.protocol.specs.Numbering.{somePending}
 use Rattle.protocol.specs.State.{Roster, Meaning, members, nobody, opened}
 use Rattle.protocol.specs.Table.{Call, join, leave, deliver, turn, refusal}
-use Rattle.protocol.specs.Calls.{rosterAfter, sends, takes, pendingAfter, unlessRefused, Outcome, call}
+use Rattle.protocol.specs.Calls.{rosterAfter, sends, takes, pendingAfter, unlessRefused, call}
 use Rattle.protocol.specs.Sound.{numberBits}
 
 -- a call of a list with its refusal number, 0 if it was accepted

@@ -1,7 +1,7 @@
 -- Soundness of a meaning (document 01, "Sound"), a clause for each sentence. Phase and states are in range by their types. Assumes nothing.
 use Prim.Native.Nat.{ℕ, _^_, _<_}
 use mathlib.Core.Path.{_≡_}
-use mathlib.Core.Option.{Option, none, some}
+use mathlib.Core.Option.{none, some}
 use mathlib.Core.Bool.{Bool, not, _&&_}
 use lib.Dec.{T, eqb, ltb, leb}
 use Rattle.graph.specs.Side.{Side, onSide}

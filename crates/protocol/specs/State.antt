@@ -1,8 +1,7 @@
 -- The meaning of a record: phase, lots, links and pending messages; and the members of a roster. Assumes nothing.
 use Prim.Native.Nat.{ℕ}
-use mathlib.Core.Option.{Option, none}
+use mathlib.Core.Option.{none}
 use mathlib.Core.Bool.{Bool, true, false, not, cond}
-use Rattle.graph.specs.Side.{Side}
 use Rattle.graph.specs.Graph.{Lots, Links}
 use Rattle.protocol.specs.Message.{Msg}
 use Rattle.protocol.specs.Rules.{SeatState, free, staying, leaving, isStaying, Entry}

@@ -1,8 +1,8 @@
 -- The calls of a list, and the table of refusals (document 01, "Refused calls") for them, in its order. Refusals 1 and 2 are the
 -- record's, 12 is the reading's. Assumes nothing.
-use Prim.Native.Nat.{ℕ, zero, suc}
+use Prim.Native.Nat.{ℕ}
 use mathlib.Core.Option.{Option, none, some}
-use mathlib.Core.Bool.{Bool, true, false, not, cond, _&&_, _||_}
+use mathlib.Core.Bool.{Bool, false, not, cond, _&&_, _||_}
 use mathlib.Core.List.{List, [], _∷_}
 use lib.Dec.{eqb, ltb}
 use Rattle.protocol.specs.Message.{Msg, Name, named}
