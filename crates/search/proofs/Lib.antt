@@ -1,0 +1,1 @@
+-- Why a search on a settled record is right, and a check that looks only at neighbours says the same as the definition.

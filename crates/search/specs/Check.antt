@@ -1,0 +1,28 @@
+-- The check: every link of every member is its link in the graph of the members. (By `skip-graph` of the graph crate that is exactly
+-- Constraints 1 to 6 and one level-0 list.) Assumes nothing.
+use Prim.Native.Nat.{ℕ, zero, suc}
+use mathlib.Core.Option.{Option, none, some}
+use mathlib.Core.Bool.{Bool, true, false, not, _&&_, _||_}
+use lib.Dec.{eqb}
+use Rattle.graph.specs.Side.{left, right}
+use Rattle.graph.specs.Graph.{Lots, Links, graph}
+
+-- two links are the same
+unfoldable pub sameLink : Option ℕ → Option ℕ → Bool
+sameLink none none = true
+sameLink none (some y) = false
+sameLink (some x) none = false
+sameLink (some x) (some y) = eqb x y
+
+-- every number below n passes
+unfoldable pub every : ℕ → (ℕ → Bool) → Bool
+every zero p = true
+every (suc n) p = every n p && p n
+
+module _ (N W : ℕ) (G : Lots) (L : Links) where
+  -- both links of x at level k are the graph's
+  unfoldable pub levelRight : (x k : ℕ) → Bool
+  levelRight x k = sameLink (L x k left) (graph N W G x k left) && sameLink (L x k right) (graph N W G x k right)
+
+  unfoldable pub check : Bool
+  check = every N (λ x. not (G .member x) || every (suc W) (λ k. levelRight x k))
