@@ -1,0 +1,1 @@
+-- Why bytes and meaning agree.

@@ -1,0 +1,95 @@
+-- What open and the readings answer (document 01, "Calls"): the refusal number or 0, then the values; a refused answer's values are 0.
+-- Assumes nothing.
+use Prim.Native.Nat.{ℕ, zero, suc}
+use mathlib.Core.Bool.{Bool, not, cond, _||_, _&&_}
+use mathlib.Core.Option.{Option}
+use mathlib.Core.List.{List, [], _∷_}
+use lib.Dec.{eqb, ltb}
+use lib.ListN.{length, getD}
+use Rattle.memory.specs.Loops.{oneIf, count}
+use Rattle.memory.specs.Bits.{bitSet}
+use Rattle.graph.specs.Side.{Side, left, right}
+use Rattle.protocol.specs.Message.{Name, named}
+use Rattle.protocol.specs.State.{Meaning, opened, isFree, seated}
+use Rattle.protocol.specs.Table.{Row, row, first, isPending}
+use Rattle.record.specs.Layout.{seats, levels, messages, phaseAt, stateAt, linkAt, pendingFrom, size}
+use Rattle.record.specs.Meaning.{rosterIn, meaning, bytesOf, phaseByte, stateByte, linkByte}
+use Rattle.record.specs.Sound.{sound}
+
+-- 1 wrong size, 2 unsound: first in every call but open, which has 1 alone
+abbrev pub wrongSize : List ℕ → Row
+wrongSize l = row 1 (not (eqb (length l) size))
+
+abbrev pub unsound : List ℕ → Row
+unsound l = row 2 (not (sound l))
+
+-- 3 no such seat, 8 empty seat
+abbrev pub noSuchSeat : ℕ → Row
+noSuchSeat s = row 3 (not (ltb s seats))
+
+abbrev pub emptySeat : List ℕ → ℕ → Row
+emptySeat l s = row 8 (isFree (rosterIn l .state s))
+
+-- the bytes after open: the empty record, or as before
+unfoldable pub openBytes : List ℕ → List ℕ
+openBytes l = cond (eqb (length l) size) (bytesOf opened) l
+
+unfoldable pub openRefusal : List ℕ → ℕ
+openRefusal l = first (wrongSize l ∷ [])
+
+-- reading a lot
+pub record LotAnswer : Type 0 where
+  pub refused : ℕ
+  pub state : ℕ
+  pub number : ℕ
+  pub vector : ℕ
+
+unfoldable pub lotRefusal : List ℕ → (s : ℕ) → ℕ
+lotRefusal l s = first (wrongSize l ∷ unsound l ∷ noSuchSeat s ∷ emptySeat l s ∷ [])
+
+unfoldable pub readLot : List ℕ → (s : ℕ) → LotAnswer
+readLot l s = let n = lotRefusal l s in
+    cond (eqb n 0) (record { refused = 0; state = stateByte (rosterIn l .state s); number = rosterIn l .number s; vector = rosterIn l .vector s })
+    (record { refused = n; state = 0; number = 0; vector = 0 })
+
+-- reading a link: its seat or 255
+pub record LinkAnswer : Type 0 where
+  pub refused : ℕ
+  pub seat : ℕ
+
+abbrev pub noSuchLevel : (k d : ℕ) → Row
+noSuchLevel k d = row 12 (not (ltb k levels) || not (ltb d 2))
+
+unfoldable pub linkRefusal : List ℕ → (s k d : ℕ) → ℕ
+linkRefusal l s k d = first (wrongSize l ∷ unsound l ∷ noSuchSeat s ∷ noSuchLevel k d ∷ emptySeat l s ∷ [])
+
+abbrev pub sideOfNumber : ℕ → Side
+sideOfNumber d = cond (eqb d 1) right left
+
+unfoldable pub readLink : List ℕ → (s k d : ℕ) → LinkAnswer
+readLink l s k d = let n = linkRefusal l s k d in
+    cond (eqb n 0) (record { refused = 0; seat = linkByte (meaning l .link s k (sideOfNumber d)) }) (record { refused = n; seat = 0 })
+
+-- whether five numbers are a pending message: 1 or 0
+pub record MessageAnswer : Type 0 where
+  pub refused : ℕ
+  pub pending : ℕ
+
+unfoldable pub recordRefusal : List ℕ → ℕ
+recordRefusal l = first (wrongSize l ∷ unsound l ∷ [])
+
+unfoldable pub readMessage : List ℕ → Name → MessageAnswer
+readMessage l n = let r = recordRefusal l in
+    cond (eqb r 0) (record { refused = 0; pending = oneIf (isPending (meaning l .pending) (named n)) }) (record { refused = r; pending = 0 })
+
+-- seated lots, phase, pending count
+pub record CountAnswer : Type 0 where
+  pub refused : ℕ
+  pub lots : ℕ
+  pub phase : ℕ
+  pub pending : ℕ
+
+unfoldable pub readCounts : List ℕ → CountAnswer
+readCounts l = let r = recordRefusal l in
+    cond (eqb r 0) (record { refused = 0; lots = count seats (seated (rosterIn l)); phase = phaseByte (rosterIn l .phase); pending = count messages (λ i. bitSet l pendingFrom i) })
+    (record { refused = r; lots = 0; phase = 0; pending = 0 })
