@@ -1,0 +1,14 @@
+-- Laws of the definitions of specs/.
+pub mod Cases
+pub mod All
+pub mod First
+pub mod Count
+pub mod Tabulate
+pub mod Bytes
+pub mod Digits
+pub mod Bits
+pub mod Packed
+pub mod Bitmap
+pub mod Zeros
+pub mod Counted
+pub mod Search

@@ -1,0 +1,99 @@
+-- Bytes that are all 0: by their bits, by parts, and by the or of the bytes, as code tests it. Assumes nothing.
+use Prim.Native.Nat.{ℕ, zero, suc, _+_, _-_, _*_, _/_, _%_, _≤_, _<_}
+use mathlib.Core.Path.{_≡_, refl, sym, ap, _∙_}
+use mathlib.Core.Logic.{⊎-elim}
+use mathlib.Core.Bool.{Bool, true, false, not, _&&_}
+use mathlib.Core.List.{List}
+use native.Mathlib.Omega.{arith}
+use native.Mathlib.Nat.{add-assoc}
+use native.Mathlib.Numerals.{add-one}
+use lib.Bits.{bitOr, or-add-and, and-le-l, and-le-r}
+use lib.Dec.{eqb}
+use lib.ListN.{getD}
+use borrow.Author.Tests.{eq-eqb, ne-eqb, eqb-true, not-true, not-false}
+use Rattle.memory.specs.Loops.{all, firstFrom}
+use Rattle.memory.specs.Bytes.{AreBytes, isZero, nonZero, zeros}
+use Rattle.memory.specs.Bits.{hasBit, bitSet}
+use Rattle.memory.proofs.Cases.{eq-or-ne, same-test, not-not, and-false}
+use Rattle.memory.proofs.All.{all-at, all-from, all-same, all-append, all-product}
+use Rattle.memory.proofs.First.{first-skip, first-all}
+use Rattle.memory.proofs.Bits.{bitOf-none, hasBit-is}
+use Rattle.memory.proofs.Packed.{bits-same}
+use Rattle.memory.proofs.Bitmap.{bitSet-byte}
+
+pub zeros-at : (l : List ℕ) (a n j : ℕ) → zeros l a n ≡ true → j < n → getD l (a + j) 0 ≡ 0
+zeros-at l a n j e h = eqb-true (getD l (a + j) 0) 0 (all-at n j (λ i. isZero l (a + i)) e h)
+
+pub zeros-from : (l : List ℕ) (a n : ℕ) → ((j : ℕ) → j < n → getD l (a + j) 0 ≡ 0) → zeros l a n ≡ true
+zeros-from l a n h = all-from n (λ j. isZero l (a + j)) (λ j p. eq-eqb (getD l (a + j) 0) 0 (h j p))
+
+-- zeros are of their own bytes alone
+pub zeros-agrees : (l m : List ℕ) (a n : ℕ) → ((j : ℕ) → j < n → getD l (a + j) 0 ≡ getD m (a + j) 0) → zeros l a n ≡ zeros m a n
+zeros-agrees l m a n h = all-same n (λ j. isZero l (a + j)) (λ j. isZero m (a + j)) (λ j p. ap (λ (x : ℕ). eqb x 0) (h j p))
+
+-- m bytes and n after them
+pub zeros-append : (l : List ℕ) (a m n : ℕ) → zeros l a (m + n) ≡ zeros l a m && zeros l (a + m) n
+zeros-append l a m n =
+    all-append m n (λ j. isZero l (a + j))
+    ∙ ap (λ (t : Bool). zeros l a m && t) (all-same n _ _ (λ j p. ap (isZero l) (sym (add-assoc a m j))))
+
+-- zeros are passed by a search for a byte that is not 0
+pub zeros-skip : (l : List ℕ) (e a n : ℕ) → a + n ≤ e → zeros l a n ≡ true → firstFrom (e - a) a (nonZero l) ≡ firstFrom (e - (a + n)) (a + n) (nonZero l)
+zeros-skip l e a n h z = first-skip e a (a + n) (nonZero l) (omega arith) h (λ j p q.
+    let at : a + (j - a) ≡ j = omega arith in
+    let nil : getD l j 0 ≡ 0 = ap (λ (i : ℕ). getD l i 0) (sym at) ∙ zeros-at l a n (j - a) z (omega arith) in
+    rw nil)
+
+-- and they are all that it passes exactly if it finds none
+pub zeros-first : (l : List ℕ) (a n : ℕ) → eqb (firstFrom n a (nonZero l)) (a + n) ≡ zeros l a n
+zeros-first l a n =
+    first-all n a (nonZero l) ∙ all-same n (λ j. not (nonZero l (a + j))) (λ j. isZero l (a + j)) (λ j p. not-not (isZero l (a + j)))
+
+-- a number with no bit
+pub hasBit-none : (k : ℕ) → hasBit 0 k ≡ false
+hasBit-none k = hasBit-is 0 k false (bitOf-none k)
+
+-- a byte is 0 exactly if its eight bits are clear
+byte-zero : (x : ℕ) → x < 256 → eqb x 0 ≡ all 8 (λ j. not (hasBit x j))
+byte-zero x h = same-test (eqb x 0) (all 8 (λ j. not (hasBit x j)))
+    (λ e. all-from 8 (λ j. not (hasBit x j)) (λ j p. rw (eqb-true x 0 e, hasBit-none j)))
+    (λ e. eq-eqb x 0 (bits-same 8 x 0 h (omega arith) (λ j p. not-true (hasBit x j) (all-at 8 j (λ j. not (hasBit x j)) e p) ∙ sym (hasBit-none j))))
+
+-- bytes are 0 exactly if all their bits are clear
+pub zeros-bits : (l : List ℕ) (a n : ℕ) → AreBytes l → zeros l a n ≡ all (n * 8) (λ i. not (bitSet l a i))
+zeros-bits l a n h =
+    all-same n (λ b. isZero l (a + b)) (λ b. all 8 (λ j. not (bitSet l a (b * 8 + j)))) (λ b p. byte b)
+    ∙ sym (all-product n 8 (λ i. not (bitSet l a i)))
+  where
+    byte : (b : ℕ) → isZero l (a + b) ≡ all 8 (λ j. not (bitSet l a (b * 8 + j)))
+    byte b =
+        byte-zero (getD l (a + b) 0) (h (a + b))
+        ∙ all-same 8 (λ j. not (hasBit (getD l (a + b) 0) j)) (λ j. not (bitSet l a (b * 8 + j))) (λ j q. ap not (sym (bitSet-byte l a b j q)))
+
+-- the or of the n bytes from a on
+unfoldable pub orOf : (l : List ℕ) (a n : ℕ) → ℕ
+orOf l a zero = 0
+orOf l a (suc n) = bitOr (orOf l a n) (getD l (a + n) 0)
+
+pub orOf-none : (l : List ℕ) (a : ℕ) → orOf l a 0 ≡ 0
+unfolding orOf
+orOf-none l a = refl
+
+pub orOf-more : (l : List ℕ) (a n : ℕ) → orOf l a (n + 1) ≡ bitOr (orOf l a n) (getD l (a + n) 0)
+unfolding orOf
+orOf-more l a n = rw add-one
+
+or-zero : (x y : ℕ) → eqb (bitOr x y) 0 ≡ eqb x 0 && eqb y 0
+or-zero x y = ⊎-elim
+    (λ e. ⊎-elim
+    (λ f. eq-eqb (bitOr x y) 0 (omega (arith, or-add-and x y)) ∙ sym (rw (eq-eqb x 0 e, eq-eqb y 0 f)))
+    (λ f. ne-eqb (bitOr x y) 0 (λ q. f (omega (arith, or-add-and x y, and-le-l x y))) ∙ sym (and-false (eqb x 0) (eqb y 0) (ne-eqb y 0 f)))
+    (eq-or-ne y 0))
+    (λ e. ne-eqb (bitOr x y) 0 (λ q. e (omega (arith, or-add-and x y, and-le-r x y))) ∙ sym (rw (ne-eqb x 0 e)))
+    (eq-or-ne x 0)
+
+-- the or is 0 exactly if the bytes are
+pub orOf-zeros : (l : List ℕ) (a n : ℕ) → eqb (orOf l a n) 0 ≡ zeros l a n
+unfolding orOf all
+orOf-zeros l a zero = refl
+orOf-zeros l a (suc n) = or-zero (orOf l a n) (getD l (a + n) 0) ∙ ap (λ (t : Bool). t && isZero l (a + n)) (orOf-zeros l a n)

@@ -1,0 +1,62 @@
+-- `memory::zero_chunk` meets its contract. The loop's invariant: `or` is the or of the bytes passed. Assumes nothing.
+use mathlib.Core.Path.{_≡_, ap, sym, _∙_}
+use Prim.Native.Nat.{ℕ, _+_, _-_, _≤_}
+use native.Mathlib.Omega.{arith}
+use lib.Bits.{bitOr}
+use lib.Dec.{eqb}
+use lib.ListN.{getD}
+use borrow.Author.Needs.{needs}
+use Rattle.memory.specs.Bytes.{zeros}
+use Rattle.memory.proofs.Zeros.{orOf, orOf-none, orOf-more, orOf-zeros}
+use Rattle.memory.proofs.zero_chunk.Statement.{statement}
+use Rattle.memory.proofs.zero_chunk.Tie as tie
+use Rattle.memory.proofs.zero_chunk.Reads as reads
+use Rattle.memory.proofs.zero_chunk.Lts as lts
+
+abbrev Inv-loop : tie.InvT-loop
+Inv-loop rec at or₀ i₀ or i = (i ≤ 32) × (or ≡ orOf rec at i)
+
+abbrev μ-loop : tie.MeasureT-loop
+μ-loop rec at or₀ i₀ or i = 32 - i
+
+loop-holds : tie.Need-loop-holds Inv-loop μ-loop
+loop-holds c = (search needs, sym (orOf-none (c .args .rec .now) (c .args .at)))
+
+add-or : tie.Need-add-or Inv-loop μ-loop
+add-or c = search needs
+
+shared-slice-read-or : tie.Need-shared-slice-read-or Inv-loop μ-loop
+shared-slice-read-or c = search needs
+
+add-i : tie.Need-add-i Inv-loop μ-loop
+add-i c = search needs
+
+loop-less : tie.Need-loop-less Inv-loop μ-loop
+loop-less c = search needs
+
+loop-again : tie.Need-loop-again Inv-loop μ-loop
+loop-again c =
+    let b = c .before .before in
+    let l = b .before .args .rec .now in
+    let at = b .before .args .at in
+    (search needs, (let e = orOf-more l at (b .loop .i) in cc))
+
+returns : tie.Need-returns Inv-loop μ-loop
+returns c =
+    let b = c .before .before in
+    let e : c .before .loop .i ≡ 32 = omega arith in
+    ap (λ (x : ℕ). eqb x 0) (c .before .loop .inv .1 ∙ ap (orOf (b .args .rec .now) (b .args .at)) e) ∙ orOf-zeros (b .args .rec .now) (b .args .at) 32
+
+pub zero-chunk-spec : {M : Type 1} → statement M
+zero-chunk-spec =
+    tie.close
+    (tie.spec
+    Inv-loop
+    μ-loop
+    loop-holds
+    add-or
+    shared-slice-read-or
+    add-i
+    loop-less
+    loop-again
+    returns)

@@ -1,0 +1,182 @@
+// Numbers and bits in lent bytes. A number is written highest byte first. Bit i of the bitmap at `base` is bit i % 8, the lowest is 0,
+// of byte base + i / 8. Each function asks that what it reads or writes lies within the bytes.
+ghost use mathlib.Core.Path.{_≡_};
+ghost use Prim.Native.Nat.{ℕ, _+_, _-_, _*_, _/_, _%_, _≤_, _<_};
+ghost use lib.ListN.{length};
+ghost use Rattle.memory.specs.Loops.{firstFrom, count as countOf};
+ghost use Rattle.memory.specs.Bytes.{numberAt, putNumber, digit, nonZero, zeros};
+ghost use Rattle.memory.specs.Bits.{hasBit, bitSet, setBit, clearBit};
+
+// The bytes of a number.
+const WIDTH: usize = 8;
+
+// The bytes that are tested for 0 at once.
+const CHUNK: usize = 32;
+
+pub fn wide(x: u8) -> u64
+    ensures { λ r. ⌜ (r ≡ x) × (r < 256) ⌝ }
+{
+    x as u64
+}
+
+// The number in the 8 bytes from `at` on.
+pub fn number(rec: &[u8], at: usize) -> u64
+    requires { ⌜ at + 8 ≤ length (now rec) ⌝ }
+    ensures { λ r. ⌜ r ≡ numberAt (now (rec .entry)) at 8 ⌝ }
+{
+    let mut n: u64 = 0;
+    for i in 0..WIDTH {
+        n = n * 256 + wide(rec[at + i]);
+    }
+    n
+}
+
+// Byte j of a number, the highest is 0.
+fn byte_of(n: u64, j: usize) -> u8
+    requires { ⌜ j < 8 ⌝ }
+    ensures { λ r. ⌜ r ≡ digit 8 n j ⌝ }
+{
+    ((n >> (8 * (7 - j))) % 256) as u8
+}
+
+// Writes a number to the 8 bytes from `at` on.
+pub fn put_number(rec: &mut [u8], at: usize, n: u64)
+    requires { ⌜ at + 8 ≤ length (now rec) ⌝ }
+    ensures { λ _. ⌜ now (rec .exit) ≡ putNumber (now (rec .entry)) at 8 n ⌝ }
+{
+    for i in 0..WIDTH {
+        rec[at + i] = byte_of(n, i);
+    }
+}
+
+// Whether bit `i` of the bitmap at `base` is set.
+pub fn test_bit(rec: &[u8], base: usize, i: usize) -> bool
+    requires { ⌜ base + i / 8 < length (now rec) ⌝ }
+    ensures { λ r. ⌜ r ≡ bitSet (now (rec .entry)) base i ⌝ }
+{
+    (rec[base + i / 8] >> (i % 8)) % 2 == 1
+}
+
+// Sets bit `i` of the bitmap at `base`.
+pub fn set_bit(rec: &mut [u8], base: usize, i: usize)
+    requires { ⌜ base + i / 8 < length (now rec) ⌝ }
+    ensures { λ _. ⌜ now (rec .exit) ≡ setBit (now (rec .entry)) base i ⌝ }
+{
+    let at = base + i / 8;
+    let x = rec[at];
+    rec[at] = x | (1u8 << (i % 8));
+}
+
+// Clears bit `i` of the bitmap at `base`.
+pub fn clear_bit(rec: &mut [u8], base: usize, i: usize)
+    requires { ⌜ base + i / 8 < length (now rec) ⌝ }
+    ensures { λ _. ⌜ now (rec .exit) ≡ clearBit (now (rec .entry)) base i ⌝ }
+{
+    let at = base + i / 8;
+    let x = rec[at];
+    rec[at] = x - (x & (1u8 << (i % 8)));
+}
+
+// Whether the 32 bytes from `at` on are all 0.
+fn zero_chunk(rec: &[u8], at: usize) -> bool
+    requires { ⌜ at + 32 ≤ length (now rec) ⌝ }
+    ensures { λ r. ⌜ r ≡ zeros (now (rec .entry)) at 32 ⌝ }
+{
+    let mut or: u8 = 0;
+    for i in 0..CHUNK {
+        or = or | rec[at + i];
+    }
+    or == 0
+}
+
+// Where the search for a byte that is not 0, from `at` up to `end`, goes on: after the chunks that are all 0.
+fn skip_chunks(rec: &[u8], at: usize, end: usize) -> usize
+    requires { ⌜ (at ≤ end) × (end ≤ length (now rec)) ⌝ }
+    ensures { λ r. ⌜ (r ≤ end) × (firstFrom (end - at) at (nonZero (now (rec .entry))) ≡ firstFrom (end - r) r (nonZero (now (rec .entry)))) ⌝ }
+{
+    let mut i = at;
+    while CHUNK <= end - i {
+        if !zero_chunk(rec, i) {
+            return i;
+        }
+        i += CHUNK;
+    }
+    i
+}
+
+// The first byte from `at` up to `end` that is not 0, else `end`.
+fn first_byte(rec: &[u8], at: usize, end: usize) -> usize
+    requires { ⌜ (at ≤ end) × (end ≤ length (now rec)) ⌝ }
+    ensures { λ r. ⌜ r ≡ firstFrom (end - at) at (nonZero (now (rec .entry))) ⌝ }
+{
+    let mut i = skip_chunks(rec, at, end);
+    while i < end {
+        if rec[i] != 0 {
+            return i;
+        }
+        i += 1;
+    }
+    end
+}
+
+// Whether the `len` bytes from `at` on are all 0.
+pub fn zero_range(rec: &[u8], at: usize, len: usize) -> bool
+    requires { ⌜ at + len ≤ length (now rec) ⌝ }
+    ensures { λ r. ⌜ r ≡ zeros (now (rec .entry)) at len ⌝ }
+{
+    let end = at + len;
+    first_byte(rec, at, end) == end
+}
+
+// The first set bit of a byte at or after `from`, else 8.
+fn first_in_byte(x: u8, from: usize) -> usize
+    requires { ⌜ from < 8 ⌝ }
+    ensures { λ r. ⌜ r ≡ firstFrom (8 - from) from (hasBit x) ⌝ }
+{
+    let rest = x >> from;
+    if rest == 0 {
+        return 8;
+    }
+    from + (u8::trailing_zeros(rest) as usize)
+}
+
+// The first set bit at or after byte `b` of the bitmap of `count` bits at `base`, else `count`.
+fn first_in_bytes(rec: &[u8], base: usize, b: usize, count: usize) -> usize
+    requires { ⌜ (b * 8 ≤ count) × (count % 8 ≡ 0) × (base + count / 8 ≤ length (now rec)) ⌝ }
+    ensures { λ r. ⌜ r ≡ firstFrom (count - b * 8) (b * 8) (bitSet (now (rec .entry)) base) ⌝ }
+{
+    let end = base + count / 8;
+    let at = first_byte(rec, base + b, end);
+    if at == end {
+        return count;
+    }
+    (at - base) * 8 + first_in_byte(rec[at], 0)
+}
+
+// The first set bit at or after `from` of the bitmap of `count` bits at `base`, else `count`. The bitmap is whole bytes.
+pub fn first_bit(rec: &[u8], base: usize, from: usize, count: usize) -> usize
+    requires { ⌜ (from ≤ count) × (count % 8 ≡ 0) × (base + count / 8 ≤ length (now rec)) ⌝ }
+    ensures { λ r. ⌜ r ≡ firstFrom (count - from) from (bitSet (now (rec .entry)) base) ⌝ }
+{
+    if from == count {
+        return count;
+    }
+    let b = from / 8;
+    let here = first_in_byte(rec[base + b], from % 8);
+    if here < 8 {
+        return b * 8 + here;
+    }
+    first_in_bytes(rec, base, b + 1, count)
+}
+
+// How many bits of the bitmap of `count` bits at `base` are set. The bitmap is whole bytes.
+pub fn count_bits(rec: &[u8], base: usize, count: usize) -> usize
+    requires { ⌜ (count % 8 ≡ 0) × (base + count / 8 ≤ length (now rec)) ⌝ }
+    ensures { λ r. ⌜ r ≡ countOf count (bitSet (now (rec .entry)) base) ⌝ }
+{
+    let mut n: usize = 0;
+    for b in 0..count / 8 {
+        n += u8::count_ones(rec[base + b]) as usize;
+    }
+    n
+}

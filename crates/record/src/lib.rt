@@ -1,0 +1,1 @@
+// The record in lent bytes: the accessors of its fields.
