@@ -66,7 +66,7 @@ entryByte M s j =
 
 -- byte b of the pending bits
 unfoldable pub pendingByte : (M : Meaning) (b : ℕ) → ℕ
-pendingByte M b = packed 8 (λ j. M .pending (messageAt seats width (8 * b + j)))
+pendingByte M b = packed 8 (λ j. M .pending (messageAt seats width (b * 8 + j)))
 
 -- byte i of the record
 unfoldable pub byteOf : Meaning → ℕ → ℕ
