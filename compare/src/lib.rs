@@ -4,6 +4,10 @@
 //! - [`graph`] is what the links must come to: the lists of the members, and
 //!   Constraints 1 to 6 of document 000.
 //! - [`text`] is the command language of the program `lots`.
+//! - [`roster`] is document 01's roster with its table of refusals.
+//! - [`selfcheck`] runs a script on the model and holds every answer against
+//!   the roster and the graph.
+//! - [`script`] makes scripts from a seed.
 //!
 //! ```
 //! use compare::model::Model;
@@ -19,7 +23,12 @@
 pub mod graph;
 pub mod model;
 pub mod random;
+pub mod roster;
+pub mod script;
+pub mod selfcheck;
 pub mod text;
 
 #[cfg(test)]
 mod cases;
+#[cfg(test)]
+mod faults;

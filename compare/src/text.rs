@@ -252,6 +252,7 @@ impl Program {
 #[cfg(test)]
 mod tests {
     use super::*;
+    use crate::random::Random;
 
     #[test]
     fn lines_of_another_form_are_bad() {
@@ -349,5 +350,22 @@ mod tests {
         input.resize(5_000, b' ');
         input.extend_from_slice(b"\nP");
         assert_eq!(run(&input), b"bad\nlots 0 phase open pending 0\n");
+    }
+
+    #[test]
+    fn pieces_of_the_input_do_not_matter() {
+        let mut random = Random::new(3);
+        for index in 0..40 {
+            let input = crate::script::generate(7, index, 100).concat();
+            let (mut program, mut out) = (Program::new(), Vec::new());
+            let mut rest = &input[..];
+            while !rest.is_empty() {
+                let (piece, after) = rest.split_at(rest.len().min(1 + random.below(20)));
+                program.read(piece, &mut out);
+                rest = after;
+            }
+            program.end(&mut out);
+            assert_eq!(out, run(&input));
+        }
     }
 }
