@@ -7,7 +7,8 @@
 //! - [`roster`] is document 01's roster with its table of refusals.
 //! - [`selfcheck`] runs a script on the model and holds every answer against
 //!   the roster and the graph.
-//! - [`script`] makes scripts from a seed.
+//! - [`script`] makes scripts from a seed, [`shrink`] makes a failing one small,
+//!   [`child`] runs another program on one.
 //!
 //! ```
 //! use compare::model::Model;
@@ -20,12 +21,14 @@
 //! assert_eq!(model.find(0, 250).unwrap().holder, Some(1));
 //! ```
 
+pub mod child;
 pub mod graph;
 pub mod model;
 pub mod random;
 pub mod roster;
 pub mod script;
 pub mod selfcheck;
+pub mod shrink;
 pub mod text;
 
 #[cfg(test)]
