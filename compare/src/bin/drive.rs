@@ -1,0 +1,208 @@
+//! Generates scripts from a seed, runs each on the model and on a program, and
+//! compares every byte of their outputs.
+
+use compare::child::{self, End, Output, Running};
+use compare::script::{self, Script};
+use compare::selfcheck::{self, Failure, Run};
+use compare::{shrink, text};
+use std::io::{self, Write};
+use std::path::{Path, PathBuf};
+use std::process::ExitCode;
+use std::time::{Duration, Instant};
+
+const USAGE: &str = "usage:
+  drive --program PATH [--scripts N] [--seed S] [--lines L]
+      compare the program's output with the model's on N scripts of about L lines
+  drive --self N [--seed S] [--lines L]
+      only check the model itself
+  drive --script I [--seed S] [--lines L]
+      write script I to standard output";
+
+const DEFAULT_SCRIPTS: u64 = 2_000;
+const DEFAULT_LINES: usize = 500;
+
+/// A program is stopped after this long on one script.
+const TIME_LIMIT: Duration = Duration::from_secs(60);
+/// The same while shrinking, and the time after which shrinking gives up.
+const SHRINK_TIME_LIMIT: Duration = Duration::from_secs(3);
+const SHRINK_TIME: Duration = Duration::from_secs(60);
+
+struct Options {
+    program: Option<PathBuf>,
+    scripts: u64,
+    only_self: bool,
+    show: Option<u64>,
+    seed: u64,
+    lines: usize,
+}
+
+fn main() -> ExitCode {
+    let Some(options) = read_options() else {
+        eprintln!("{USAGE}");
+        return ExitCode::from(2);
+    };
+    let done = match options.show {
+        Some(index) => show(&options, index),
+        None => drive(&options),
+    };
+    done.unwrap_or_else(|error| {
+        eprintln!("drive: {error}");
+        ExitCode::from(2)
+    })
+}
+
+fn read_options() -> Option<Options> {
+    let mut options = Options {
+        program: None,
+        scripts: DEFAULT_SCRIPTS,
+        only_self: false,
+        show: None,
+        seed: 1,
+        lines: DEFAULT_LINES,
+    };
+    let mut arguments = std::env::args().skip(1);
+    while let Some(name) = arguments.next() {
+        let value = arguments.next()?;
+        match name.as_str() {
+            "--program" => options.program = Some(PathBuf::from(value)),
+            "--scripts" => options.scripts = value.parse().ok()?,
+            "--self" => {
+                options.only_self = true;
+                options.scripts = value.parse().ok()?;
+            }
+            "--script" => options.show = Some(value.parse().ok()?),
+            "--seed" => options.seed = value.parse().ok()?,
+            "--lines" => options.lines = value.parse().ok()?,
+            _ => return None,
+        }
+    }
+    // One task at a time.
+    let tasks = [
+        options.program.is_some(),
+        options.only_self,
+        options.show.is_some(),
+    ];
+    let asked = tasks.into_iter().filter(|&task| task).count();
+    (asked == 1).then_some(options)
+}
+
+fn show(options: &Options, index: u64) -> io::Result<ExitCode> {
+    let script = script::generate(options.seed, index, options.lines);
+    io::stdout().write_all(&script.concat())?;
+    Ok(ExitCode::SUCCESS)
+}
+
+fn drive(options: &Options) -> io::Result<ExitCode> {
+    let start = Instant::now();
+    let (mut lines, mut deliveries) = (0, 0);
+    for index in 0..options.scripts {
+        let script = script::generate(options.seed, index, options.lines);
+        match try_script(options.program.as_deref(), &script)? {
+            Ok(run) => {
+                lines += run.lines;
+                deliveries += run.deliveries;
+            }
+            Err(trouble) => {
+                let name = format!("drive-{}-{index}.txt", options.seed);
+                println!("script {index} of seed {}", options.seed);
+                report(&script, &trouble, &std::env::temp_dir().join(name))?;
+                println!("{index} passed, 1 failed");
+                return Ok(ExitCode::FAILURE);
+            }
+        }
+    }
+    let seconds = start.elapsed().as_secs_f64();
+    println!("{lines} lines, {deliveries} deliveries, {seconds:.1} seconds");
+    println!("{} passed, 0 failed", options.scripts);
+    Ok(ExitCode::SUCCESS)
+}
+
+enum Trouble<'a> {
+    /// A self check of the model failed.
+    Model(Failure),
+    /// The program's output is not the model's.
+    Difference { program: &'a Path, end: End },
+}
+
+fn try_script<'a>(
+    program: Option<&'a Path>,
+    script: &Script,
+) -> io::Result<Result<Run, Trouble<'a>>> {
+    let input = script.concat();
+    let Some(program) = program else {
+        return Ok(selfcheck::run(&input).map_err(Trouble::Model));
+    };
+    // The program is started first, so that it runs beside the model.
+    let running = Running::start(program, &input)?;
+    let checked = selfcheck::run(&input);
+    let output = running.finish(TIME_LIMIT)?;
+    let compare = |run: Run| match is_right(&output, &run.output) {
+        true => Ok(run),
+        false => Err(Trouble::Difference {
+            program,
+            end: output.end.clone(),
+        }),
+    };
+    Ok(checked.map_err(Trouble::Model).and_then(compare))
+}
+
+fn is_right(output: &Output, expected: &[u8]) -> bool {
+    output.end == End::Success && output.bytes == expected
+}
+
+/// Shrinks the script, writes it to a file and prints what it shows.
+fn report(script: &Script, trouble: &Trouble, file: &Path) -> io::Result<()> {
+    match trouble {
+        Trouble::Model(failure) => {
+            println!("the model failed its own check: {}", failure.what);
+            let mut same =
+                |input: &[u8]| selfcheck::run(input).is_err_and(|other| other.what == failure.what);
+            shrink_to_file(script, &mut same, file)?;
+        }
+        Trouble::Difference { program, end } => {
+            println!("the outputs differ");
+            let mut same = |input: &[u8]| differs(program, input, end);
+            let input = shrink_to_file(script, &mut same, file)?;
+            let output = child::run(program, &input, SHRINK_TIME_LIMIT)?;
+            print_bytes("model", &text::run(&input));
+            print_bytes("program", &output.bytes);
+            println!("--- end of the program: {:?}", output.end);
+        }
+    }
+    Ok(())
+}
+
+/// Whether the program gives another output than the model. A stop at the time
+/// limit counts only if that is what is looked for.
+fn differs(program: &Path, input: &[u8], looked_for: &End) -> bool {
+    match child::run(program, input, SHRINK_TIME_LIMIT) {
+        Ok(output) if output.end == End::TimeLimit => *looked_for == End::TimeLimit,
+        Ok(output) => *looked_for != End::TimeLimit && !is_right(&output, &text::run(input)),
+        Err(_) => false,
+    }
+}
+
+fn shrink_to_file(
+    script: &Script,
+    same: &mut dyn FnMut(&[u8]) -> bool,
+    file: &Path,
+) -> io::Result<Vec<u8>> {
+    let start = Instant::now();
+    let mut in_time = |input: &[u8]| start.elapsed() < SHRINK_TIME && same(input);
+    let input = shrink::shrink_script(script, &mut in_time).concat();
+    std::fs::write(file, &input)?;
+    println!("shrunk to {}", file.display());
+    print_bytes("script", &input);
+    Ok(input)
+}
+
+/// Prints bytes line by line, those outside the printed ASCII range escaped.
+fn print_bytes(title: &str, bytes: &[u8]) {
+    println!("--- {title}");
+    for line in bytes.split_inclusive(|&byte| byte == b'\n') {
+        match line.strip_suffix(b"\n") {
+            Some(text) => println!("{}", text.escape_ascii()),
+            None => println!("{} (no newline)", line.escape_ascii()),
+        }
+    }
+}

@@ -1,0 +1,37 @@
+//! A second program written from document 01 alone, to compare with `lots`.
+//!
+//! - [`model`] is the record: lots, links, pending messages and the calls.
+//! - [`graph`] is what the links must come to: the lists of the members, and
+//!   Constraints 1 to 6 of document 000.
+//! - [`text`] is the command language of the program `lots`.
+//! - [`roster`] is document 01's roster with its table of refusals.
+//! - [`selfcheck`] runs a script on the model and holds every answer against
+//!   the roster and the graph.
+//! - [`script`] makes scripts from a seed, [`shrink`] makes a failing one small,
+//!   [`child`] runs another program on one.
+//!
+//! ```
+//! use compare::model::Model;
+//!
+//! let mut model = Model::open();
+//! model.join(0, 100, 0, 255).unwrap();
+//! model.join(1, 200, 128, 0).unwrap();
+//! model.settle();
+//! assert!(model.check());
+//! assert_eq!(model.find(0, 250).unwrap().holder, Some(1));
+//! ```
+
+pub mod child;
+pub mod graph;
+pub mod model;
+pub mod random;
+pub mod roster;
+pub mod script;
+pub mod selfcheck;
+pub mod shrink;
+pub mod text;
+
+#[cfg(test)]
+mod cases;
+#[cfg(test)]
+mod faults;

@@ -1,0 +1,380 @@
+//! The record of document 01 as plain data: 64 seats, a phase and the pending
+//! messages, with the calls on them.
+//!
+//! A call that may be refused answers `Err` with the first row of the table
+//! that applies, and then changes nothing. Rows 1 and 2 speak of lent memory:
+//! a model has no size, and [`Model::from_parts`] is where it could be unsound.
+
+mod fault;
+mod message;
+mod refusal;
+mod rules;
+mod sound;
+
+use crate::graph::{Held, Links, Member, Side, LEVELS, NO_LINKS, SEATS, SIDES};
+use std::collections::BTreeSet;
+
+pub use message::{Kind, Message};
+pub use refusal::Refusal;
+pub use rules::{shared_bits, Effect};
+
+#[cfg(test)]
+pub(crate) use fault::Fault;
+
+/// The contact of the first lot.
+pub const NO_CONTACT: u8 = 255;
+
+#[derive(Clone, Copy, PartialEq, Eq, Debug)]
+pub enum Phase {
+    Open = 0,
+    Clearing = 1,
+}
+
+/// The state of a seated lot; a free seat has none.
+#[derive(Clone, Copy, PartialEq, Eq, Debug)]
+pub enum State {
+    Staying = 1,
+    Leaving = 2,
+}
+
+#[derive(Clone, PartialEq, Eq, Debug)]
+pub struct Lot {
+    pub number: u64,
+    pub vector: u8,
+    pub state: State,
+    pub links: Links,
+}
+
+/// The answer of a search: the holder's seat or none, and the moves made.
+#[derive(Clone, Copy, PartialEq, Eq, Debug)]
+pub struct Found {
+    pub holder: Option<u8>,
+    pub hops: u32,
+}
+
+#[derive(Clone, Copy, PartialEq, Eq, Debug)]
+pub struct Counts {
+    pub lots: usize,
+    pub phase: Phase,
+    pub pending: usize,
+}
+
+pub type Lots = [Option<Lot>; SEATS];
+
+#[derive(Clone, PartialEq, Eq, Debug)]
+pub struct Model {
+    lots: Lots,
+    phase: Phase,
+    pending: BTreeSet<Message>,
+    #[cfg(test)]
+    fault: Option<Fault>,
+}
+
+impl Model {
+    /// An empty record in phase open.
+    pub fn open() -> Model {
+        Model {
+            lots: [const { None }; SEATS],
+            phase: Phase::Open,
+            pending: BTreeSet::new(),
+            #[cfg(test)]
+            fault: None,
+        }
+    }
+
+    /// A record of any contents. Refusals: 2 when they are not sound.
+    pub fn from_parts(
+        lots: Lots,
+        phase: Phase,
+        pending: BTreeSet<Message>,
+    ) -> Result<Model, Refusal> {
+        let model = Model {
+            lots,
+            phase,
+            pending,
+            #[cfg(test)]
+            fault: None,
+        };
+        if model.is_sound() {
+            Ok(model)
+        } else {
+            Err(Refusal::Unsound)
+        }
+    }
+
+    /// Seats a lot and tells its contact of it. Refusals: 3, 7, 4, 5, 6.
+    pub fn join(&mut self, seat: u8, number: u64, vector: u8, contact: u8) -> Result<(), Refusal> {
+        self.may_join(seat, number, contact)?;
+        self.lots[usize::from(seat)] = Some(Lot {
+            number,
+            vector,
+            state: State::Staying,
+            links: NO_LINKS,
+        });
+        if contact != NO_CONTACT {
+            self.pending.insert(Message::meet(contact, seat, 0));
+        }
+        Ok(())
+    }
+
+    fn may_join(&self, seat: u8, number: u64, contact: u8) -> Result<(), Refusal> {
+        let no_contact = contact == NO_CONTACT;
+        if !is_seat(seat) || !(is_seat(contact) || no_contact) {
+            return Err(Refusal::NoSuchSeat);
+        }
+        self.must_be_open()?;
+        if self.lot_at(seat).is_some() {
+            return Err(Refusal::SeatTaken);
+        }
+        if self.seated().any(|(_, lot)| lot.number == number) {
+            return Err(Refusal::NumberInUse);
+        }
+        let contact_is_right = if no_contact {
+            self.seated().next().is_none()
+        } else {
+            self.lot_at(contact).is_some()
+        };
+        if contact_is_right {
+            Ok(())
+        } else {
+            Err(Refusal::NoContact)
+        }
+    }
+
+    /// Marks a staying lot as leaving. Refusals: 3, 7, 8, 9.
+    pub fn leave(&mut self, seat: u8) -> Result<(), Refusal> {
+        if !is_seat(seat) {
+            return Err(Refusal::NoSuchSeat);
+        }
+        self.must_be_open()?;
+        let lot = self.lots[usize::from(seat)].as_mut();
+        let lot = lot.ok_or(Refusal::EmptySeat)?;
+        if lot.state == State::Leaving {
+            return Err(Refusal::AlreadyLeaving);
+        }
+        lot.state = State::Leaving;
+        Ok(())
+    }
+
+    fn must_be_open(&self) -> Result<(), Refusal> {
+        match self.phase {
+            Phase::Open => Ok(()),
+            Phase::Clearing => Err(Refusal::Clearing),
+        }
+    }
+
+    /// Takes a pending message away and does its rule. Refusals: 10.
+    pub fn deliver(&mut self, message: Message) -> Result<(), Refusal> {
+        if !self.pending.remove(&message) {
+            return Err(Refusal::NoSuchMessage);
+        }
+        let effect = self.effect(message);
+        if let Some((side, link)) = effect.set {
+            let lot = self.lots[usize::from(message.to)].as_mut();
+            let lot = lot.expect("a pending message names seated lots");
+            lot.links[usize::from(message.level)][side as usize] = link;
+        }
+        self.pending.extend(effect.sends);
+        Ok(())
+    }
+
+    /// Delivers the smallest pending message until none is left; the count.
+    pub fn settle(&mut self) -> u64 {
+        let mut deliveries = 0;
+        while self.deliver_smallest() {
+            deliveries += 1;
+        }
+        deliveries
+    }
+
+    /// As [`Model::settle`], but gives up with `None` after `most` deliveries.
+    pub fn settle_within(&mut self, most: u64) -> Option<u64> {
+        (0..=most).find(|_| !self.deliver_smallest())
+    }
+
+    /// False when nothing is pending.
+    fn deliver_smallest(&mut self) -> bool {
+        let smallest = self.pending.first().copied();
+        smallest.is_some_and(|message| self.deliver(message).is_ok())
+    }
+
+    /// Goes from open with leavers to clearing, and from clearing to open.
+    /// Refusals: 11.
+    pub fn turn(&mut self) -> Result<(), Refusal> {
+        if !self.pending.is_empty() {
+            return Err(Refusal::MessagesLeft);
+        }
+        match self.phase {
+            Phase::Open => self.begin_clearing(),
+            Phase::Clearing => self.end_clearing(),
+        }
+        Ok(())
+    }
+
+    fn begin_clearing(&mut self) {
+        let leavers = || self.seated().filter(|(_, lot)| lot.state == State::Leaving);
+        if leavers().next().is_none() {
+            return;
+        }
+        let sends: Vec<Message> = leavers().flat_map(|(_, lot)| goings(&lot.links)).collect();
+        self.pending.extend(sends);
+        self.phase = Phase::Clearing;
+    }
+
+    fn end_clearing(&mut self) {
+        for lot in &mut self.lots {
+            lot.take_if(|lot| lot.state == State::Leaving);
+        }
+        let free: Vec<bool> = self.lots.iter().map(Option::is_none).collect();
+        for lot in self.lots.iter_mut().flatten() {
+            for link in lot.links.iter_mut().flatten() {
+                link.take_if(|seat| free[usize::from(*seat)]);
+            }
+        }
+        self.phase = Phase::Open;
+    }
+
+    /// The search of document 000 from level 8. Refusals: 3, 8.
+    pub fn find(&self, start: u8, scanned: u64) -> Result<Found, Refusal> {
+        self.lot(start)?;
+        let (mut at, mut hops) = (start, 0);
+        for level in (0..LEVELS).rev() {
+            while let Some(next) = self.step_toward(at, level, scanned) {
+                at = next;
+                hops += 1;
+            }
+        }
+        if self.number(at) <= scanned {
+            let holder = Some(at);
+            return Ok(Found { holder, hops });
+        }
+        let holder = self.neighbour(at, 0, Side::Left);
+        hops += u32::from(holder.is_some());
+        Ok(Found { holder, hops })
+    }
+
+    /// The next lot of the walk at this level, if that does not overshoot the
+    /// scanned number; none at equality.
+    fn step_toward(&self, at: u8, level: usize, scanned: u64) -> Option<u8> {
+        let here = self.number(at);
+        if here == scanned {
+            return None;
+        }
+        let side = Side::toward(here, scanned);
+        let next = self.neighbour(at, level, side)?;
+        let number = self.number(next);
+        let overshoots = match side {
+            Side::Right => number > scanned,
+            Side::Left => number < scanned,
+        };
+        (!overshoots).then_some(next)
+    }
+
+    /// Whether the members form one skip graph, by Constraints 1 to 6.
+    pub fn check(&self) -> bool {
+        let links = self.member_links();
+        Held::new(&self.members(), &links).is_skip_graph()
+    }
+
+    /// Reads a lot. Refusals: 3, 8.
+    pub fn lot(&self, seat: u8) -> Result<&Lot, Refusal> {
+        if !is_seat(seat) {
+            return Err(Refusal::NoSuchSeat);
+        }
+        self.lot_at(seat).ok_or(Refusal::EmptySeat)
+    }
+
+    /// Reads a link: a seat, or none for document 01's 255. Refusals: 3, 12, 8.
+    pub fn link(&self, seat: u8, level: u8, side: u8) -> Result<Option<u8>, Refusal> {
+        if !is_seat(seat) {
+            return Err(Refusal::NoSuchSeat);
+        }
+        let level = usize::from(level);
+        let side = Side::from_number(side).filter(|_| level < LEVELS);
+        let side = side.ok_or(Refusal::NoSuchLevel)?;
+        Ok(self.lot(seat)?.links[level][side as usize])
+    }
+
+    pub fn is_pending(&self, message: Message) -> bool {
+        self.pending.contains(&message)
+    }
+
+    pub fn counts(&self) -> Counts {
+        Counts {
+            lots: self.seated().count(),
+            phase: self.phase,
+            pending: self.pending.len(),
+        }
+    }
+
+    pub fn phase(&self) -> Phase {
+        self.phase
+    }
+
+    /// The pending messages, ascending by their five numbers.
+    pub fn pending(&self) -> &BTreeSet<Message> {
+        &self.pending
+    }
+
+    /// The seated lots, ascending by seat.
+    pub fn seated(&self) -> impl Iterator<Item = (u8, &Lot)> {
+        let seats = 0u8..;
+        let lots = seats.zip(&self.lots);
+        lots.filter_map(|(seat, lot)| lot.as_ref().map(|lot| (seat, lot)))
+    }
+
+    /// All seated lots, while clearing the staying ones; ascending by seat.
+    pub fn members(&self) -> Vec<Member> {
+        let member = |(seat, lot): (u8, &Lot)| Member {
+            seat,
+            number: lot.number,
+            vector: lot.vector,
+        };
+        self.seated_members().map(member).collect()
+    }
+
+    /// The links of the members, in their order.
+    pub fn member_links(&self) -> Vec<Links> {
+        self.seated_members().map(|(_, lot)| lot.links).collect()
+    }
+
+    fn seated_members(&self) -> impl Iterator<Item = (u8, &Lot)> {
+        let open = self.phase == Phase::Open;
+        self.seated()
+            .filter(move |(_, lot)| open || lot.state == State::Staying)
+    }
+
+    fn lot_at(&self, seat: u8) -> Option<&Lot> {
+        self.lots.get(usize::from(seat))?.as_ref()
+    }
+
+    /// The lot that a link or a pending message names.
+    fn named(&self, seat: u8) -> &Lot {
+        let lot = self.lot_at(seat);
+        lot.expect("links and pending messages name seated lots")
+    }
+
+    fn number(&self, seat: u8) -> u64 {
+        self.named(seat).number
+    }
+
+    fn neighbour(&self, seat: u8, level: usize, side: Side) -> Option<u8> {
+        self.named(seat).links[level][side as usize]
+    }
+}
+
+/// What a leaver with these links sends: the receiver has it on the other side.
+fn goings(links: &Links) -> Vec<Message> {
+    let mut sends = Vec::new();
+    for (level, pair) in (0u8..).zip(links) {
+        for side in SIDES {
+            let going = |to| Message::going(to, level, side.away());
+            sends.extend(pair[side as usize].map(going));
+        }
+    }
+    sends
+}
+
+fn is_seat(seat: u8) -> bool {
+    usize::from(seat) < SEATS
+}

@@ -1,0 +1,33 @@
+//! The faults of document 01's "Faults that pass a first trial". Only a test
+//! can switch one on, to see that the self checks catch it.
+
+use super::Model;
+
+#[derive(Clone, Copy, PartialEq, Eq, Debug)]
+pub(crate) enum Fault {
+    OldNeighbourDropped,
+    NoPull,
+    LeaverAltersItsLinks,
+    BitsFromTheLowEnd,
+    ProbeAtLevel8,
+}
+
+impl Model {
+    #[cfg(test)]
+    pub(crate) fn with_fault(fault: Fault) -> Model {
+        Model {
+            fault: Some(fault),
+            ..Model::open()
+        }
+    }
+
+    #[cfg(test)]
+    pub(super) fn has(&self, fault: Fault) -> bool {
+        self.fault == Some(fault)
+    }
+
+    #[cfg(not(test))]
+    pub(super) fn has(&self, _: Fault) -> bool {
+        false
+    }
+}
