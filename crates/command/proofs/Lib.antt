@@ -1,0 +1,1 @@
+-- Why the parser is right.
