@@ -1,1 +1,135 @@
-// The record in lent bytes: the accessors of its fields.
+// The record in lent bytes (docs/RECORD.md): its sizes and places, as in specs/Layout.antt, and one accessor for each field. Each asks
+// that the bytes are a record's, and that seat, level, side and place are in range.
+ghost use mathlib.Core.Path.{_≡_};
+ghost use Prim.Native.Nat.{_+_, _*_, _<_};
+ghost use lib.ListN.{length, getD, set};
+ghost use Rattle.memory.specs.Bytes.{numberAt, putNumber};
+ghost use Rattle.memory.specs.Bits.{bitSet, setBit, clearBit};
+ghost use Rattle.record.specs.Layout.{seats, levels, messages, size, phaseAt, entryAt, stateAt, numberFrom, vectorAt, pendingFrom};
+
+pub const SEATS: usize = 64;
+
+pub const LEVELS: usize = 9;
+
+pub const SIZE: usize = 20257;
+
+// Where the phase stands, the first entry, and the pending bits.
+pub const PHASE: usize = 0;
+
+pub const ENTRIES: usize = 1;
+
+pub const PENDING: usize = 1793;
+
+// How many messages exist, a bit for each.
+pub const MESSAGES: usize = 147712;
+
+// The bytes of an entry, and the offsets in it after the state.
+pub const ENTRY: usize = 28;
+
+pub const NUMBER_AT: usize = 1;
+
+pub const VECTOR_AT: usize = 9;
+
+pub const LINKS_AT: usize = 10;
+
+// The byte of a link that is none.
+pub const NONE: u8 = 255;
+
+// The phase: 0 open, 1 clearing.
+pub fn phase(rec: &[u8]) -> u8
+    requires { ⌜ length (now rec) ≡ size ⌝ }
+    ensures { λ r. ⌜ r ≡ getD (now (rec .entry)) phaseAt 0 ⌝ }
+{
+    rec[PHASE]
+}
+
+pub fn set_phase(rec: &mut [u8], v: u8)
+    requires { ⌜ length (now rec) ≡ size ⌝ }
+    ensures { λ _. ⌜ now (rec .exit) ≡ set (now (rec .entry)) phaseAt v ⌝ }
+{
+    rec[PHASE] = v;
+}
+
+// The state of seat s: 0 free, 1 staying, 2 leaving.
+pub fn state(rec: &[u8], s: usize) -> u8
+    requires { ⌜ (length (now rec) ≡ size) × (s < seats) ⌝ }
+    ensures { λ r. ⌜ r ≡ getD (now (rec .entry)) (stateAt s) 0 ⌝ }
+{
+    rec[ENTRIES + ENTRY * s]
+}
+
+pub fn set_state(rec: &mut [u8], s: usize, v: u8)
+    requires { ⌜ (length (now rec) ≡ size) × (s < seats) ⌝ }
+    ensures { λ _. ⌜ now (rec .exit) ≡ set (now (rec .entry)) (stateAt s) v ⌝ }
+{
+    rec[ENTRIES + ENTRY * s] = v;
+}
+
+// The number of the lot on seat s.
+pub fn number(rec: &[u8], s: usize) -> u64
+    requires { ⌜ (length (now rec) ≡ size) × (s < seats) ⌝ }
+    ensures { λ r. ⌜ r ≡ numberAt (now (rec .entry)) (numberFrom s) 8 ⌝ }
+{
+    memory::number(rec, ENTRIES + ENTRY * s + NUMBER_AT)
+}
+
+pub fn set_number(rec: &mut [u8], s: usize, n: u64)
+    requires { ⌜ (length (now rec) ≡ size) × (s < seats) ⌝ }
+    ensures { λ _. ⌜ now (rec .exit) ≡ putNumber (now (rec .entry)) (numberFrom s) 8 n ⌝ }
+{
+    memory::put_number(rec, ENTRIES + ENTRY * s + NUMBER_AT, n);
+}
+
+// The vector of the lot on seat s.
+pub fn vector(rec: &[u8], s: usize) -> u8
+    requires { ⌜ (length (now rec) ≡ size) × (s < seats) ⌝ }
+    ensures { λ r. ⌜ r ≡ getD (now (rec .entry)) (vectorAt s) 0 ⌝ }
+{
+    rec[ENTRIES + ENTRY * s + VECTOR_AT]
+}
+
+pub fn set_vector(rec: &mut [u8], s: usize, v: u8)
+    requires { ⌜ (length (now rec) ≡ size) × (s < seats) ⌝ }
+    ensures { λ _. ⌜ now (rec .exit) ≡ set (now (rec .entry)) (vectorAt s) v ⌝ }
+{
+    rec[ENTRIES + ENTRY * s + VECTOR_AT] = v;
+}
+
+// The link of seat s at level k on side d, 0 left and 1 right: a seat or NONE.
+pub fn link(rec: &[u8], s: usize, k: usize, d: usize) -> u8
+    requires { ⌜ (length (now rec) ≡ size) × (s < seats) × (k < levels) × (d < 2) ⌝ }
+    ensures { λ r. ⌜ r ≡ getD (now (rec .entry)) (entryAt s + 10 + 2 * k + d) 0 ⌝ }
+{
+    rec[ENTRIES + ENTRY * s + LINKS_AT + 2 * k + d]
+}
+
+pub fn set_link(rec: &mut [u8], s: usize, k: usize, d: usize, v: u8)
+    requires { ⌜ (length (now rec) ≡ size) × (s < seats) × (k < levels) × (d < 2) ⌝ }
+    ensures { λ _. ⌜ now (rec .exit) ≡ set (now (rec .entry)) (entryAt s + 10 + 2 * k + d) v ⌝ }
+{
+    rec[ENTRIES + ENTRY * s + LINKS_AT + 2 * k + d] = v;
+}
+
+// Whether the message at place i is pending.
+pub fn is_pending(rec: &[u8], i: usize) -> bool
+    requires { ⌜ (length (now rec) ≡ size) × (i < messages) ⌝ }
+    ensures { λ r. ⌜ r ≡ bitSet (now (rec .entry)) pendingFrom i ⌝ }
+{
+    memory::test_bit(rec, PENDING, i)
+}
+
+// Makes the message at place i pending.
+pub fn send(rec: &mut [u8], i: usize)
+    requires { ⌜ (length (now rec) ≡ size) × (i < messages) ⌝ }
+    ensures { λ _. ⌜ now (rec .exit) ≡ setBit (now (rec .entry)) pendingFrom i ⌝ }
+{
+    memory::set_bit(rec, PENDING, i);
+}
+
+// Takes the message at place i away.
+pub fn take(rec: &mut [u8], i: usize)
+    requires { ⌜ (length (now rec) ≡ size) × (i < messages) ⌝ }
+    ensures { λ _. ⌜ now (rec .exit) ≡ clearBit (now (rec .entry)) pendingFrom i ⌝ }
+{
+    memory::clear_bit(rec, PENDING, i);
+}
