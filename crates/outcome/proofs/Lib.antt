@@ -1,0 +1,1 @@
+-- The changing calls on the bytes and on the meaning.
