@@ -1,1 +1,2 @@
 -- Why bytes and meaning agree.
+pub mod Places
