@@ -2,6 +2,7 @@
 use Prim.Native.Nat.{ℕ, _+_, _-_, _*_, _/_, _≤_, _<_}
 use mathlib.Core.Path.{_≡_, sym, ap, _∙_, subst}
 use mathlib.Core.Logic.{_⊎_, inl, inr, ⊎-elim, _≢_}
+use mathlib.Core.Bool.{Bool}
 use mathlib.Core.List.{List}
 use native.Mathlib.Omega.{arith}
 use lib.ListN.{length, getD, set, length-set}
@@ -11,9 +12,11 @@ use Rattle.memory.proofs.Cases.{lt-or-ge, eq-or-ne}
 use Rattle.memory.proofs.Tabulate.{tabulate-is, tabulate-same}
 use Rattle.memory.proofs.Packed.{packed-same}
 use Rattle.graph.specs.Side.{Side}
+use Rattle.graph.specs.Graph.{Links}
 use Rattle.graph.specs.Vector.{width}
+use Rattle.protocol.specs.Message.{Msg}
 use Rattle.protocol.specs.Numbering.{messageAt}
-use Rattle.protocol.specs.State.{Meaning}
+use Rattle.protocol.specs.State.{Roster, Meaning}
 use Rattle.record.specs.Layout.{seats, levels, messages, phaseAt, stateAt, numberFrom, vectorAt, linkAt, pendingFrom, pendingSize, size}
 use Rattle.record.specs.Meaning.{phaseByte, stateByte, linkByte, pendingByte, byteOf, bytesOf}
 use Rattle.record.proofs.Places.{by-place, at-phase, at-state, at-number, at-vector, at-link, at-pending, length-bytesOf, getD-bytesOf}
@@ -27,6 +30,31 @@ pub record Agree (M N : Meaning) (Q : ℕ → Type 0) : Type 0 where
   pub link : (s k : ℕ) (d : Side) → s < seats → k < levels → Q (linkAt s k d) → M .link s k d ≡ N .link s k d
   pub pending : (i : ℕ) → i < messages → Q (pendingFrom + i / 8)
       → M .pending (messageAt seats width i) ≡ N .pending (messageAt seats width i)
+
+-- they differ in links alone, or in pending messages alone
+module _ {M N : Meaning} {Q : ℕ → Type 0} (r : M .roster ≡ N .roster) where
+  pub agree-links : M .pending ≡ N .pending
+      → ((s k : ℕ) (d : Side) → s < seats → k < levels → Q (linkAt s k d) → M .link s k d ≡ N .link s k d) → Agree M N Q
+  agree-links p l = record {
+    phase = λ q. ap (λ (x : Roster). x .phase) r;
+    state = λ s h q. ap (λ (x : Roster). x .state s) r;
+    number = λ s j h g q. ap (λ (x : Roster). x .number s) r;
+    vector = λ s h q. ap (λ (x : Roster). x .vector s) r;
+    link = l;
+    pending = λ i h q. ap (λ (x : Msg → Bool). x (messageAt seats width i)) p;
+  }
+
+  pub agree-pending : M .link ≡ N .link
+      → ((i : ℕ) → i < messages → Q (pendingFrom + i / 8) → M .pending (messageAt seats width i) ≡ N .pending (messageAt seats width i))
+      → Agree M N Q
+  agree-pending l p = record {
+    phase = λ q. ap (λ (x : Roster). x .phase) r;
+    state = λ s h q. ap (λ (x : Roster). x .state s) r;
+    number = λ s j h g q. ap (λ (x : Roster). x .number s) r;
+    vector = λ s h q. ap (λ (x : Roster). x .vector s) r;
+    link = λ s k d h g q. ap (λ (x : Links). x s k d) l;
+    pending = p;
+  }
 
 -- and so do their bytes
 pub frame : {M N : Meaning} {Q : ℕ → Type 0} → Agree M N Q → (i : ℕ) → i < size → Q i → byteOf M i ≡ byteOf N i

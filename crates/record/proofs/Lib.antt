@@ -7,3 +7,5 @@ pub mod Frame
 pub mod Pending
 pub mod Update
 pub mod Sent
+pub mod Part
+pub mod Entry

@@ -21,7 +21,7 @@ use Rattle.protocol.proofs.Numbering.{place-lt, messageAt-place, place-messageA
 use Rattle.record.specs.Layout.{seats, messages, pendingFrom}
 use Rattle.record.specs.Meaning.{pendingByte, byteOf, bytesOf}
 use Rattle.record.proofs.Places.{messages-count, at-pending, getD-bytesOf}
-use Rattle.record.proofs.Frame.{one-byte}
+use Rattle.record.proofs.Frame.{agree-pending, one-byte}
 use Rattle.record.proofs.Pending.{sent-same, sent-other, taken-same, taken-other, after-nothing, after-taken, after-first}
 use Rattle.record.proofs.Update.{withPending, withMessage, withoutMessage}
 
@@ -36,14 +36,8 @@ module _ (M : Meaning) (p : Msg → Bool) (m : Msg) (x : T (exists seats width m
 
   bytes-withBit : bytesOf (withPending M p) ≡ putBit (bytesOf M) pendingFrom (place seats width m) b
   unfolding pendingByte
-  bytes-withBit = one-byte a (withBit y (c % 8) b) (omega (arith, within)) new (record {
-    phase = λ q. refl;
-    state = λ x g q. refl;
-    number = λ x j g p q. refl;
-    vector = λ x g q. refl;
-    link = λ x k d g p q. refl;
-    pending = λ j h q. others (messageAt seats width j) (other j h (λ e. q (ap (λ (n : ℕ). pendingFrom + n / 8) e)));
-  })
+  bytes-withBit = one-byte a (withBit y (c % 8) b) (omega (arith, within)) new (agree-pending refl refl (λ j h q.
+      others (messageAt seats width j) (other j h (λ e. q (ap (λ (n : ℕ). pendingFrom + n / 8) e)))))
     where
       c : ℕ
       c = place seats width m

@@ -22,7 +22,7 @@ use Rattle.protocol.proofs.Calls.{at-same, at-other, applied-at, applied-frame}
 use Rattle.record.specs.Layout.{seats, levels, phaseAt, stateAt, numberFrom, vectorAt, linkAt}
 use Rattle.record.specs.Meaning.{phaseByte, stateByte, linkByte, byteOf, bytesOf}
 use Rattle.record.proofs.Places.{at-phase, at-state, at-number, at-vector, at-link, length-bytesOf}
-use Rattle.record.proofs.Frame.{one-byte, range-bytes}
+use Rattle.record.proofs.Frame.{agree-links, one-byte, range-bytes}
 
 -- the changed meanings
 abbrev pub withRoster : Meaning → Roster → Meaning
@@ -102,14 +102,8 @@ module _ (M : Meaning) where
 
   pub bytes-withLink : (x k : ℕ) (d : Side) (o : Option ℕ) → x < seats → k < levels
       → bytesOf (withLink M x k d o) ≡ set (bytesOf M) (linkAt x k d) (linkByte o)
-  bytes-withLink x k d o h g = one-byte (linkAt x k d) (linkByte o) (omega (arith, sideNumber-lt d)) new (record {
-    phase = λ q. refl;
-    state = λ y p q. refl;
-    number = λ y j p l q. refl;
-    vector = λ y p q. refl;
-    link = λ y j e p l q. ⊎-elim (λ f. f) (λ f. absurd (q (same y j e (f .0) (f .1) (f .2)))) (applied-frame x (put k d o) (M .link) y j e);
-    pending = λ i p q. refl;
-  })
+  bytes-withLink x k d o h g = one-byte (linkAt x k d) (linkByte o) (omega (arith, sideNumber-lt d)) new (agree-links refl refl (λ y j e p l q.
+      ⊎-elim (λ f. f) (λ f. absurd (q (same y j e (f .0) (f .1) (f .2)))) (applied-frame x (put k d o) (M .link) y j e)))
     where
       new : byteOf (withLink M x k d o) (linkAt x k d) ≡ linkByte o
       new = at-link (withLink M x k d o) x k d h g ∙ ap linkByte (applied-at x k d o (M .link))
