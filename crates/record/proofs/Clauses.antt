@@ -74,15 +74,19 @@ module _ (l : List ℕ) where
 
   states-are : (statesFit l ≡ true) ↔ ((s : ℕ) → s < seats → getD l (stateAt s) 0 < 3)
   unfolding statesFit
-  states-are =
-      (λ e s h. ltb-true (getD l (stateAt s) 0) 3 (all-at seats s _ e h),
-      λ f. all-from seats _ (λ s h. lt-ltb (getD l (stateAt s) 0) 3 (f s h)))
+  states-are = (
+    λ e s h. ltb-true (getD l (stateAt s) 0) 3 (all-at seats s _ e h),
+    λ f. all-from seats _ (λ s h. lt-ltb (getD l (stateAt s) 0) 3 (f s h)),
+  )
 
   as-opened-is : (s : ℕ) → (asOpened l s ≡ true) ↔ AsOpened l s
   unfolding asOpened
-  as-opened-is s = (to, λ f.
-      both (eq-eqb number 0 (f .0)) (both (eq-eqb vector 0 (f .1)) (all-from levels _ (λ k h.
-      both (eq-eqb (getD l (linkAt s k left) 0) noLink (f .2 k left h)) (eq-eqb (getD l (linkAt s k right) 0) noLink (f .2 k right h))))))
+  as-opened-is s = (
+    to,
+    λ f.
+        both (eq-eqb number 0 (f .0)) (both (eq-eqb vector 0 (f .1)) (all-from levels _ (λ k h.
+        both (eq-eqb (getD l (linkAt s k left) 0) noLink (f .2 k left h)) (eq-eqb (getD l (linkAt s k right) 0) noLink (f .2 k right h))))),
+  )
     where
       number : ℕ
       number = rosterIn l .number s
@@ -93,15 +97,19 @@ module _ (l : List ℕ) where
       to : asOpened l s ≡ true → AsOpened l s
       to e =
           let f = and-right (eqb number 0) _ e in
-          let g = and-right (eqb vector 0) _ f in
-          (eqb-true number 0 (and-left _ _ e), eqb-true vector 0 (and-left _ _ f), λ k d h.
-          eqb-true (getD l (linkAt s k d) 0) noLink (sides (λ d. eqb (getD l (linkAt s k d) 0) noLink) (all-at levels k _ g h) d))
+          let g = and-right (eqb vector 0) _ f in (
+            eqb-true number 0 (and-left _ _ e),
+            eqb-true vector 0 (and-left _ _ f),
+            λ k d h.
+                eqb-true (getD l (linkAt s k d) 0) noLink (sides (λ d. eqb (getD l (linkAt s k d) 0) noLink) (all-at levels k _ g h) d),
+          )
 
   unused-are : (unusedFit l ≡ true) ↔ ((s : ℕ) → s < seats → T (isFree (rosterIn l .state s)) → AsOpened l s)
   unfolding unusedFit
-  unused-are =
-      (λ e s h t. as-opened-is s .0 (or-else (seated (rosterIn l) s) (asOpened l s) (all-at seats s _ e h) (free-unseated (rosterIn l .state s) t)),
-      λ f. all-from seats _ (λ s h. either (seated (rosterIn l) s) (asOpened l s) (λ e. as-opened-is s .1 (f s h (true-T (not-false (isFree (rosterIn l .state s)) e))))))
+  unused-are = (
+    λ e s h t. as-opened-is s .0 (or-else (seated (rosterIn l) s) (asOpened l s) (all-at seats s _ e h) (free-unseated (rosterIn l .state s) t)),
+    λ f. all-from seats _ (λ s h. either (seated (rosterIn l) s) (asOpened l s) (λ e. as-opened-is s .1 (f s h (true-T (not-false (isFree (rosterIn l .state s)) e))))),
+  )
 
   abbrev sameNumber : (x y : ℕ) → Bool
   sameNumber x y = seated (rosterIn l) x && (seated (rosterIn l) y && eqb (rosterIn l .number x) (rosterIn l .number y))
@@ -113,11 +121,12 @@ module _ (l : List ℕ) where
   numbers-are : (numbersDiffer l ≡ true) ↔ ((x y : ℕ) → x < seats → y < x → T (seated (rosterIn l) x) → T (seated (rosterIn l) y)
       → rosterIn l .number x ≡ rosterIn l .number y → ⊥)
   unfolding numbersDiffer
-  numbers-are =
-      (λ e x y h g s t n. true-false (sameNumber-is x y .1 (s, t, n)) (not-true (sameNumber x y) (all-at x y _ (all-at seats x _ e h) g)),
-      λ f. all-from seats _ (λ x h. all-from x _ (λ y g. refuted (sameNumber x y) (λ e.
-      let (s, t, n) = sameNumber-is x y .0 e in
-      f x y h g s t n))))
+  numbers-are = (
+    λ e x y h g s t n. true-false (sameNumber-is x y .1 (s, t, n)) (not-true (sameNumber x y) (all-at x y _ (all-at seats x _ e h) g)),
+    λ f. all-from seats _ (λ x h. all-from x _ (λ y g. refuted (sameNumber x y) (λ e.
+        let (s, t, n) = sameNumber-is x y .0 e in
+        f x y h g s t n))),
+  )
 
   link-is : (x k : ℕ) (d : Side) → (linkFits l x k d ≡ true) ↔ LinkFits l x k d
   unfolding linkFits
@@ -137,21 +146,26 @@ module _ (l : List ℕ) where
 
   links-are : (linksFit l ≡ true) ↔ ((x k : ℕ) (d : Side) → x < seats → k < levels → LinkFits l x k d)
   unfolding linksFit
-  links-are =
-      (λ e x k d h g. link-is x k d .0 (sides (linkFits l x k) (all-at levels k _ (all-at seats x _ e h) g) d),
-      λ f. all-from seats _ (λ x h. all-from levels _ (λ k g. both (link-is x k left .1 (f x k left h g)) (link-is x k right .1 (f x k right h g)))))
+  links-are = (
+    λ e x k d h g. link-is x k d .0 (sides (linkFits l x k) (all-at levels k _ (all-at seats x _ e h) g) d),
+    λ f. all-from seats _ (λ x h. all-from levels _ (λ k g. both (link-is x k left .1 (f x k left h g)) (link-is x k right .1 (f x k right h g)))),
+  )
 
   messages-are : (messagesFit l ≡ true) ↔ ((i : ℕ) → i < messages → T (bitSet l pendingFrom i) → T (messageOk width (rosterIn l) (messageAt seats width i)))
   unfolding messagesFit
-  messages-are =
-      (λ e i h t. true-T (or-else (not (bitSet l pendingFrom i)) _ (all-at messages i _ e h) (rw (T-true {b = bitSet l pendingFrom i} t))),
-      λ f. all-from messages _ (λ i h. either (not (bitSet l pendingFrom i)) _ (λ e. T-true (f i h (true-T (not-false (bitSet l pendingFrom i) e))))))
+  messages-are = (
+    λ e i h t. true-T (or-else (not (bitSet l pendingFrom i)) _ (all-at messages i _ e h) (rw (T-true {b = bitSet l pendingFrom i} t))),
+    λ f. all-from messages _ (λ i h. either (not (bitSet l pendingFrom i)) _ (λ e. T-true (f i h (true-T (not-false (bitSet l pendingFrom i) e))))),
+  )
 
   -- all of them
   pub sound-fits : (sound l ≡ true) ↔ Fits l
   unfolding sound
-  sound-fits = (to, λ f. both (phase-is .1 (f .phase)) (both (states-are .1 (f .states)) (both (unused-are .1 (f .unused))
-      (both (numbers-are .1 (f .differ)) (both (links-are .1 (f .links)) (messages-are .1 (f .messages)))))))
+  sound-fits = (
+    to,
+    λ f. both (phase-is .1 (f .phase)) (both (states-are .1 (f .states)) (both (unused-are .1 (f .unused))
+        (both (numbers-are .1 (f .differ)) (both (links-are .1 (f .links)) (messages-are .1 (f .messages)))))),
+  )
     where
       to : sound l ≡ true → Fits l
       to e =
