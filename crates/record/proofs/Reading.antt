@@ -56,14 +56,20 @@ module _ (l : List ℕ) where
 
   -- none exactly if the pending bytes are 0
   pub zeros-quiet : AreBytes l → zeros l pendingFrom pendingSize ≡ not (somePending seats width (meaning l .pending))
-  zeros-quiet b = same-test (zeros l pendingFrom pendingSize) (not (somePending seats width (meaning l .pending)))
-      (λ z. ap not (pending-none seats width (meaning l .pending) (λ m x. meaning-pending l m x
-      ∙ not-true (bitSet l pendingFrom (place seats width m)) (all-at messages (place seats width m) _ (sym bits ∙ z) (place-within m x)))))
-      (λ q. bits ∙ all-from messages _ (λ i h. ap not (sym (meaning-bit l i h)
-      ∙ none-pending seats width (meaning l .pending) (not-true (somePending seats width (meaning l .pending)) q) (messageAt seats width i) (exists-at i h))))
+  zeros-quiet b = same-test (zeros l pendingFrom pendingSize) (not (somePending seats width (meaning l .pending))) to from
     where
       bits : zeros l pendingFrom pendingSize ≡ all messages (λ i. not (bitSet l pendingFrom i))
       bits = zeros-bits l pendingFrom pendingSize b
+
+      to : zeros l pendingFrom pendingSize ≡ true → not (somePending seats width (meaning l .pending)) ≡ true
+      to z = ap not (pending-none seats width (meaning l .pending) (λ m x.
+          let clear = all-at messages (place seats width m) (λ i. not (bitSet l pendingFrom i)) (sym bits ∙ z) (place-within m x) in
+          meaning-pending l m x ∙ not-true (bitSet l pendingFrom (place seats width m)) clear))
+
+      from : not (somePending seats width (meaning l .pending)) ≡ true → zeros l pendingFrom pendingSize ≡ true
+      from q =
+          let quiet = none-pending seats width (meaning l .pending) (not-true (somePending seats width (meaning l .pending)) q) in
+          bits ∙ all-from messages _ (λ i h. ap not (sym (meaning-bit l i h) ∙ quiet (messageAt seats width i) (exists-at i h)))
 
 module _ (l : List ℕ) (e : length l ≡ size) (s : sound l ≡ true) where
   -- refusals 1 and 2 do not apply
@@ -106,12 +112,14 @@ module _ (l : List ℕ) (e : length l ≡ size) (s : sound l ≡ true) where
     unfolding first
     link-accepted k d g q = linkRefusal-is x k d ∙ rw (lt-ltb x seats h, lt-ltb k levels g, lt-ltb d 2 q, taken)
 
-    pub link-read : (k : ℕ) (d : Side) → k < levels → readLink l x k (sideNumber d) ≡ record { refused = 0; seat = linkByte (meaning l .link x k d) }
+    pub link-read : (k : ℕ) (d : Side) → k < levels
+        → readLink l x k (sideNumber d) ≡ record { refused = 0; seat = linkByte (meaning l .link x k d) }
     unfolding readLink
     link-read k d g = rw (link-accepted k (sideNumber d) g (sideNumber-lt d), side-sideNumber d)
 
   -- a free seat
-  pub free-read : (x : ℕ) → x < seats → T (isFree (meaning l .roster .state x)) → readLot l x ≡ record { refused = 8; state = 0; number = 0; vector = 0 }
+  pub free-read : (x : ℕ) → x < seats → T (isFree (meaning l .roster .state x))
+      → readLot l x ≡ record { refused = 8; state = 0; number = 0; vector = 0 }
   unfolding readLot first meaning
   free-read x h t = rw (lotRefusal-is x, lt-ltb x seats h, T-true {b = isFree (rosterIn l .state x)} t)
 
