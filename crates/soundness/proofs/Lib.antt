@@ -3,3 +3,4 @@ pub mod Tests
 pub mod Roster
 pub mod Numbers
 pub mod LinkByte
+pub mod Pending

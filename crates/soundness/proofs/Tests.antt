@@ -5,6 +5,7 @@ use mathlib.Core.Bool.{Bool, true, false, not, _&&_, _||_}
 use native.Mathlib.Omega.{arith}
 use borrow.Author.Tests.{not-true, not-false}
 use Rattle.memory.specs.Loops.{all}
+use Rattle.memory.proofs.Cases.{and-true}
 use Rattle.memory.proofs.All.{all-more, all-fails}
 
 -- the first part of a conjunction fails, or passes and the rest answers s
@@ -13,6 +14,10 @@ and-stop b e f = rw (← e, f)
 
 pub and-go : {r a b s : Bool} → r ≡ a → r ≡ true → s ≡ b → s ≡ a && b
 and-go e t h = rw (← e, t) h
+
+-- the last part of a conjunction is known to pass
+pub and-last : {r a b : Bool} → r ≡ a → b ≡ true → r ≡ a && b
+and-last {a = a} e t = rw (t, and-true a) e
 
 -- the first part of a disjunction passes, or fails and the rest answers s
 pub or-stop : {r a : Bool} (b : Bool) → r ≡ a → r ≡ true → r ≡ a || b

@@ -9,9 +9,10 @@ ghost use Rattle.record.specs.Layout.{seats, levels, size};
 ghost use Rattle.record.specs.Meaning.{rosterIn};
 ghost use Rattle.record.specs.Sound.{phaseFits, statesFit, asOpened, unusedFit, numbersDiffer};
 ghost use Rattle.soundness.specs.Parts.{HasNumbers, unlinked, differ};
-
 use super::lots::is_seated;
-use record::{LEVELS, NONE, SEATS};
+use record::LEVELS;
+use record::NONE;
+use record::SEATS;
 
 pub fn phase_fits(rec: &[u8]) -> bool
     requires { ⌜ length (now rec) ≡ size ⌝ }
