@@ -2,9 +2,8 @@
 use Prim.Native.Nat.{ℕ, _<_}
 use mathlib.Core.Path.{_≡_, refl, sym, ap, _∙_}
 use mathlib.Core.Logic.{_↔_}
-use mathlib.Core.Bool.{Bool, true, false, not, cond}
-use mathlib.Core.List.{List}
-use lib.Dec.{T, eqb, ltb}
+use mathlib.Core.Bool.{true, false, cond}
+use lib.Dec.{eqb}
 use lib.ListN.{length}
 use borrow.Author.Tests.{lt-ltb, eq-eqb}
 use Rattle.memory.specs.Loops.{oneIf, count}
@@ -14,20 +13,20 @@ use Rattle.graph.specs.Side.{Side}
 use Rattle.graph.specs.Vector.{width}
 use Rattle.graph.proofs.Tests.{not-T-false, false-T}
 use Rattle.protocol.specs.Message.{Name, named, sideNumber}
-use Rattle.protocol.specs.Numbering.{messageAt, somePending}
+use Rattle.protocol.specs.Numbering.{somePending}
 use Rattle.protocol.specs.Rules.{SeatState, free, staying, leaving}
-use Rattle.protocol.specs.State.{Roster, Meaning, isFree, seated}
+use Rattle.protocol.specs.State.{Meaning, isFree, seated}
 use Rattle.protocol.specs.Table.{first, isPending}
 use Rattle.protocol.specs.Sound.{Sound}
 use Rattle.protocol.proofs.Any.{any-none, none-any}
 use Rattle.protocol.proofs.Numbering.{sideNumber-lt}
 use Rattle.record.specs.Layout.{seats, levels, messages, pendingFrom, size}
-use Rattle.record.specs.Meaning.{meaning, rosterIn, bytesOf, phaseByte, stateByte, linkByte}
-use Rattle.record.specs.Sound.{sound}
-use Rattle.record.specs.Reading.{LotAnswer, lotRefusal, readLot, LinkAnswer, linkRefusal, readLink, MessageAnswer, recordRefusal, readMessage, CountAnswer, readCounts}
+use Rattle.record.specs.Meaning.{rosterIn, bytesOf, phaseByte, stateByte, linkByte}
+use Rattle.record.specs.Reading.{LotAnswer, lotRefusal, readLot, linkRefusal, readLink, recordRefusal, readMessage, CountAnswer, readCounts}
 use Rattle.record.proofs.Places.{messages-count, length-bytesOf, side-sideNumber}
 use Rattle.record.proofs.Form.{meaning-roster}
 use Rattle.record.proofs.Round.{meaning-bytes, read-bit}
+use Rattle.record.proofs.Sound.{bytes-sound}
 use Rattle.runs.specs.Run.{lotOf}
 
 -- lots, phase and pending messages of a meaning
@@ -39,7 +38,7 @@ countsOf M = record {
   pending = count messages (λ i. bitSet (bytesOf M) pendingFrom i);
 }
 
-module _ (bytes-sound : (M : Meaning) → Sound seats width M → sound (bytesOf M) ≡ true) (M : Meaning) (h : Sound seats width M) where
+module _ (M : Meaning) (h : Sound seats width M) where
   roster-bytes : rosterIn (bytesOf M) ≡ M .roster
   roster-bytes = sym (meaning-roster (bytesOf M)) ∙ ap (λ (X : Meaning). X .roster) (meaning-bytes h)
 
@@ -48,11 +47,11 @@ module _ (bytes-sound : (M : Meaning) → Sound seats width M → sound (bytesOf
 
   accepts : recordRefusal (bytesOf M) ≡ 0
   unfolding recordRefusal first
-  accepts = rw (sized, bytes-sound M h)
+  accepts = rw (sized, bytes-sound h)
 
   pub read-lot : (x : ℕ) → x < seats → readLot (bytesOf M) x ≡ lotOf (M .roster) x
   unfolding readLot lotRefusal first lotOf
-  read-lot x p = rw (sized, bytes-sound M h, lt-ltb x seats p, roster-bytes) (by (M .roster .state x))
+  read-lot x p = rw (sized, bytes-sound h, lt-ltb x seats p, roster-bytes) (by (M .roster .state x))
     where
       at : ℕ → SeatState → LotAnswer
       at n q = cond (eqb n 0) (record { refused = 0; state = stateByte q; number = M .roster .number x; vector = M .roster .vector x }) (record { refused = n; state = 0; number = 0; vector = 0 })
@@ -76,7 +75,7 @@ module _ (bytes-sound : (M : Meaning) → Sound seats width M → sound (bytesOf
       → readLink (bytesOf M) x k (sideNumber d) ≡ record { refused = 0; seat = linkByte (M .link x k d) }
   unfolding readLink linkRefusal first
   read-link x k d p q f =
-      rw (sized, bytes-sound M h, lt-ltb x seats p, lt-ltb k levels q, lt-ltb (sideNumber d) 2 (sideNumber-lt d), roster-bytes, f, side-sideNumber d, meaning-bytes h)
+      rw (sized, bytes-sound h, lt-ltb x seats p, lt-ltb k levels q, lt-ltb (sideNumber d) 2 (sideNumber-lt d), roster-bytes, f, side-sideNumber d, meaning-bytes h)
 
   -- none is counted exactly if none is pending
   pub count-none : (countsOf M .pending ≡ 0) ↔ (somePending seats width (M .pending) ≡ false)
