@@ -8,19 +8,23 @@ use native.Mathlib.Omega.{arith}
 use lib.Dec.{T, ltb, eqb}
 use lib.ListN.{length}
 use borrow.Author.Tests.{lt-ltb, le-ltb, eq-eqb, ne-eqb}
+use Rattle.memory.specs.Bytes.{AreBytes}
+use Rattle.memory.proofs.Bytes.{numberAt-lt}
 use Rattle.graph.specs.Side.{Side, onSide, sideOf}
 use Rattle.graph.specs.Graph.{Links}
 use Rattle.graph.specs.Vector.{width}
 use Rattle.protocol.specs.Message.{sideNumber}
 use Rattle.protocol.specs.State.{seated}
-use Rattle.record.specs.Layout.{seats, levels}
+use Rattle.record.specs.Layout.{seats, levels, numberFrom}
 use Rattle.record.specs.Meaning.{rosterIn, meaning}
 use Rattle.record.specs.Reading.{sideOfNumber}
 use Rattle.record.proofs.Places.{side-sideNumber}
-use Rattle.search.specs.Walk.{Step, stop, move, drop, along, stepAt, lastOf}
-use Rattle.search.proofs.Search.{Search, found, moves, drops, ends, gap, move-nearer}
+use Rattle.search.specs.Walk.{Step, stop, move, drop, along, stepAt, lastOf, holderAt, find}
+use Rattle.search.proofs.Count.{count-bound}
+use Rattle.search.proofs.Search.{Search, found, moves, drops, ends, gap, move-nearer, search-find}
+use Rattle.search.proofs.Hops.{search-seated, search-hops}
 use Rattle.find.specs.declared.Walk.{Walk}
-use Rattle.find.specs.Steps.{asStep, far, remains, Ready, Walked}
+use Rattle.find.specs.Steps.{asStep, Fit, far, remains, Ready, Walked}
 
 -- along a link y that does not lie beyond x, one that does, and none
 module _ (number : ℕ → ℕ) (L : Links) (x y : ℕ) (d : Side) {o : Option ℕ} where
@@ -107,3 +111,32 @@ module _ (l : List ℕ) (x : ℕ) (w : Walk) (h : Ready l x w) where
             seat = v .seat;
             hops = v .hops;
           }
+
+-- the number of a lot fits, so a walk from it has room for its hops
+pub start-room : (l : List ℕ) (x s : ℕ) → AreBytes l → s < seats → x < 2 ^ 64 → gap (rosterIn l .number s) x < 2 ^ 64
+unfolding rosterIn
+start-room l x s b h p = rw (lt-ltb s seats h) (omega (arith, numberAt-lt l (numberFrom s) 8 b))
+
+-- the walk from the top level at seat s, and what it leads to
+module _ (l : List ℕ) (x s : ℕ) (f : Fit l) (m : T (seated (rosterIn l) s)) where
+  abbrev pub start : Walk
+  start = record { seat = s; level = width; hops = 0 }
+
+  pub start-seat : s < seats
+  start-seat = f .ordered .seat s m
+
+  pub start-ready : AreBytes l → x < 2 ^ 64 → Ready l x start
+  start-ready b p = record { fit = f; lot = m; level = omega arith; room = omega (arith, start-room l x s b start-seat p) }
+
+  module _ (e : Walk) (v : Walked l x start e) where
+    pub end-seat : e .seat < seats
+    end-seat = f .ordered .seat (e .seat) (rw (v .seat) (search-seated (f .ordered) m (omega arith) (v .search)))
+
+    -- fewer hops than lots
+    pub end-hops : e .hops < seats
+    end-hops = omega (arith, v .hops, search-hops (f .ordered) m (omega arith) (v .search), count-bound seats (seated (rosterIn l)))
+
+    pub end-found : find (rosterIn l .number) (meaning l .link) x seats width s ≡ holderAt (rosterIn l .number) (meaning l .link) x (e .seat) (e .hops)
+    end-found =
+        let q : length (v .path) ≡ e .hops = omega (arith, v .hops) in
+        search-find (f .ordered) m (v .search) ∙ rw (v .seat, q)

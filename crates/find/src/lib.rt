@@ -1,15 +1,19 @@
 // The search for the lot of a scanned number over a lent record (document 01, "Find"): from the top level toward the number, a level down
 // where the link is none or lies beyond it, and at the end the lot that is not above it.
 ghost use mathlib.Core.Path.{_≡_};
-ghost use Prim.Native.Nat.{ℕ, _<_};
+ghost use Prim.Native.Nat.{ℕ, _+_, _^_, _<_};
+ghost use lib.Dec.{T};
+ghost use Rattle.graph.specs.Vector.{width};
+ghost use Rattle.protocol.specs.State.{seated};
 ghost use lib.ListN.{length};
 ghost use Rattle.graph.specs.Side.{onSide, sideOf};
 ghost use Rattle.protocol.specs.Message.{sideNumber};
 ghost use Rattle.record.specs.Layout.{seats, levels, size};
 ghost use Rattle.record.specs.Meaning.{rosterIn, meaning};
 ghost use Rattle.record.specs.Reading.{sideOfNumber};
-ghost use Rattle.search.specs.Walk.{along as alongOf, stepAt, drop};
-ghost use Rattle.find.specs.Steps.{asStep, Ready, Walked};
+ghost use Rattle.search.specs.Walk.{along as alongOf, stepAt, drop, holderAt, find as findOf};
+ghost use Rattle.find.specs.Answer.{heldOf};
+ghost use Rattle.find.specs.Steps.{asStep, Fit, Ready, Walked};
 
 pub enum Found {
     Refused(u8),
@@ -111,4 +115,33 @@ impl Walk {
         };
         w.advance(rec, x)
     }
+}
+
+// From the end of the walk on seat s after h hops: the lot there if it is not above x, else its left neighbour.
+fn held(rec: &[u8], s: usize, h: u64, x: u64) -> Found
+    requires { ⌜ (length (now rec) ≡ size) × (s < seats) × (h + 1 < 2 ^ 64) ⌝ }
+    ensures { λ r. ⌜ r ≡ heldOf (holderAt (rosterIn (now (rec .entry)) .number) (meaning (now (rec .entry)) .link) x s h) ⌝ }
+{
+    if record::number(rec, s) <= x {
+        return Found::Holder(s as u8, h);
+    }
+    let y = record::link(rec, s, 0, 0);
+    if (y as usize) < record::SEATS {
+        return Found::Holder(y, h + 1);
+    }
+    Found::Nobody(h)
+}
+
+// The search from the lot on seat s.
+fn search(rec: &[u8], s: usize, x: u64) -> Found
+    requires { ⌜ Fit (now rec) × T (seated (rosterIn (now rec)) s) ⌝ }
+    ensures { λ r. ⌜ r ≡ heldOf (findOf (rosterIn (now (rec .entry)) .number) (meaning (now (rec .entry)) .link) x seats width s) ⌝ }
+{
+    let w = Walk {
+        seat: s,
+        level: record::LEVELS - 1,
+        hops: 0,
+    };
+    let e = w.advance(rec, x);
+    held(rec, e.seat, e.hops, x)
 }
