@@ -1,0 +1,15 @@
+-- `calls::is_clearing` meets its contract. Assumes nothing.
+use mathlib.Core.Path.{sym}
+use borrow.Author.Needs.{needs}
+use Rattle.calls.proofs.Roster.{clearing-byte}
+use Rattle.calls.proofs.is_clearing.Statement.{statement}
+use Rattle.calls.proofs.is_clearing.Tie as tie
+
+phase-requires : tie.Need-phase-requires
+phase-requires c κs = search needs
+
+returns : tie.Need-returns
+returns c = rw (c .phase .ensures) (sym (clearing-byte (c .before .before .args .rec .now)))
+
+pub is-clearing-spec : {M : Type 1} → statement M
+is-clearing-spec = tie.close (tie.spec phase-requires returns)
