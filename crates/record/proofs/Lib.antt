@@ -12,3 +12,4 @@ pub mod Entry
 pub mod Clauses
 pub mod Sound
 pub mod Opened
+pub mod Reading

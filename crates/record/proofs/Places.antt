@@ -4,6 +4,7 @@ use Prim.Native.Nat.{ℕ, zero, suc, _+_, _-_, _*_, _/_, _%_, _≤_, _<_}
 use mathlib.Core.Path.{_≡_, refl, sym, ap, _∙_, subst}
 use mathlib.Core.Logic.{⊎-elim}
 use native.Mathlib.Omega.{arith}
+use lib.Dec.{T}
 use lib.ListN.{length, getD}
 use borrow.Author.Tests.{lt-ltb, le-ltb, ne-eqb}
 use Rattle.memory.specs.Bytes.{digit}
@@ -11,10 +12,10 @@ use Rattle.memory.proofs.Cases.{lt-or-ge}
 use Rattle.memory.proofs.Tabulate.{length-tabulate, getD-tabulate}
 use Rattle.graph.specs.Side.{Side, left, right}
 use Rattle.graph.specs.Vector.{width}
-use Rattle.protocol.specs.Message.{sideNumber}
-use Rattle.protocol.specs.Numbering.{count}
+use Rattle.protocol.specs.Message.{Msg, sideNumber}
+use Rattle.protocol.specs.Numbering.{exists, count, place, messageAt}
 use Rattle.protocol.specs.State.{Meaning}
-use Rattle.protocol.proofs.Numbering.{sideNumber-lt}
+use Rattle.protocol.proofs.Numbering.{sideNumber-lt, place-lt, exists-messageAt, place-messageAt}
 use Rattle.record.specs.Layout.{seats, levels, entrySize, messages, phaseAt, entryAt, stateAt, numberFrom, vectorAt, linkAt}
 use Rattle.record.specs.Layout.{pendingFrom, pendingSize, size}
 use Rattle.record.specs.Meaning.{phaseByte, stateByte, linkByte, entryByte, pendingByte, byteOf, bytesOf}
@@ -24,6 +25,16 @@ use Rattle.record.specs.Reading.{sideOfNumber}
 pub messages-count : messages ≡ count seats width
 unfolding count
 messages-count = refl
+
+-- places of messages that exist, and messages at places
+pub place-within : (m : Msg) → T (exists seats width m) → place seats width m < messages
+place-within m x = rw messages-count (place-lt seats width m x)
+
+pub exists-at : (i : ℕ) → i < messages → T (exists seats width (messageAt seats width i))
+exists-at i h = exists-messageAt seats width i (rw (← messages-count) h)
+
+pub place-at : (i : ℕ) → i < messages → place seats width (messageAt seats width i) ≡ i
+place-at i h = place-messageAt seats width i (rw (← messages-count) h)
 
 pub messages-bits : messages ≡ pendingSize * 8
 messages-bits = refl

@@ -21,11 +21,11 @@ use Rattle.protocol.specs.Numbering.{place, messageAt}
 use Rattle.protocol.specs.Rules.{SeatState}
 use Rattle.protocol.specs.State.{Meaning, isFree, seated}
 use Rattle.protocol.specs.Sound.{Sound, linkOk, messageOk, numberBits}
-use Rattle.protocol.proofs.Numbering.{place-lt, messageAt-place}
+use Rattle.protocol.proofs.Numbering.{messageAt-place}
 use Rattle.record.specs.Layout.{seats, levels, noLink, messages, numberFrom, vectorAt, linkAt, size}
 use Rattle.record.specs.Meaning.{linkOf, rosterIn, meaning, bytesOf}
 use Rattle.record.specs.Sound.{sound}
-use Rattle.record.proofs.Places.{messages-count}
+use Rattle.record.proofs.Places.{place-within}
 use Rattle.record.proofs.Form.{Form, meaning-number, meaning-vector, meaning-link, meaning-pending, meaning-bit}
 use Rattle.record.proofs.Form.{no-seat-state, no-seat-number, no-seat-vector, no-seat-link, no-level-link, exists-pending}
 use Rattle.record.proofs.Round.{meaning-bytes, bytes-form}
@@ -54,9 +54,10 @@ module _ {l : List ℕ} (bytes : AreBytes l) (f : Fits l) where
   seat-in x t = ⊎-elim (λ p. p) (λ p. absurd (subst (λ (s : SeatState). T (not (isFree s))) (no-seat-state l x p) t)) (lt-or-ge x seats)
 
   link-in : (x k y : ℕ) (d : Side) → meaning l .link x k d ≡ some y → (x < seats) × (k < levels)
-  link-in x k y d e =
-      (⊎-elim (λ p. p) (λ p. none-some (no-seat-link l x k d p) e) (lt-or-ge x seats),
-      ⊎-elim (λ p. p) (λ p. none-some (no-level-link l x k d p) e) (lt-or-ge k levels))
+  link-in x k y d e = (
+    ⊎-elim (λ p. p) (λ p. none-some (no-seat-link l x k d p) e) (lt-or-ge x seats),
+    ⊎-elim (λ p. p) (λ p. none-some (no-level-link l x k d p) e) (lt-or-ge k levels),
+  )
 
   number-fits : (x : ℕ) → meaning l .roster .number x < 2 ^ numberBits
   number-fits x = ⊎-elim
@@ -74,11 +75,14 @@ module _ {l : List ℕ} (bytes : AreBytes l) (f : Fits l) where
       → (meaning l .roster .number x ≡ 0) × (meaning l .roster .vector x ≡ 0) × ((k : ℕ) (d : Side) → meaning l .link x k d ≡ none)
   unfolding meaning
   unused-fits x t = ⊎-elim
-      (λ p. let u = f .unused x p t in
-      (u .0, u .1, λ k d. ⊎-elim
-      (λ q. meaning-link l x k d p q ∙ linkOf-none (getD l (linkAt x k d) 0) (u .2 k d q))
-      (no-level-link l x k d)
-      (lt-or-ge k levels)))
+      (λ p. let u = f .unused x p t in (
+        u .0,
+        u .1,
+        λ k d. ⊎-elim
+            (λ q. meaning-link l x k d p q ∙ linkOf-none (getD l (linkAt x k d) 0) (u .2 k d q))
+            (no-level-link l x k d)
+            (lt-or-ge k levels),
+      ))
       (λ p. (no-seat-number l x p, no-seat-vector l x p, λ k d. no-seat-link l x k d p))
       (lt-or-ge x seats)
 
@@ -105,9 +109,8 @@ module _ {l : List ℕ} (bytes : AreBytes l) (f : Fits l) where
   unfolding meaning
   message-fits m t =
       let x = exists-pending l m t in
-      let i = place seats width m in
       subst (λ (n : Msg). T (messageOk width (rosterIn l) n)) (messageAt-place seats width m x)
-      (f .messages i (rw messages-count (place-lt seats width m x)) (rw (meaning-pending l m x) at t))
+      (f .messages (place seats width m) (place-within m x) (rw (meaning-pending l m x) at t))
 
   fits-sound : Sound seats width (meaning l)
   fits-sound = record {
@@ -123,17 +126,21 @@ module _ {l : List ℕ} (bytes : AreBytes l) (f : Fits l) where
 module _ {l : List ℕ} (f : Form l) (h : Sound seats width (meaning l)) where
   sound-unused : (s : ℕ) → s < seats → T (isFree (rosterIn l .state s)) → AsOpened l s
   unfolding meaning
-  sound-unused s p t = let u = h .unused s t in (u .0, u .1, λ k d q. ⊎-elim
-    (λ e. e)
-    (λ e. none-some (sym (meaning-link l s k d p q) ∙ u .2 k d) (linkOf-seat (getD l (linkAt s k d) 0) e))
-    (f .links s k d p q))
+  sound-unused s p t = let u = h .unused s t in (
+    u .0,
+    u .1,
+    λ k d q. ⊎-elim
+        (λ e. e)
+        (λ e. none-some (sym (meaning-link l s k d p q) ∙ u .2 k d) (linkOf-seat (getD l (linkAt s k d) 0) e))
+        (f .links s k d p q),
+  )
 
   sound-link : (x k : ℕ) (d : Side) → x < seats → k < levels → LinkFits l x k d
   unfolding meaning
   sound-link x k d p q = let b = getD l (linkAt x k d) 0 in ⊎-elim
-    (λ e. inl e)
-    (λ e. inr (e, h .links x k b d (meaning-link l x k d p q ∙ linkOf-seat b e)))
-    (f .links x k d p q)
+      (λ e. inl e)
+      (λ e. inr (e, h .links x k b d (meaning-link l x k d p q ∙ linkOf-seat b e)))
+      (f .links x k d p q)
 
   form-fits : Fits l
   unfolding meaning
