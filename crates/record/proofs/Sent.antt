@@ -22,7 +22,7 @@ use Rattle.record.specs.Layout.{seats, messages, pendingFrom}
 use Rattle.record.specs.Meaning.{pendingByte, byteOf, bytesOf}
 use Rattle.record.proofs.Places.{place-within, place-at, at-pending, getD-bytesOf}
 use Rattle.record.proofs.Frame.{agree-pending, one-byte}
-use Rattle.record.proofs.Pending.{sent-same, sent-other, taken-same, taken-other, after-nothing, after-taken, after-first}
+use Rattle.record.proofs.Pending.{sent-same, sent-other, taken-same, taken-other, after-nothing, after-taken, after-first, after-last}
 use Rattle.record.proofs.Update.{withPending, withMessage, withoutMessage}
 
 -- one message, sent or taken: p is as before but at m
@@ -31,7 +31,7 @@ module _ (M : Meaning) (p : Msg → Bool) (m : Msg) (x : T (exists seats width m
   other : (j : ℕ) → j < messages → j ≢ place seats width m → messageAt seats width j ≢ m
   other j h ne e = ne (sym (place-at j h) ∙ ap (place seats width) e)
 
-  bytes-withBit : bytesOf (withPending M p) ≡ putBit (bytesOf M) pendingFrom (place seats width m) b
+  pub bytes-withBit : bytesOf (withPending M p) ≡ putBit (bytesOf M) pendingFrom (place seats width m) b
   unfolding pendingByte
   bytes-withBit = one-byte a (withBit y (c % 8) b) (omega (arith, place-within m x)) new (agree-pending refl refl (λ j h q.
       others (messageAt seats width j) (other j h (λ e. q (ap (λ (n : ℕ). pendingFrom + n / 8) e)))))
@@ -111,3 +111,11 @@ bytes-pendingAfter M s t x y =
     ap (λ (p : Msg → Bool). bytesOf (withPending M p)) (after-taken s t (M .pending))
     ∙ bytes-sent (withPending M (pendingAfter [] t (M .pending))) s x
     ∙ ap (sentBits s) (bytes-taken M t y)
+
+-- one message more, after the others
+pub bytes-one-more : (M : Meaning) (m : Msg) (s : List Msg) (t : Option Msg) → T (exists seats width m)
+    → bytesOf (withPending M (pendingAfter (m ∷ s) t (M .pending)))
+    ≡ setBit (bytesOf (withPending M (pendingAfter s t (M .pending)))) pendingFrom (place seats width m)
+bytes-one-more M m s t x =
+    ap (λ (p : Msg → Bool). bytesOf (withPending M p)) (after-last m s t (M .pending))
+    ∙ bytes-withMessage (withPending M (pendingAfter s t (M .pending))) m x

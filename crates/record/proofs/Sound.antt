@@ -28,7 +28,7 @@ use Rattle.record.specs.Sound.{sound}
 use Rattle.record.proofs.Places.{place-within}
 use Rattle.record.proofs.Form.{Form, meaning-number, meaning-vector, meaning-link, meaning-pending, meaning-bit}
 use Rattle.record.proofs.Form.{no-seat-state, no-seat-number, no-seat-vector, no-seat-link, no-level-link, exists-pending}
-use Rattle.record.proofs.Round.{meaning-bytes, bytes-form}
+use Rattle.record.proofs.Round.{same-bytes, meaning-bytes, bytes-form}
 use Rattle.record.proofs.Clauses.{AsOpened, LinkFits, Fits, sound-fits}
 
 -- a link's byte that is a seat, and one that is none
@@ -160,3 +160,8 @@ sound-is l e b =
 pub bytes-sound : {M : Meaning} → Sound seats width M → sound (bytesOf M) ≡ true
 bytes-sound {M} h =
     sound-fits (bytesOf M) .1 (form-fits (bytes-form h) (subst (λ (N : Meaning). Sound seats width N) (sym (meaning-bytes h)) h))
+
+-- sound bytes with the same meaning are the same
+pub same-sound-bytes : (l m : List ℕ) → length l ≡ size → length m ≡ size → AreBytes l → AreBytes m → sound l ≡ true → sound m ≡ true
+    → meaning l ≡ meaning m → l ≡ m
+same-sound-bytes l m e f a b s t q = same-bytes (sound-is l e a .0 s .0) (sound-is m f b .0 t .0) q

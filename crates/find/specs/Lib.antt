@@ -1,0 +1,3 @@
+-- What find answers on the bytes of a record.
+pub mod Find
+pub mod Answer
