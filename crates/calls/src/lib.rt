@@ -6,18 +6,25 @@ ghost use Prim.Native.Nat.{ℕ, _<_};
 ghost use lib.Dec.{eqb, ltb};
 ghost use lib.ListN.{length, set};
 ghost use Rattle.memory.specs.Bytes.{putNumber};
+ghost use Rattle.memory.specs.Bits.{setBit};
 ghost use Rattle.graph.specs.Vector.{width};
-ghost use Rattle.protocol.specs.Numbering.{any};
-ghost use Rattle.protocol.specs.State.{isClearing, isFree, seated, leaves};
-ghost use Rattle.protocol.specs.Table.{join as joining, leave as leaving, noContact, noSeat, refusal};
+ghost use Rattle.protocol.specs.Message.{meet};
+ghost use Rattle.protocol.specs.Numbering.{any, place};
+ghost use Rattle.protocol.specs.State.{isFree, seated, leaves};
+ghost use Rattle.protocol.specs.Table.{join as joining, leave as leaving, noContact, refusal};
 ghost use Rattle.protocol.specs.Calls.{accept};
-ghost use Rattle.record.specs.Layout.{seats, size, stateAt, numberFrom, vectorAt};
+ghost use Rattle.record.specs.Layout.{seats, levels, size, stateAt, numberFrom, vectorAt, pendingFrom};
 ghost use Rattle.record.specs.Meaning.{rosterIn, meaning, bytesOf};
 ghost use Rattle.outcome.specs.Made.{madeRefusal, made};
 ghost use Rattle.outcome.specs.Answer.{told, answered};
 
 use outcome::Answer;
-use record::{LEVELS, NONE, SEATS};
+use record::LEVELS;
+use record::NONE;
+use record::SEATS;
+use soundness::lots::is_clearing;
+use soundness::lots::is_seated;
+use soundness::record_refusal;
 
 // The states of a seated lot.
 const STAYING: u8 = 1;
@@ -38,20 +45,6 @@ const CLEARING: u8 = 7;
 const EMPTY_SEAT: u8 = 8;
 
 const ALREADY_LEAVING: u8 = 9;
-
-fn is_clearing(rec: &[u8]) -> bool
-    requires { ⌜ length (now rec) ≡ size ⌝ }
-    ensures { λ r. ⌜ r ≡ isClearing (rosterIn (now (rec .entry)) .phase) ⌝ }
-{
-    record::phase(rec) != 0
-}
-
-fn is_seated(rec: &[u8], s: usize) -> bool
-    requires { ⌜ (length (now rec) ≡ size) × (s < seats) ⌝ }
-    ensures { λ r. ⌜ r ≡ seated (rosterIn (now (rec .entry))) s ⌝ }
-{
-    record::state(rec, s) != 0
-}
 
 // Whether the lot on seat s is leaving. A state that is none of the three is read as leaving.
 fn is_leaving(rec: &[u8], s: usize) -> bool
@@ -98,9 +91,7 @@ fn has_number(rec: &[u8], n: u64) -> bool
 // Whether a contact is a free seat, or none while lots are seated.
 fn lacks_contact(rec: &[u8], contact: usize) -> bool
     requires { ⌜ length (now rec) ≡ size ⌝ }
-    ensures {
-        λ r. ⌜ r ≡ cond (not (ltb contact seats)) (any seats (seated (rosterIn (now (rec .entry))))) (isFree (rosterIn (now (rec .entry)) .state contact)) ⌝
-    }
+    ensures { λ r. ⌜ r ≡ cond (not (ltb contact seats)) (any seats (seated (rosterIn (now (rec .entry))))) (isFree (rosterIn (now (rec .entry)) .state contact)) ⌝ }
 {
     if contact < SEATS {
         return !is_seated(rec, contact);
@@ -166,4 +157,73 @@ fn write_lot(rec: &mut [u8], s: usize, number: u64, vector: u8)
     record::set_state(rec, s, STAYING);
     record::set_number(rec, s, number);
     record::set_vector(rec, s, vector);
+}
+
+// Sends lot `to` a MEET about lot `about`.
+fn send_meet(rec: &mut [u8], to: usize, about: usize, level: usize)
+    requires { ⌜ (length (now rec) ≡ size) × (to < seats) × (about < seats) × (level < levels) ⌝ }
+    ensures { λ _. ⌜ now (rec .exit) ≡ setBit (now (rec .entry)) pendingFrom (place seats width (meet to about level)) ⌝ }
+{
+    record::send(rec, (to * SEATS + about) * LEVELS + level);
+}
+
+// Seats a newcomer, and lets its contact know of it.
+fn seat_lot(rec: &mut [u8], s: usize, number: u64, vector: u8, contact: usize)
+    requires { ⌜ madeRefusal (now rec) (joining s number vector contact) ≡ 0 ⌝ }
+    ensures { λ _. ⌜ now (rec .exit) ≡ bytesOf (accept seats width (meaning (now (rec .entry))) (joining s number vector contact)) ⌝ }
+{
+    write_lot(rec, s, number, vector);
+    if contact < SEATS {
+        send_meet(rec, contact, s, 0);
+    }
+}
+
+// The refusal number of a join, 0 if it is accepted. No row asks for the vector.
+fn join_refusal(rec: &[u8], seat: usize, number: u64, contact: usize) -> u8
+    ensures { λ r. ⌜ ((v : ℕ) → r ≡ madeRefusal (now (rec .entry)) (joining seat number v contact)) ⌝ }
+{
+    let n = record_refusal(rec);
+    if n != 0 {
+        return n;
+    }
+    join_row(rec, seat, number, contact)
+}
+
+// The refusal number of a leave, 0 if it is accepted.
+fn leave_refusal(rec: &[u8], seat: usize) -> u8
+    ensures { λ r. ⌜ r ≡ madeRefusal (now (rec .entry)) (leaving seat) ⌝ }
+{
+    let n = record_refusal(rec);
+    if n != 0 {
+        return n;
+    }
+    leave_row(rec, seat)
+}
+
+// Seats a lot with that number and vector on a free seat, staying and without links, and sends the contact MEET about it; in a record
+// without lots the contact is 255. Refused by 1, 2, 3, 7, 4, 5, 6, in this order.
+pub fn join(rec: &mut [u8], seat: u8, number: u64, vector: u8, contact: u8) -> Answer
+    ensures { λ r. ⌜ told r (now (rec .exit)) ≡ answered (made (now (rec .entry)) (joining seat number vector contact)) ⌝ }
+{
+    let s = seat as usize;
+    let c = contact as usize;
+    let n = join_refusal(rec, s, number, c);
+    if n != 0 {
+        return outcome::answer_of(n);
+    }
+    seat_lot(rec, s, number, vector, c);
+    Answer::Done
+}
+
+// Marks a staying lot as leaving. Refused by 1, 2, 3, 7, 8, 9, in this order.
+pub fn leave(rec: &mut [u8], seat: u8) -> Answer
+    ensures { λ r. ⌜ told r (now (rec .exit)) ≡ answered (made (now (rec .entry)) (leaving seat)) ⌝ }
+{
+    let s = seat as usize;
+    let n = leave_refusal(rec, s);
+    if n != 0 {
+        return outcome::answer_of(n);
+    }
+    record::set_state(rec, s, LEAVING);
+    Answer::Done
 }

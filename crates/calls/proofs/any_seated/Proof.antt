@@ -1,10 +1,8 @@
 -- `calls::any_seated` meets its contract. The loop's invariant: no seat below s is taken. Assumes nothing.
 use Prim.Native.Nat.{ℕ, _-_, _≤_}
 use mathlib.Core.Path.{_≡_, sym, ap, _∙_}
-use mathlib.Core.Bool.{Bool, false}
+use mathlib.Core.Bool.{false}
 use native.Mathlib.Omega.{arith}
-use mathlib.Core.List.{List}
-use lib.Dec.{eqb}
 use borrow.Author.Needs.{needs}
 use Rattle.protocol.specs.Numbering.{any}
 use Rattle.protocol.specs.State.{seated}

@@ -1,10 +1,10 @@
 -- `calls::is_numbered` meets its contract. Assumes nothing.
 use Prim.Native.Nat.{ℕ}
-use mathlib.Core.Path.{_≡_, sym, ap, _∙_}
+use mathlib.Core.Path.{sym, ap, _∙_}
 use lib.Dec.{eqb}
 use borrow.Author.Needs.{needs}
-use Rattle.calls.proofs.Roster.{number-bytes}
-use Rattle.calls.proofs.Tests.{and-stop, and-go}
+use Rattle.soundness.proofs.Roster.{number-bytes}
+use Rattle.soundness.proofs.Tests.{and-stop, and-go}
 use Rattle.calls.proofs.is_numbered.Statement.{statement}
 use Rattle.calls.proofs.is_numbered.Tie as tie
 

@@ -1,6 +1,6 @@
 -- `calls::lacks_seat` meets its contract. Assumes nothing.
 use borrow.Author.Needs.{needs}
-use borrow.Author.Tests.{lt-ltb, le-ltb, le-leb, lt-leb, ne-eqb, eq-eqb}
+use borrow.Author.Tests.{lt-ltb, le-ltb, le-leb, lt-leb}
 use Rattle.calls.proofs.lacks_seat.Statement.{statement}
 use Rattle.calls.proofs.lacks_seat.Tie as tie
 

@@ -1,5 +1,5 @@
 -- `calls::leave_row` meets its contract: its tests are the rows of the table, in order. Assumes nothing.
-use mathlib.Core.Path.{_≡_, refl, sym, ap, _∙_}
+use mathlib.Core.Path.{refl, ap, _∙_}
 use mathlib.Core.Bool.{not}
 use borrow.Author.Needs.{needs}
 use borrow.Author.Tests.{lt-ltb, le-ltb}
@@ -29,8 +29,10 @@ is-seated-requires c κs = search needs
 returns-3 : tie.Need-returns-3
 unfolding refusal rows meaning
 returns-3 c =
-    row-next 3 _ refl (ap not (lt-ltb _ _ (c .before .before .before .before .if1 .left)))
-    (row-next 7 _ (c .before .before .before .is-clearing .ensures) (c .before .before .if2 .left)
+    let d = c .before .before in
+    let e = d .before .before in
+    row-next 3 _ refl (ap not (lt-ltb _ _ (e .if1 .left)))
+    (row-next 7 _ (d .before .is-clearing .ensures) (d .if2 .left)
     (row-here 8 _ (ap not (c .before .is-seated .ensures) ∙ not-not _) (c .if3 .taken)))
 
 is-leaving-requires : tie.Need-is-leaving-requires
@@ -39,17 +41,23 @@ is-leaving-requires c κs = search needs
 returns-4 : tie.Need-returns-4
 unfolding refusal rows meaning
 returns-4 c =
-    row-next 3 _ refl (ap not (lt-ltb _ _ (c .before .before .before .before .before .before .if1 .left)))
-    (row-next 7 _ (c .before .before .before .before .before .is-clearing .ensures) (c .before .before .before .before .if2 .left)
-    (row-next 8 _ (ap not (c .before .before .before .is-seated .ensures) ∙ not-not _) (c .before .before .if3 .left)
+    let d = c .before .before in
+    let e = d .before .before in
+    let f = e .before .before in
+    row-next 3 _ refl (ap not (lt-ltb _ _ (f .if1 .left)))
+    (row-next 7 _ (e .before .is-clearing .ensures) (e .if2 .left)
+    (row-next 8 _ (ap not (d .before .is-seated .ensures) ∙ not-not _) (d .if3 .left)
     (row-here 9 _ (c .before .is-leaving .ensures) (c .if4 .taken))))
 
 returns-5 : tie.Need-returns-5
 unfolding refusal rows meaning
 returns-5 c =
-    row-next 3 _ refl (ap not (lt-ltb _ _ (c .before .before .before .before .before .before .if1 .left)))
-    (row-next 7 _ (c .before .before .before .before .before .is-clearing .ensures) (c .before .before .before .before .if2 .left)
-    (row-next 8 _ (ap not (c .before .before .before .is-seated .ensures) ∙ not-not _) (c .before .before .if3 .left)
+    let d = c .before .before in
+    let e = d .before .before in
+    let f = e .before .before in
+    row-next 3 _ refl (ap not (lt-ltb _ _ (f .if1 .left)))
+    (row-next 7 _ (e .before .is-clearing .ensures) (e .if2 .left)
+    (row-next 8 _ (ap not (d .before .is-seated .ensures) ∙ not-not _) (d .if3 .left)
     (row-next 9 _ (c .before .is-leaving .ensures) (c .if4 .left)
     row-end)))
 
