@@ -87,7 +87,7 @@ link-once x k y j d e p q h =
 
 -- the byte at each place
 module _ (M : Meaning) where
-  at-entry : (s j : ℕ) → s < seats → j < entrySize → byteOf M (entryAt s + j) ≡ entryByte M s j
+  pub at-entry : (s j : ℕ) → s < seats → j < entrySize → byteOf M (entryAt s + j) ≡ entryByte M s j
   unfolding byteOf
   at-entry s j p q =
       let i = entryAt s + j in

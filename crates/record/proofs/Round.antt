@@ -25,7 +25,8 @@ use Rattle.protocol.specs.State.{Meaning, isFree}
 use Rattle.protocol.specs.Sound.{Sound, numberBits}
 use Rattle.protocol.proofs.Numbering.{sideNumber-lt, place-lt, messageAt-place}
 use Rattle.protocol.proofs.SoundFacts.{two-level, link-linked, pending-exists}
-use Rattle.record.specs.Layout.{seats, levels, noLink, messages, phaseAt, stateAt, numberFrom, vectorAt, linkAt, pendingFrom, pendingSize, size}
+use Rattle.record.specs.Layout.{seats, levels, noLink, messages, phaseAt, stateAt, numberFrom, vectorAt, linkAt}
+use Rattle.record.specs.Layout.{pendingFrom, pendingSize, size}
 use Rattle.record.specs.Meaning.{phaseOf, stateOf, linkOf, rosterIn, meaning}
 use Rattle.record.specs.Meaning.{phaseByte, stateByte, linkByte, pendingByte, byteOf, bytesOf}
 use Rattle.record.proofs.Values.{phaseByte-phaseOf, phaseOf-phaseByte, stateByte-stateOf, stateOf-stateByte}
