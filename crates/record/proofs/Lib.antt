@@ -9,3 +9,7 @@ pub mod Update
 pub mod Sent
 pub mod Part
 pub mod Entry
+pub mod Clauses
+pub mod Sound
+pub mod Opened
+pub mod Reading

@@ -17,26 +17,23 @@ use Rattle.protocol.specs.Message.{Msg}
 use Rattle.protocol.specs.Numbering.{exists, place, messageAt}
 use Rattle.protocol.specs.State.{Meaning}
 use Rattle.protocol.specs.Calls.{pendingAfter}
-use Rattle.protocol.proofs.Numbering.{place-lt, messageAt-place, place-messageAt}
+use Rattle.protocol.proofs.Numbering.{messageAt-place}
 use Rattle.record.specs.Layout.{seats, messages, pendingFrom}
 use Rattle.record.specs.Meaning.{pendingByte, byteOf, bytesOf}
-use Rattle.record.proofs.Places.{messages-count, at-pending, getD-bytesOf}
+use Rattle.record.proofs.Places.{place-within, place-at, at-pending, getD-bytesOf}
 use Rattle.record.proofs.Frame.{agree-pending, one-byte}
-use Rattle.record.proofs.Pending.{sent-same, sent-other, taken-same, taken-other, after-nothing, after-taken, after-first}
+use Rattle.record.proofs.Pending.{sent-same, sent-other, taken-same, taken-other, after-nothing, after-taken, after-first, after-last}
 use Rattle.record.proofs.Update.{withPending, withMessage, withoutMessage}
 
 -- one message, sent or taken: p is as before but at m
 module _ (M : Meaning) (p : Msg → Bool) (m : Msg) (x : T (exists seats width m)) (b : Bool) (here : p m ≡ b)
     (others : (n : Msg) → n ≢ m → p n ≡ M .pending n) where
-  within : place seats width m < messages
-  within = rw messages-count (place-lt seats width m x)
-
   other : (j : ℕ) → j < messages → j ≢ place seats width m → messageAt seats width j ≢ m
-  other j h ne e = ne (sym (place-messageAt seats width j (rw (← messages-count) h)) ∙ ap (place seats width) e)
+  other j h ne e = ne (sym (place-at j h) ∙ ap (place seats width) e)
 
-  bytes-withBit : bytesOf (withPending M p) ≡ putBit (bytesOf M) pendingFrom (place seats width m) b
+  pub bytes-withBit : bytesOf (withPending M p) ≡ putBit (bytesOf M) pendingFrom (place seats width m) b
   unfolding pendingByte
-  bytes-withBit = one-byte a (withBit y (c % 8) b) (omega (arith, within)) new (agree-pending refl refl (λ j h q.
+  bytes-withBit = one-byte a (withBit y (c % 8) b) (omega (arith, place-within m x)) new (agree-pending refl refl (λ j h q.
       others (messageAt seats width j) (other j h (λ e. q (ap (λ (n : ℕ). pendingFrom + n / 8) e)))))
     where
       c : ℕ
@@ -49,7 +46,7 @@ module _ (M : Meaning) (p : Msg → Bool) (m : Msg) (x : T (exists seats width m
       y = getD (bytesOf M) a 0
 
       old : y ≡ packed 8 (λ j. M .pending (messageAt seats width (c / 8 * 8 + j)))
-      old = getD-bytesOf M a (omega (arith, within)) ∙ at-pending M (c / 8) (omega (arith, within))
+      old = getD-bytesOf M a (omega (arith, place-within m x)) ∙ at-pending M (c / 8) (omega (arith, place-within m x))
 
       low : y < 2 ^ 8
       low = rw old (packed-lt 8 (λ j. M .pending (messageAt seats width (c / 8 * 8 + j))))
@@ -62,12 +59,12 @@ module _ (M : Meaning) (p : Msg → Bool) (m : Msg) (x : T (exists seats width m
           (λ e. hasBit-withBit-other y (c % 8) j b e
           ∙ ap (λ (n : ℕ). hasBit n j) old
           ∙ packed-bits 8 (λ j. M .pending (messageAt seats width (c / 8 * 8 + j))) j l
-          ∙ sym (others (messageAt seats width (c / 8 * 8 + j)) (other (c / 8 * 8 + j) (omega (arith, within)) (λ q. e (omega arith)))))
+          ∙ sym (others (messageAt seats width (c / 8 * 8 + j)) (other (c / 8 * 8 + j) (omega (arith, place-within m x)) (λ q. e (omega arith)))))
           (eq-or-ne j (c % 8))
 
       new : byteOf (withPending M p) (pendingFrom + place seats width m / 8) ≡ withBit y (c % 8) b
       new =
-          at-pending (withPending M p) (c / 8) (omega (arith, within))
+          at-pending (withPending M p) (c / 8) (omega (arith, place-within m x))
           ∙ packed-is 8 (withBit y (c % 8) b) (λ j. p (messageAt seats width (c / 8 * 8 + j))) (withBit-lt 8 y (c % 8) b low (omega arith)) bit
 
 module _ (M : Meaning) (m : Msg) (x : T (exists seats width m)) where
@@ -114,3 +111,11 @@ bytes-pendingAfter M s t x y =
     ap (λ (p : Msg → Bool). bytesOf (withPending M p)) (after-taken s t (M .pending))
     ∙ bytes-sent (withPending M (pendingAfter [] t (M .pending))) s x
     ∙ ap (sentBits s) (bytes-taken M t y)
+
+-- one message more, after the others
+pub bytes-one-more : (M : Meaning) (m : Msg) (s : List Msg) (t : Option Msg) → T (exists seats width m)
+    → bytesOf (withPending M (pendingAfter (m ∷ s) t (M .pending)))
+    ≡ setBit (bytesOf (withPending M (pendingAfter s t (M .pending)))) pendingFrom (place seats width m)
+bytes-one-more M m s t x =
+    ap (λ (p : Msg → Bool). bytesOf (withPending M p)) (after-last m s t (M .pending))
+    ∙ bytes-withMessage (withPending M (pendingAfter s t (M .pending))) m x
