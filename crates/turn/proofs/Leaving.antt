@@ -47,7 +47,7 @@ module _ (M : Meaning) where
       (λ p. rw (le-ltb y seats p))
       (lt-or-ge y seats)
 
-any-same : (n : ℕ) (p q : ℕ → Bool) → ((i : ℕ) → i < n → p i ≡ q i) → any n p ≡ any n q
+pub any-same : (n : ℕ) (p q : ℕ → Bool) → ((i : ℕ) → i < n → p i ≡ q i) → any n p ≡ any n q
 unfolding any
 any-same zero p q h = refl
 any-same (suc n) p q h = rw (h n (omega arith), any-same n p q (λ i l. h i (omega arith)))

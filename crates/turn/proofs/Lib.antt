@@ -4,3 +4,5 @@ pub mod Telling
 pub mod Unlinking
 pub mod Freeing
 pub mod Accepted
+pub mod Told
+pub mod Refused

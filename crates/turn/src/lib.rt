@@ -4,16 +4,19 @@ ghost use Prim.Native.Nat.{ℕ, _+_, _*_, _-_, _<_};
 ghost use lib.ListN.{length, getD};
 ghost use Rattle.graph.specs.Vector.{width};
 ghost use Rattle.protocol.specs.Message.{going};
-ghost use Rattle.protocol.specs.Numbering.{any, place};
-ghost use Rattle.protocol.specs.Table.{turn};
+ghost use Rattle.protocol.specs.Numbering.{any, place, somePending};
+ghost use Rattle.protocol.specs.Table.{turn as turning};
 ghost use Rattle.protocol.specs.State.{leaves};
 ghost use Rattle.protocol.specs.Calls.{farewell, farewells, accept};
 ghost use Rattle.record.specs.Layout.{seats, levels, size};
-ghost use Rattle.record.specs.Meaning.{rosterIn};
-ghost use Rattle.record.specs.Reading.{sideOfNumber};
+ghost use Rattle.record.specs.Meaning.{rosterIn, meaning};
+ghost use Rattle.record.specs.Reading.{sideOfNumber, recordRefusal};
+ghost use Rattle.outcome.specs.Made.{madeRefusal, made};
+ghost use Rattle.outcome.specs.Answer.{told, answered};
 ghost use Rattle.turn.specs.Steps.{Step, same, saying, lotFarewells, farewellsFrom, linkGoes, linkPlace, relinked, freedTo, begun, ended};
 
-use record::{LEVELS, NONE, SEATS};
+use outcome::Answer;
+use record::{LEVELS, NONE, PENDING, SEATS, SIZE};
 
 const OPEN: u8 = 0;
 
@@ -23,7 +26,11 @@ const FREE: u8 = 0;
 
 const STAYING: u8 = 1;
 
-// Refusals of a turn.
+// The refusals of a turn.
+const WRONG_SIZE: u8 = 1;
+
+const UNSOUND: u8 = 2;
+
 const MESSAGES_LEFT: u8 = 11;
 
 const LEFT: usize = 0;
@@ -190,7 +197,7 @@ fn end_clearing(rec: &mut [u8])
 // What an accepted turn does.
 fn carry_out(rec: &mut [u8])
     requires { ⌜ length (now rec) ≡ size ⌝ }
-    ensures { λ _. ⌜ Step same (λ M. accept seats width M turn) (now (rec .entry)) (now (rec .exit)) ⌝ }
+    ensures { λ _. ⌜ Step same (λ M. accept seats width M turning) (now (rec .entry)) (now (rec .exit)) ⌝ }
 {
     if record::phase(rec) != OPEN {
         end_clearing(rec);
@@ -199,4 +206,51 @@ fn carry_out(rec: &mut [u8])
     if has_leaver(rec) {
         begin_clearing(rec);
     }
+}
+
+// 1 wrong size, 2 unsound, or 0.
+fn record_refusal(rec: &[u8]) -> u8
+    ensures { λ r. ⌜ r ≡ recordRefusal (now (rec .entry)) ⌝ }
+{
+    if rec.len() != SIZE {
+        return WRONG_SIZE;
+    }
+    if !soundness::is_sound(rec) {
+        return UNSOUND;
+    }
+    0
+}
+
+fn has_pending(rec: &[u8]) -> bool
+    requires { ⌜ length (now rec) ≡ size ⌝ }
+    ensures { λ r. ⌜ r ≡ somePending seats width (meaning (now (rec .entry)) .pending) ⌝ }
+{
+    !memory::zero_range(rec, PENDING, SIZE - PENDING)
+}
+
+// The refusal number of a turn, 0 if it is accepted.
+fn turn_refusal(rec: &[u8]) -> u8
+    ensures { λ r. ⌜ r ≡ madeRefusal (now (rec .entry)) turning ⌝ }
+{
+    let n = record_refusal(rec);
+    if n != 0 {
+        return n;
+    }
+    if has_pending(rec) {
+        return MESSAGES_LEFT;
+    }
+    0
+}
+
+// In phase open with leavers: phase clearing, and every leaver sends GOING to each of its links; without leavers nothing changes. In phase
+// clearing: the leavers' seats become free, a link to one becomes none, phase open. Refused by 1, 2, 11, in this order.
+pub fn turn(rec: &mut [u8]) -> Answer
+    ensures { λ r. ⌜ told r (now (rec .exit)) ≡ answered (made (now (rec .entry)) turning) ⌝ }
+{
+    let n = turn_refusal(rec);
+    if n != 0 {
+        return outcome::answer_of(n);
+    }
+    carry_out(rec);
+    Answer::Done
 }
