@@ -34,7 +34,7 @@ use Rattle.runs.proofs.Readings.{countsOf, read-lot, read-message, read
 unfoldable pub bound : List ℕ → ℕ
 bound l = measure.bound seats width (meaning l)
 
-open-sized : (l : List ℕ) → openRefusal l ≡ 0 → length l ≡ size
+pub open-sized : (l : List ℕ) → openRefusal l ≡ 0 → length l ≡ size
 unfolding openRefusal first
 open-sized l e = by (ℕ-discrete (length l) size)
   where
