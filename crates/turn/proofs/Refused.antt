@@ -2,8 +2,8 @@
 use Prim.Native.Nat.{ℕ, zero, suc, _<_}
 use mathlib.Core.Path.{_≡_, refl, sym, ap, _∙_}
 use mathlib.Core.Bool.{Bool, true, false, not, cond, _&&_, _||_}
-use mathlib.Core.Option.{Option, none, some}
-use mathlib.Core.List.{List, [], _∷_}
+use mathlib.Core.Option.{none, some}
+use mathlib.Core.List.{List}
 use native.Mathlib.Omega.{arith}
 use lib.Dec.{eqb, ltb}
 use lib.ListN.{length, getD}
@@ -12,11 +12,10 @@ use Rattle.memory.specs.Bytes.{AreBytes, zeros}
 use Rattle.memory.specs.Bits.{bitSet}
 use Rattle.memory.specs.Loops.{all}
 use Rattle.memory.proofs.Zeros.{zeros-bits}
-use Rattle.graph.specs.Side.{Side}
 use Rattle.graph.specs.Vector.{width}
 use Rattle.graph.proofs.Tests.{some-inj, none-some}
 use Rattle.protocol.specs.Numbering.{any, messageAt, somePending}
-use Rattle.protocol.specs.Table.{first, row, rows, turn}
+use Rattle.protocol.specs.Table.{first, rows, turn}
 use Rattle.protocol.proofs.Calls.{no-row}
 use Rattle.record.specs.Layout.{seats, levels, messages, linkAt, pendingFrom, pendingSize, size}
 use Rattle.record.specs.Meaning.{linkOf, meaning}

@@ -1,29 +1,22 @@
 -- `turn::record_refusal` meets its contract. Assumes nothing.
-use mathlib.Core.Path.{_≡_, sym, _∙_}
+use mathlib.Core.Path.{sym, _∙_}
 use borrow.Author.Tests.{not-true, not-false}
-use Rattle.turn.proofs.Refused.{wrong-size, not-sound, fine}
 use borrow.Author.Needs.{needs}
+use Rattle.turn.proofs.Refused.{wrong-size, not-sound, fine}
 use Rattle.turn.proofs.record_refusal.Statement.{statement}
 use Rattle.turn.proofs.record_refusal.Tie as tie
-use Rattle.turn.proofs.record_refusal.Reads as reads
-use Rattle.turn.proofs.record_refusal.Lts as lts
-use Rattle.soundness.proofs.is_sound.Reads as is-sound-reads
 
--- src/lib.rt:216:9
 returns : tie.Need-returns
 returns c = wrong-size (c .before .before .args .rec .now) (c .if1 .taken)
 
--- src/lib.rt:218:9
 is-sound-requires : tie.Need-is-sound-requires
 is-sound-requires c κs = search needs
 
--- src/lib.rt:219:9
 returns-2 : tie.Need-returns-2
 returns-2 c =
     let b = c .before .before in
     not-sound (b .before .before .args .rec .now) (b .if1 .left) (sym (c .before .is-sound .ensures) ∙ not-true (c .before .is-sound .result) (c .if2 .taken))
 
--- src/lib.rt:212:1
 returns-3 : tie.Need-returns-3
 returns-3 c =
     let b = c .before .before in
