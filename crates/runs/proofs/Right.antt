@@ -20,7 +20,7 @@ use Rattle.protocol.proofs.Theorem as protocol-theorem
 use Rattle.protocol.proofs.Measure as measure
 use Rattle.record.specs.Layout.{seats, size}
 use Rattle.record.specs.Meaning.{rosterIn, bytesOf}
-use Rattle.record.specs.Reading.{openRefusal, recordRefusal}
+use Rattle.record.specs.Reading.{openRefusal, recordRefusal, lotRefusal}
 use Rattle.record.proofs.Places.{length-bytesOf}
 use Rattle.record.proofs.Form.{meaning-roster}
 use Rattle.record.proofs.Round.{meaning-bytes}
@@ -29,7 +29,7 @@ use Rattle.search.specs.Walk.{find}
 use Rattle.search.specs.Check.{check}
 use Rattle.search.proofs.Holder.{RightHolder, find-holder}
 use Rattle.search.proofs.Check.{check-graph}
-use Rattle.find.specs.Find.{FindAnswer, findRefusal, findIn}
+use Rattle.find.specs.Find.{FindAnswer, findIn}
 use Rattle.audit.specs.Check.{checkIn}
 use Rattle.runs.specs.Run.{run, meant, roster}
 use Rattle.runs.proofs.Same.{Same, run-same}
@@ -46,7 +46,7 @@ module _ (M : Meaning) (h : Sound seats width M) where
 
   find-bytes : (s x : ℕ) → T (seated (M .roster) s)
       → findIn (bytesOf M) s x ≡ (let f = find (M .roster .number) (M .link) x seats width s in record { refused = 0; holder = f .holder; hops = f .hops })
-  unfolding findIn findRefusal first
+  unfolding findIn lotRefusal first
   find-bytes s x m =
       let f : isFree (M .roster .state s) ≡ false = not-T-false (T-not (isFree (M .roster .state s)) m) in
       rw (eq-eqb (length (bytesOf M)) size (length-bytesOf M), bytes-sound h, lt-ltb s seats (h .seats s m), roster-bytes, f, meaning-bytes h)
