@@ -17,7 +17,6 @@ ghost use Rattle.record.specs.Layout.{seats, levels, size, stateAt, numberFrom,
 ghost use Rattle.record.specs.Meaning.{rosterIn, meaning, bytesOf};
 ghost use Rattle.outcome.specs.Made.{madeRefusal, made};
 ghost use Rattle.outcome.specs.Answer.{told, answered};
-
 use outcome::Answer;
 use record::LEVELS;
 use record::NONE;

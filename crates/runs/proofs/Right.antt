@@ -83,7 +83,8 @@ module _ (l : List ℕ) (e : openRefusal l ≡ 0) (cs : List Call) (r : AllInRan
       let n : T (seated (M .roster) s) = subst (λ (r : Roster). T (seated r s)) (sym who) m in
       let a = ap (λ (b : List ℕ). findIn b s x) (both .now) ∙ find-bytes M (both .fine) s x n in
       let o : member (M .roster) ≡ seated (M .roster) = seated-members (M .roster) (ap (λ (r : Roster). r .phase) who ∙ p) in
-      let g = find-holder (members-laws (both .fine)) right (λ y z u v. refl) x s (rw o n) in
-      (ap (λ (f : FindAnswer). f .refused) a,
-      subst (λ (r : Roster). RightHolder (seated r) (r .number) x (findIn (run l cs .now) s x .holder)) who
-      (rw (ap (λ (f : FindAnswer). f .holder) a) (subst (λ (t : ℕ → Bool). RightHolder t (M .roster .number) x (find (M .roster .number) (M .link) x seats width s .holder)) o g)))
+      let g = find-holder (members-laws (both .fine)) right (λ y z u v. refl) x s (rw o n) in (
+        ap (λ (f : FindAnswer). f .refused) a,
+        subst (λ (r : Roster). RightHolder (seated r) (r .number) x (findIn (run l cs .now) s x .holder)) who
+            (rw (ap (λ (f : FindAnswer). f .holder) a) (subst (λ (t : ℕ → Bool). RightHolder t (M .roster .number) x (find (M .roster .number) (M .link) x seats width s .holder)) o g)),
+      )
