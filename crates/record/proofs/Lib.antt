@@ -1,1 +1,5 @@
 -- Why bytes and meaning agree.
+pub mod Places
+pub mod Values
+pub mod Form
+pub mod Round
