@@ -1,6 +1,6 @@
--- A test of every number below n: the steps of a loop that makes it, what it says of each number, and ranges joined and nested. Assumes nothing.
+-- A test of every number below n: the steps of a loop, what it says of each number, and ranges joined and nested. Assumes nothing.
 use Prim.Native.Nat.{ℕ, zero, suc, _+_, _*_, _<_}
-use mathlib.Core.Path.{_≡_, refl, sym, ap, _∙_}
+use mathlib.Core.Path.{_≡_, refl}
 use mathlib.Core.Logic.{⊎-elim}
 use mathlib.Core.Bool.{Bool, true, false, _&&_}
 use native.Mathlib.Omega.{arith}

@@ -1,10 +1,11 @@
 -- Bitmaps in bytes: a bit after one was set or cleared, other bytes, and a byte as its eight bits. Assumes nothing.
 use Prim.Native.Nat.{ℕ, _+_, _*_, _/_, _%_, _≤_, _<_}
-use mathlib.Core.Path.{_≡_, refl, sym, ap, _∙_}
+use mathlib.Core.Path.{_≡_, sym, ap, _∙_}
 use mathlib.Core.Logic.{_⊎_, ⊎-elim}
-use mathlib.Core.Bool.{Bool, true, false}
+use mathlib.Core.Bool.{Bool}
 use mathlib.Core.List.{List}
 use native.Mathlib.Omega.{arith}
+use native.Mathlib.Nat.{div-add-mod'}
 use lib.ListN.{length, getD, set, length-set}
 use lib.Seq.{getD-set-same, getD-set-other, set-getD, set-out}
 use Rattle.memory.specs.Bytes.{AreBytes, putNumber}
@@ -12,7 +13,7 @@ use Rattle.memory.specs.Bits.{hasBit, withBit, packed, bitSet, putBit}
 use Rattle.memory.proofs.Cases.{lt-or-ge, eq-or-ne}
 use Rattle.memory.proofs.Bytes.{bytes-set, getD-putNumber-other}
 use Rattle.memory.proofs.Bits.{hasBit-withBit, hasBit-withBit-other, withBit-lt, withBit-hasBit}
-use Rattle.memory.proofs.Packed.{packed-is}
+use Rattle.memory.proofs.Packed.{packed-is, packed-bits}
 
 -- a bit is of its own byte alone
 pub bitSet-agrees : (l m : List ℕ) (base i : ℕ) → getD l (base + i / 8) 0 ≡ getD m (base + i / 8) 0 → bitSet l base i ≡ bitSet m base i
@@ -33,18 +34,31 @@ bitSet-byte l base b j h =
     let m : (b * 8 + j) % 8 ≡ j = omega arith in
     rw (d, m)
 
+-- the bitmap from its byte b on
+pub bitSet-from : (l : List ℕ) (base b j : ℕ) → bitSet l (base + b) j ≡ bitSet l base (b * 8 + j)
+bitSet-from l base b j =
+    let d : base + (b * 8 + j) / 8 ≡ base + b + j / 8 = omega arith in
+    let m : (b * 8 + j) % 8 ≡ j % 8 = omega arith in
+    rw (d, m)
+
 -- a byte of the bitmap is its eight bits
 pub byte-packed : (l : List ℕ) (base b : ℕ) → AreBytes l → getD l (base + b) 0 ≡ packed 8 (λ j. bitSet l base (b * 8 + j))
 byte-packed l base b h =
     sym (packed-is 8 (getD l (base + b) 0) (λ j. bitSet l base (b * 8 + j)) (h (base + b)) (λ j q. sym (bitSet-byte l base b j q)))
 
+-- a bit of a byte that was made of its bits
+pub bitSet-packed : (l : List ℕ) (base i : ℕ) (p : ℕ → Bool) → getD l (base + i / 8) 0 ≡ packed 8 (λ j. p (i / 8 * 8 + j))
+    → bitSet l base i ≡ p i
+bitSet-packed l base i p e =
+    ap (λ (x : ℕ). hasBit x (i % 8)) e ∙ packed-bits 8 (λ j. p (i / 8 * 8 + j)) (i % 8) (omega arith) ∙ ap p (div-add-mod' i 8)
+
 module _ (l : List ℕ) (base i : ℕ) (b : Bool) where
   pub length-putBit : length (putBit l base i b) ≡ length l
-  length-putBit = length-set l (base + i / 8) (withBit (getD l (base + i / 8) 0) (i % 8) b)
+  length-putBit = rw length-set
 
   -- one byte changes
   pub getD-putBit-other : (j : ℕ) → (j ≡ base + i / 8 → ⊥) → getD (putBit l base i b) j 0 ≡ getD l j 0
-  getD-putBit-other j ne = getD-set-other l (base + i / 8) j (withBit (getD l (base + i / 8) 0) (i % 8) b) 0 ne
+  getD-putBit-other j ne = getD-set-other l (base + i / 8) j _ 0 ne
 
   pub getD-putBit : base + i / 8 < length l → getD (putBit l base i b) (base + i / 8) 0 ≡ withBit (getD l (base + i / 8) 0) (i % 8) b
   getD-putBit h = getD-set-same l (base + i / 8) (withBit (getD l (base + i / 8) 0) (i % 8) b) 0 h

@@ -52,6 +52,13 @@ pub hasBit-is : (x k : ℕ) (b : Bool) → bitOf x k ≡ oneIf b → hasBit x k 
 hasBit-is x k true e = eq-eqb (bitOf x k) 1 e
 hasBit-is x k false e = ne-eqb (bitOf x k) 1 (λ q. omega arith)
 
+pub hasBit-shr : (x k j : ℕ) → hasBit x (k + j) ≡ hasBit (x / 2 ^ k) j
+hasBit-shr x k j = ap (λ (y : ℕ). eqb y 1) (sym (bitOf-shr x k j))
+
+-- 0 has no bit
+pub hasBit-none : (k : ℕ) → hasBit 0 k ≡ false
+hasBit-none k = hasBit-is 0 k false (bitOf-none k)
+
 -- a number with a bit changed: its lowest bit, and those above it
 withBit-zero : (x : ℕ) (b : Bool) → withBit x 0 b ≡ x / 2 * 2 + oneIf b
 unfolding withBit
@@ -73,8 +80,9 @@ withBit-same x (suc k) b = rw (withBit-suc, bitOf-above) (withBit-same (x / 2) k
 
 withBit-other : (x k j : ℕ) (b : Bool) → (j ≡ k → ⊥) → bitOf (withBit x k b) j ≡ bitOf x j
 withBit-other x zero zero b ne = absurd (ne refl)
-withBit-other x zero (suc j) b ne = rw (withBit-zero, bitOf-suc, bitOf-suc) (ap (λ (n : ℕ). bitOf n j) (omega (arith, oneIf-le b)))
-withBit-other x (suc k) zero b ne = rw (withBit-suc, bitOf-zero, bitOf-zero) (omega arith)
+withBit-other x zero (suc j) b ne =
+    rw (withBit-zero, bitOf-suc (x / 2 * 2 + oneIf b) j, bitOf-suc x j) (ap (λ (n : ℕ). bitOf n j) (omega (arith, oneIf-le b)))
+withBit-other x (suc k) zero b ne = rw (withBit-suc, bitOf-zero (withBit (x / 2) k b * 2 + x % 2), bitOf-zero x) (omega arith)
 withBit-other x (suc k) (suc j) b ne = rw (withBit-suc, bitOf-above, bitOf-suc) (withBit-other (x / 2) k j b (λ e. ne (ap suc e)))
 
 -- the bit that was changed, the others, and the bound that is kept

@@ -1,12 +1,11 @@
 -- Numbers in bytes: what reading gives after writing, at the same place and at others, and that bytes stay bytes. Assumes nothing.
 use Prim.Native.Nat.{ℕ, zero, suc, _+_, _*_, _/_, _%_, _^_, _≤_, _<_}
-use mathlib.Core.Path.{_≡_, refl, sym, ap, _∙_}
+use mathlib.Core.Path.{_≡_, refl, ap, _∙_}
 use mathlib.Core.Logic.{_⊎_, ⊎-elim, inl, inr}
 use mathlib.Core.List.{List}
 use native.Mathlib.Omega.{arith}
-use native.Mathlib.Nat.{lt-of-lt-of-le, pow-suc, pow-le-pow-right}
+use native.Mathlib.Nat.{pow-suc}
 use native.Mathlib.Numerals.{add-one}
-use lib.Dec.{lit<}
 use lib.ListN.{length, getD, set, length-set}
 use lib.Seq.{getD-set-same, getD-set-other, set-out}
 use Rattle.memory.specs.Bytes.{AreBytes, numberAt, putNumber}
@@ -24,10 +23,6 @@ pub numberAt-lt : (l : List ℕ) (a n : ℕ) → AreBytes l → numberAt l a n <
 unfolding numberAt
 numberAt-lt l a zero b = omega arith
 numberAt-lt l a (suc n) b = omega (arith, numberAt-lt l a n b, b (a + n), pow-suc 256 n)
-
--- and so below a larger power
-pub numberAt-fits : (l : List ℕ) (a n w : ℕ) → AreBytes l → n ≤ w → numberAt l a n < 256 ^ w
-numberAt-fits l a n w b h = lt-of-lt-of-le (numberAt-lt l a n b) (pow-le-pow-right (lit< tt) h)
 
 -- a number is of its own bytes alone
 pub numberAt-agrees : (l m : List ℕ) (a n : ℕ) → ((j : ℕ) → j < n → getD l (a + j) 0 ≡ getD m (a + j) 0) → numberAt l a n ≡ numberAt m a n

@@ -1,6 +1,6 @@
 -- How many numbers below n pass: the steps of a loop that counts, ranges joined, and a count of 0. Assumes nothing.
 use Prim.Native.Nat.{ℕ, zero, suc, _+_, _≤_, _<_}
-use mathlib.Core.Path.{_≡_, refl, sym, ap, _∙_}
+use mathlib.Core.Path.{_≡_, refl}
 use mathlib.Core.Logic.{_↔_, ⊎-elim}
 use mathlib.Core.Bool.{Bool, true, false}
 use native.Mathlib.Omega.{arith}
@@ -38,7 +38,7 @@ count-same (suc n) p q h = rw (count-same n p q (λ i l. h i (omega arith)), h n
 -- a range of m and one of n after it
 pub count-append : (m n : ℕ) (p : ℕ → Bool) → count (m + n) p ≡ count m p + count n (λ j. p (m + j))
 unfolding count
-count-append m zero p = rw (add-zero, add-zero)
+count-append m zero p = rw (add-zero m, add-zero (count m p))
 count-append m (suc n) p = rw (add-suc, count-append m n p) (add-assoc (count m p) (count n (λ j. p (m + j))) (oneIf (p (m + n))))
 
 zero-fails : (n i : ℕ) (p : ℕ → Bool) → count n p ≡ 0 → i < n → p i ≡ false

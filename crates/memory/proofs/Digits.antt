@@ -1,17 +1,18 @@
 -- The bytes of a number: what writing stores, and that the bytes of a number that was read are the bytes there. Assumes nothing.
 use Prim.Native.Nat.{ℕ, zero, suc, _+_, _-_, _*_, _/_, _%_, _^_, _≤_, _<_}
 use mathlib.Core.Path.{_≡_, refl, sym, ap, _∙_}
-use mathlib.Core.Logic.{⊎-elim}
+use mathlib.Core.Logic.{⊎-elim, inl, inr}
 use mathlib.Core.List.{List}
 use native.Mathlib.Omega.{arith}
-use native.Mathlib.Nat.{mul-suc, mul-comm, pow-suc, div-div-eq-div-mul}
+use native.Mathlib.Nat.{mul-suc, mul-comm, mul-assoc, add-mul, pow-suc, div-div-eq-div-mul}
 use native.Mathlib.Numerals.{add-one}
+use lib.Bits.{bitOr, or-shifted}
 use lib.ListN.{length, getD, set}
-use lib.Pow.{pow-add}
-use lib.Seq.{getD-set-same, getD-set-other}
+use lib.Pow.{pow-add, shl-lt, shl-exact}
+use lib.Seq.{getD-set-same, getD-set-other, ext-getD}
 use Rattle.memory.specs.Bytes.{AreBytes, numberAt, putNumber, digit}
 use Rattle.memory.proofs.Cases.{lt-or-ge}
-use Rattle.memory.proofs.Bytes.{length-putNumber}
+use Rattle.memory.proofs.Bytes.{length-putNumber, getD-putNumber-other}
 
 pub digit-lt : (n v j : ℕ) → digit n v j < 256
 unfolding digit
@@ -33,9 +34,21 @@ pow-bytes : (m : ℕ) → 2 ^ (8 * m) ≡ 256 ^ m
 pow-bytes zero = refl
 pow-bytes (suc m) = rw (mul-suc, pow-add, pow-bytes m) (sym (pow-suc 256 m))
 
-pub digit-shift : (n v j : ℕ) → v / 2 ^ (8 * (n - suc j)) % 256 ≡ digit n v j
+pub digit-shift : (n v j k : ℕ) → k + suc j ≡ n → v / 2 ^ (8 * k) % 256 ≡ digit n v j
 unfolding digit
-digit-shift n v j = rw (pow-bytes (n - suc j))
+digit-shift n v j k h = let e : n - suc j ≡ k = omega arith in rw (e, pow-bytes k)
+
+-- byte i of n joined to the number x of the bytes before it: code's or with the shifted byte
+pub or-digit : (x b n i k : ℕ) → k + suc i ≡ n → b < 256
+    → bitOr (x * 256 ^ (n - i)) ((b * 2 ^ (8 * k)) % 2 ^ (8 * n)) ≡ (x * 256 + b) * 256 ^ k
+or-digit x b n i k h f =
+    let e : n - i ≡ suc k = omega arith in
+    let w : 8 + 8 * k ≡ 8 * suc k = omega arith in
+    let low : b * 2 ^ (8 * k) < 2 ^ (8 * suc k) = rw (← w) (shl-lt 8 (8 * k) f) in
+    let high : x * 256 ^ (n - i) ≡ x * 2 ^ (8 * suc k) = rw (e, pow-bytes (suc k)) in
+    let whole : (b * 2 ^ (8 * k)) % 2 ^ (8 * n) ≡ b * 2 ^ (8 * k) = shl-exact 8 (8 * k) (8 * n) f (omega arith) in
+    rw (high, whole, or-shifted x (8 * suc k) (b * 2 ^ (8 * k)) low, pow-bytes (suc k), pow-bytes k, pow-suc 256 k)
+    (rw (mul-comm (256 ^ k) 256, add-mul, mul-assoc))
 
 -- one byte more of a number that is written highest byte first
 pub putNumber-none : (l : List ℕ) (a v : ℕ) → putNumber l a 0 v ≡ l
@@ -47,7 +60,8 @@ pub putNumber-more : (l : List ℕ) (a n v i : ℕ) → i < n
 unfolding putNumber digit
 putNumber-more l a n v i h =
     let e : n - i ≡ suc (n - suc i) = omega arith in
-    rw (add-one, e, pow-suc) (ap (λ (x : ℕ). set (putNumber l a i x) (a + i) (v / 256 ^ (n - suc i) % 256)) (div-div-eq-div-mul v (256 ^ (n - suc i)) 256))
+    let m = 256 ^ (n - suc i) in
+    rw (add-one, e, pow-suc) (ap (λ (x : ℕ). set (putNumber l a i x) (a + i) (v / m % 256)) (div-div-eq-div-mul v m 256))
 
 -- a number that was written is its digits
 pub getD-putNumber : (l : List ℕ) (a n v j : ℕ) → a + n ≤ length l → j < n → getD (putNumber l a n v) (a + j) 0 ≡ digit n v j
@@ -56,8 +70,11 @@ getD-putNumber l a zero v j h k = absurd (omega arith)
 getD-putNumber l a (suc n) v j h k =
     let m = putNumber l a n (v / 256) in
     ⊎-elim
-    (λ p. getD-set-other m (a + n) (a + j) (v % 256) 0 (λ e. omega arith) ∙ getD-putNumber l a n (v / 256) j (omega arith) p ∙ sym (digit-before n v j p))
-    (λ p.
+    (λ (p : j < n).
+    getD-set-other m (a + n) (a + j) (v % 256) 0 (λ e. omega arith)
+    ∙ getD-putNumber l a n (v / 256) j (omega arith) p
+    ∙ sym (digit-before n v j p))
+    (λ (p : n ≤ j).
     let e : j ≡ n = omega arith in
     rw e (getD-set-same m (a + n) (v % 256) 0 (rw length-putNumber (omega arith)) ∙ sym (digit-last n v)))
     (lt-or-ge j n)
@@ -85,3 +102,19 @@ digit-numberAt l a (suc n) j b h =
     (λ p. digit-before n (x * 256 + y) j p ∙ ap (λ (z : ℕ). digit n z j) e ∙ digit-numberAt l a n j b p)
     (λ p. let f : j ≡ n = omega arith in rw f (digit-last n (x * 256 + y) ∙ omega arith))
     (lt-or-ge j n)
+
+-- writing the number that is there changes nothing
+pub putNumber-numberAt : (l : List ℕ) (a n : ℕ) → AreBytes l → a + n ≤ length l → putNumber l a n (numberAt l a n) ≡ l
+putNumber-numberAt l a n b h = ext-getD 0 (putNumber l a n v) l (length-putNumber l a n v)
+    (λ i p. ⊎-elim
+    (λ q. getD-putNumber-other l a n v i (inl q))
+    (λ q. ⊎-elim (λ r. within i q r) (λ r. getD-putNumber-other l a n v i (inr r)) (lt-or-ge i (a + n)))
+    (lt-or-ge i a))
+  where
+    v : ℕ
+    v = numberAt l a n
+
+    within : (i : ℕ) → a ≤ i → i < a + n → getD (putNumber l a n v) i 0 ≡ getD l i 0
+    within i q r =
+        let e : a + (i - a) ≡ i = omega arith in
+        rw e at (getD-putNumber l a n v (i - a) h (omega arith) ∙ digit-numberAt l a n (i - a) b (omega arith))

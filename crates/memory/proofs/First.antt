@@ -4,7 +4,6 @@ use mathlib.Core.Path.{_≡_, refl, sym, ap, _∙_}
 use mathlib.Core.Logic.{_⊎_, ⊎-elim, inl, inr}
 use mathlib.Core.Bool.{Bool, true, false, not}
 use native.Mathlib.Omega.{arith}
-use native.Mathlib.Nat.{add-zero}
 use lib.Dec.{eqb}
 use borrow.Author.Tests.{eq-eqb, ne-eqb}
 use Rattle.memory.specs.Loops.{all, firstFrom}
@@ -109,7 +108,8 @@ pub first-more : (e i : ℕ) (p : ℕ → Bool) → i < e → p i ≡ false → 
 first-more e i p l f = first-skip e i (i + 1) p (omega arith) (omega arith) (λ j a b. let q : j ≡ i = omega arith in rw q f)
 
 -- k passes, and none before it
-pub first-found : (e i k : ℕ) (p : ℕ → Bool) → i ≤ k → k < e → ((j : ℕ) → i ≤ j → j < k → p j ≡ false) → p k ≡ true → firstFrom (e - i) i p ≡ k
+pub first-found : (e i k : ℕ) (p : ℕ → Bool) → i ≤ k → k < e → ((j : ℕ) → i ≤ j → j < k → p j ≡ false) → p k ≡ true
+    → firstFrom (e - i) i p ≡ k
 first-found e i k p a b h t = first-is (e - i) i p k (record { low = a; high = omega arith; before = h; found = λ l. t })
 
 -- i passes
@@ -126,7 +126,9 @@ pub first-all : (n i : ℕ) (p : ℕ → Bool) → eqb (firstFrom n i p) (i + n)
 first-all n i p =
     let f = first n i p in
     ⊎-elim
-    (λ e. eq-eqb (firstFrom n i p) (i + n) e ∙ sym (all-from n (λ j. not (p (i + j))) (λ j l. rw (f .before (i + j) (omega arith) (omega arith)))))
+    (λ e.
+    let fails = all-from n (λ j. not (p (i + j))) (λ j l. rw (f .before (i + j) (omega arith) (omega arith))) in
+    eq-eqb (firstFrom n i p) (i + n) e ∙ sym fails)
     (λ ne.
     let d = firstFrom n i p - i in
     let e : i + d ≡ firstFrom n i p = omega (arith, f .low) in

@@ -10,5 +10,6 @@ pub mod Bits
 pub mod Packed
 pub mod Bitmap
 pub mod Zeros
-pub mod Counted
+pub mod MachineCounts
 pub mod Search
+pub mod Examples

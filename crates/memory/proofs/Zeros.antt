@@ -1,5 +1,5 @@
 -- Bytes that are all 0: by their bits, by parts, and by the or of the bytes, as code tests it. Assumes nothing.
-use Prim.Native.Nat.{ℕ, zero, suc, _+_, _-_, _*_, _/_, _%_, _≤_, _<_}
+use Prim.Native.Nat.{ℕ, zero, suc, _+_, _-_, _*_, _≤_, _<_}
 use mathlib.Core.Path.{_≡_, refl, sym, ap, _∙_}
 use mathlib.Core.Logic.{⊎-elim}
 use mathlib.Core.Bool.{Bool, true, false, not, _&&_}
@@ -10,14 +10,14 @@ use native.Mathlib.Numerals.{add-one}
 use lib.Bits.{bitOr, or-add-and, and-le-l, and-le-r}
 use lib.Dec.{eqb}
 use lib.ListN.{getD}
-use borrow.Author.Tests.{eq-eqb, ne-eqb, eqb-true, not-true, not-false}
+use borrow.Author.Tests.{eq-eqb, ne-eqb, eqb-true, not-true}
 use Rattle.memory.specs.Loops.{all, firstFrom}
 use Rattle.memory.specs.Bytes.{AreBytes, isZero, nonZero, zeros}
 use Rattle.memory.specs.Bits.{hasBit, bitSet}
 use Rattle.memory.proofs.Cases.{eq-or-ne, same-test, not-not, and-false}
 use Rattle.memory.proofs.All.{all-at, all-from, all-same, all-append, all-product}
 use Rattle.memory.proofs.First.{first-skip, first-all}
-use Rattle.memory.proofs.Bits.{bitOf-none, hasBit-is}
+use Rattle.memory.proofs.Bits.{hasBit-none}
 use Rattle.memory.proofs.Packed.{bits-same}
 use Rattle.memory.proofs.Bitmap.{bitSet-byte}
 
@@ -38,7 +38,8 @@ zeros-append l a m n =
     ∙ ap (λ (t : Bool). zeros l a m && t) (all-same n _ _ (λ j p. ap (isZero l) (sym (add-assoc a m j))))
 
 -- zeros are passed by a search for a byte that is not 0
-pub zeros-skip : (l : List ℕ) (e a n : ℕ) → a + n ≤ e → zeros l a n ≡ true → firstFrom (e - a) a (nonZero l) ≡ firstFrom (e - (a + n)) (a + n) (nonZero l)
+pub zeros-skip : (l : List ℕ) (e a n : ℕ) → a + n ≤ e → zeros l a n ≡ true
+    → firstFrom (e - a) a (nonZero l) ≡ firstFrom (e - (a + n)) (a + n) (nonZero l)
 zeros-skip l e a n h z = first-skip e a (a + n) (nonZero l) (omega arith) h (λ j p q.
     let at : a + (j - a) ≡ j = omega arith in
     let nil : getD l j 0 ≡ 0 = ap (λ (i : ℕ). getD l i 0) (sym at) ∙ zeros-at l a n (j - a) z (omega arith) in
@@ -49,15 +50,15 @@ pub zeros-first : (l : List ℕ) (a n : ℕ) → eqb (firstFrom n a (nonZero l))
 zeros-first l a n =
     first-all n a (nonZero l) ∙ all-same n (λ j. not (nonZero l (a + j))) (λ j. isZero l (a + j)) (λ j p. not-not (isZero l (a + j)))
 
--- a number with no bit
-pub hasBit-none : (k : ℕ) → hasBit 0 k ≡ false
-hasBit-none k = hasBit-is 0 k false (bitOf-none k)
-
 -- a byte is 0 exactly if its eight bits are clear
 byte-zero : (x : ℕ) → x < 256 → eqb x 0 ≡ all 8 (λ j. not (hasBit x j))
-byte-zero x h = same-test (eqb x 0) (all 8 (λ j. not (hasBit x j)))
+byte-zero x h =
+    same-test (eqb x 0) (all 8 (λ j. not (hasBit x j)))
     (λ e. all-from 8 (λ j. not (hasBit x j)) (λ j p. rw (eqb-true x 0 e, hasBit-none j)))
-    (λ e. eq-eqb x 0 (bits-same 8 x 0 h (omega arith) (λ j p. not-true (hasBit x j) (all-at 8 j (λ j. not (hasBit x j)) e p) ∙ sym (hasBit-none j))))
+    (λ e. eq-eqb x 0 (bits-same 8 x 0 h (omega arith) (λ j p. clear e j p ∙ sym (hasBit-none j))))
+  where
+    clear : all 8 (λ j. not (hasBit x j)) ≡ true → (j : ℕ) → j < 8 → hasBit x j ≡ false
+    clear e j p = not-true (hasBit x j) (all-at 8 j (λ j. not (hasBit x j)) e p)
 
 -- bytes are 0 exactly if all their bits are clear
 pub zeros-bits : (l : List ℕ) (a n : ℕ) → AreBytes l → zeros l a n ≡ all (n * 8) (λ i. not (bitSet l a i))
@@ -67,8 +68,9 @@ zeros-bits l a n h =
   where
     byte : (b : ℕ) → isZero l (a + b) ≡ all 8 (λ j. not (bitSet l a (b * 8 + j)))
     byte b =
-        byte-zero (getD l (a + b) 0) (h (a + b))
-        ∙ all-same 8 (λ j. not (hasBit (getD l (a + b) 0) j)) (λ j. not (bitSet l a (b * 8 + j))) (λ j q. ap not (sym (bitSet-byte l a b j q)))
+        let x = getD l (a + b) 0 in
+        byte-zero x (h (a + b))
+        ∙ all-same 8 (λ j. not (hasBit x j)) (λ j. not (bitSet l a (b * 8 + j))) (λ j q. ap not (sym (bitSet-byte l a b j q)))
 
 -- the or of the n bytes from a on
 unfoldable pub orOf : (l : List ℕ) (a n : ℕ) → ℕ

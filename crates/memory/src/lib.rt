@@ -7,12 +7,19 @@ ghost use Rattle.memory.specs.Loops.{firstFrom, count as countOf};
 ghost use Rattle.memory.specs.Bytes.{numberAt, putNumber, digit, nonZero, zeros};
 ghost use Rattle.memory.specs.Bits.{hasBit, bitSet, setBit, clearBit};
 
+// The bits of a byte.
+const BITS: usize = 8;
+
 // The bytes of a number.
 const WIDTH: usize = 8;
+
+// The last byte of a number.
+const LAST: usize = WIDTH - 1;
 
 // The bytes that are tested for 0 at once.
 const CHUNK: usize = 32;
 
+// A byte as a number.
 pub fn wide(x: u8) -> u64
     ensures { λ r. ⌜ (r ≡ x) × (r < 256) ⌝ }
 {
@@ -26,7 +33,7 @@ pub fn number(rec: &[u8], at: usize) -> u64
 {
     let mut n: u64 = 0;
     for i in 0..WIDTH {
-        n = n * 256 + wide(rec[at + i]);
+        n = n | (wide(rec[at + i]) << (BITS * (LAST - i)));
     }
     n
 }
@@ -36,7 +43,7 @@ fn byte_of(n: u64, j: usize) -> u8
     requires { ⌜ j < 8 ⌝ }
     ensures { λ r. ⌜ r ≡ digit 8 n j ⌝ }
 {
-    ((n >> (8 * (7 - j))) % 256) as u8
+    ((n >> (BITS * (LAST - j))) % 256) as u8
 }
 
 // Writes a number to the 8 bytes from `at` on.
@@ -54,7 +61,7 @@ pub fn test_bit(rec: &[u8], base: usize, i: usize) -> bool
     requires { ⌜ base + i / 8 < length (now rec) ⌝ }
     ensures { λ r. ⌜ r ≡ bitSet (now (rec .entry)) base i ⌝ }
 {
-    (rec[base + i / 8] >> (i % 8)) % 2 == 1
+    (rec[base + i / BITS] >> (i % BITS)) % 2 == 1
 }
 
 // Sets bit `i` of the bitmap at `base`.
@@ -62,9 +69,9 @@ pub fn set_bit(rec: &mut [u8], base: usize, i: usize)
     requires { ⌜ base + i / 8 < length (now rec) ⌝ }
     ensures { λ _. ⌜ now (rec .exit) ≡ setBit (now (rec .entry)) base i ⌝ }
 {
-    let at = base + i / 8;
+    let at = base + i / BITS;
     let x = rec[at];
-    rec[at] = x | (1u8 << (i % 8));
+    rec[at] = x | (1u8 << (i % BITS));
 }
 
 // Clears bit `i` of the bitmap at `base`.
@@ -72,9 +79,9 @@ pub fn clear_bit(rec: &mut [u8], base: usize, i: usize)
     requires { ⌜ base + i / 8 < length (now rec) ⌝ }
     ensures { λ _. ⌜ now (rec .exit) ≡ clearBit (now (rec .entry)) base i ⌝ }
 {
-    let at = base + i / 8;
+    let at = base + i / BITS;
     let x = rec[at];
-    rec[at] = x - (x & (1u8 << (i % 8)));
+    rec[at] = x - (x & (1u8 << (i % BITS)));
 }
 
 // Whether the 32 bytes from `at` on are all 0.
@@ -92,7 +99,8 @@ fn zero_chunk(rec: &[u8], at: usize) -> bool
 // Where the search for a byte that is not 0, from `at` up to `end`, goes on: after the chunks that are all 0.
 fn skip_chunks(rec: &[u8], at: usize, end: usize) -> usize
     requires { ⌜ (at ≤ end) × (end ≤ length (now rec)) ⌝ }
-    ensures { λ r. ⌜ (r ≤ end) × (firstFrom (end - at) at (nonZero (now (rec .entry))) ≡ firstFrom (end - r) r (nonZero (now (rec .entry)))) ⌝ }
+    ensures within { λ r. ⌜ r ≤ end ⌝ }
+    ensures same { λ r. ⌜ firstFrom (end - at) at (nonZero (now (rec .entry))) ≡ firstFrom (end - r) r (nonZero (now (rec .entry))) ⌝ }
 {
     let mut i = at;
     while CHUNK <= end - i {
@@ -102,6 +110,14 @@ fn skip_chunks(rec: &[u8], at: usize, end: usize) -> usize
         i += CHUNK;
     }
     i
+}
+
+// Where the chunk from `at` on ends, or `end` if that comes first.
+fn chunk_end(at: usize, end: usize) -> usize
+    requires { ⌜ at < end ⌝ }
+    ensures { λ r. ⌜ (at < r) × (r ≤ end) × (r ≤ at + 32) ⌝ }
+{
+    if CHUNK < end - at { at + CHUNK } else { end }
 }
 
 // The first byte from `at` up to `end` that is not 0, else `end`.
@@ -135,7 +151,7 @@ fn first_in_byte(x: u8, from: usize) -> usize
 {
     let rest = x >> from;
     if rest == 0 {
-        return 8;
+        return BITS;
     }
     from + (u8::trailing_zeros(rest) as usize)
 }
@@ -145,12 +161,12 @@ fn first_in_bytes(rec: &[u8], base: usize, b: usize, count: usize) -> usize
     requires { ⌜ (b * 8 ≤ count) × (count % 8 ≡ 0) × (base + count / 8 ≤ length (now rec)) ⌝ }
     ensures { λ r. ⌜ r ≡ firstFrom (count - b * 8) (b * 8) (bitSet (now (rec .entry)) base) ⌝ }
 {
-    let end = base + count / 8;
+    let end = base + count / BITS;
     let at = first_byte(rec, base + b, end);
     if at == end {
         return count;
     }
-    (at - base) * 8 + first_in_byte(rec[at], 0)
+    (at - base) * BITS + first_in_byte(rec[at], 0)
 }
 
 // The first set bit at or after `from` of the bitmap of `count` bits at `base`, else `count`. The bitmap is whole bytes.
@@ -161,22 +177,38 @@ pub fn first_bit(rec: &[u8], base: usize, from: usize, count: usize) -> usize
     if from == count {
         return count;
     }
-    let b = from / 8;
-    let here = first_in_byte(rec[base + b], from % 8);
-    if here < 8 {
-        return b * 8 + here;
+    let b = from / BITS;
+    let here = first_in_byte(rec[base + b], from % BITS);
+    if here < BITS {
+        return b * BITS + here;
     }
     first_in_bytes(rec, base, b + 1, count)
 }
 
-// How many bits of the bitmap of `count` bits at `base` are set. The bitmap is whole bytes.
+// How many bits of the bytes from `at` up to `end`, at most a chunk, are set.
+fn count_chunk(rec: &[u8], at: usize, end: usize) -> usize
+    requires { ⌜ (at ≤ end) × (end ≤ at + 32) × (end ≤ length (now rec)) ⌝ }
+    ensures { λ r. ⌜ r ≡ countOf ((end - at) * 8) (bitSet (now (rec .entry)) at) ⌝ }
+{
+    let mut n: u32 = 0;
+    for i in at..end {
+        n += u8::count_ones(rec[i]);
+    }
+    n as usize
+}
+
+// How many bits of the bitmap of `count` bits at `base` are set. The bitmap is whole bytes. Bytes that are 0 are skipped.
 pub fn count_bits(rec: &[u8], base: usize, count: usize) -> usize
     requires { ⌜ (count % 8 ≡ 0) × (base + count / 8 ≤ length (now rec)) ⌝ }
     ensures { λ r. ⌜ r ≡ countOf count (bitSet (now (rec .entry)) base) ⌝ }
 {
+    let end = base + count / BITS;
     let mut n: usize = 0;
-    for b in 0..count / 8 {
-        n += u8::count_ones(rec[base + b]) as usize;
+    let mut at = first_byte(rec, base, end);
+    while at < end {
+        let next = chunk_end(at, end);
+        n += count_chunk(rec, at, next);
+        at = first_byte(rec, next, end);
     }
     n
 }

@@ -1,1 +1,2 @@
 -- The changing calls on the bytes and on the meaning.
+pub mod Bridge

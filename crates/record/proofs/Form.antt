@@ -15,12 +15,11 @@ use Rattle.graph.specs.Side.{Side}
 use Rattle.graph.specs.Vector.{width}
 use Rattle.graph.proofs.Tests.{T-true, and-fst}
 use Rattle.protocol.specs.Message.{Msg}
-use Rattle.protocol.specs.Numbering.{exists, count, place, messageAt}
+use Rattle.protocol.specs.Numbering.{exists, place, messageAt}
 use Rattle.protocol.specs.Rules.{free}
-use Rattle.protocol.proofs.Numbering.{exists-messageAt, place-messageAt}
 use Rattle.record.specs.Layout.{seats, levels, noLink, messages, phaseAt, stateAt, numberFrom, vectorAt, linkAt, pendingFrom, size}
 use Rattle.record.specs.Meaning.{phaseOf, stateOf, linkOf, rosterIn, meaning}
-use Rattle.record.proofs.Places.{messages-count}
+use Rattle.record.proofs.Places.{exists-at, place-at}
 
 pub record Form (l : List ℕ) : Type 0 where
   pub sized : length l ≡ size
@@ -61,9 +60,7 @@ module _ (l : List ℕ) where
 
   -- the bit at a place is the message there
   pub meaning-bit : (i : ℕ) → i < messages → meaning l .pending (messageAt seats width i) ≡ bitSet l pendingFrom i
-  meaning-bit i h =
-      let b : i < count seats width = rw (← messages-count) h in
-      meaning-pending (messageAt seats width i) (exists-messageAt seats width i b) ∙ ap (bitSet l pendingFrom) (place-messageAt seats width i b)
+  meaning-bit i h = meaning-pending (messageAt seats width i) (exists-at i h) ∙ ap (bitSet l pendingFrom) (place-at i h)
 
   -- and what does not exist
   pub no-seat-state : (s : ℕ) → seats ≤ s → meaning l .roster .state s ≡ free

@@ -3,3 +3,13 @@ pub mod Places
 pub mod Values
 pub mod Form
 pub mod Round
+pub mod Frame
+pub mod Pending
+pub mod Update
+pub mod Sent
+pub mod Part
+pub mod Entry
+pub mod Clauses
+pub mod Sound
+pub mod Opened
+pub mod Reading

@@ -4,6 +4,7 @@ use Prim.Native.Nat.{ℕ, zero, suc, _+_, _-_, _*_, _/_, _%_, _≤_, _<_}
 use mathlib.Core.Path.{_≡_, refl, sym, ap, _∙_, subst}
 use mathlib.Core.Logic.{⊎-elim}
 use native.Mathlib.Omega.{arith}
+use lib.Dec.{T}
 use lib.ListN.{length, getD}
 use borrow.Author.Tests.{lt-ltb, le-ltb, ne-eqb}
 use Rattle.memory.specs.Bytes.{digit}
@@ -11,10 +12,10 @@ use Rattle.memory.proofs.Cases.{lt-or-ge}
 use Rattle.memory.proofs.Tabulate.{length-tabulate, getD-tabulate}
 use Rattle.graph.specs.Side.{Side, left, right}
 use Rattle.graph.specs.Vector.{width}
-use Rattle.protocol.specs.Message.{sideNumber}
-use Rattle.protocol.specs.Numbering.{count}
+use Rattle.protocol.specs.Message.{Msg, sideNumber}
+use Rattle.protocol.specs.Numbering.{exists, count, place, messageAt}
 use Rattle.protocol.specs.State.{Meaning}
-use Rattle.protocol.proofs.Numbering.{sideNumber-lt}
+use Rattle.protocol.proofs.Numbering.{sideNumber-lt, place-lt, exists-messageAt, place-messageAt}
 use Rattle.record.specs.Layout.{seats, levels, entrySize, messages, phaseAt, entryAt, stateAt, numberFrom, vectorAt, linkAt}
 use Rattle.record.specs.Layout.{pendingFrom, pendingSize, size}
 use Rattle.record.specs.Meaning.{phaseByte, stateByte, linkByte, entryByte, pendingByte, byteOf, bytesOf}
@@ -24,6 +25,16 @@ use Rattle.record.specs.Reading.{sideOfNumber}
 pub messages-count : messages ≡ count seats width
 unfolding count
 messages-count = refl
+
+-- places of messages that exist, and messages at places
+pub place-within : (m : Msg) → T (exists seats width m) → place seats width m < messages
+place-within m x = rw messages-count (place-lt seats width m x)
+
+pub exists-at : (i : ℕ) → i < messages → T (exists seats width (messageAt seats width i))
+exists-at i h = exists-messageAt seats width i (rw (← messages-count) h)
+
+pub place-at : (i : ℕ) → i < messages → place seats width (messageAt seats width i) ≡ i
+place-at i h = place-messageAt seats width i (rw (← messages-count) h)
 
 pub messages-bits : messages ≡ pendingSize * 8
 messages-bits = refl
@@ -85,9 +96,38 @@ link-once x k y j d e p q h =
     let side : sideNumber d ≡ sideNumber e = omega arith in
     (seat, level, sym (side-sideNumber d) ∙ ap sideOfNumber side ∙ side-sideNumber e)
 
--- the byte at each place
+-- the byte at each place of an entry
+module _ (M : Meaning) (s : ℕ) where
+  pub entryByte-state : entryByte M s 0 ≡ stateByte (M .roster .state s)
+  unfolding entryByte
+  entryByte-state = refl
+
+  pub entryByte-number : (j : ℕ) → j < 8 → entryByte M s (1 + j) ≡ digit 8 (M .roster .number s) j
+  unfolding entryByte
+  entryByte-number j h =
+      let e : 1 + j - 1 ≡ j = omega arith in
+      rw (ne-eqb (1 + j) 0 (λ e. omega arith), lt-ltb (1 + j) 9 (omega arith), e)
+
+  pub entryByte-vector : entryByte M s 9 ≡ M .roster .vector s
+  unfolding entryByte
+  entryByte-vector = refl
+
+  pub entryByte-link : (k : ℕ) (d : Side) → entryByte M s (10 + 2 * k + sideNumber d) ≡ linkByte (M .link s k d)
+  unfolding entryByte
+  entryByte-link k d =
+      let o = sideNumber-lt d in
+      let j = 10 + 2 * k + sideNumber d in
+      let a : (j - 10) / 2 ≡ k = omega arith in
+      let b : (j - 10) % 2 ≡ sideNumber d = omega arith in
+      rw (ne-eqb j 0 (λ e. omega arith), le-ltb j 9 (omega arith), ne-eqb j 9 (λ e. omega arith), a, b, side-sideNumber d)
+
+-- the byte at each place of the record
 module _ (M : Meaning) where
-  at-entry : (s j : ℕ) → s < seats → j < entrySize → byteOf M (entryAt s + j) ≡ entryByte M s j
+  pub at-phase : byteOf M phaseAt ≡ phaseByte (M .roster .phase)
+  unfolding byteOf
+  at-phase = refl
+
+  pub at-entry : (s j : ℕ) → s < seats → j < entrySize → byteOf M (entryAt s + j) ≡ entryByte M s j
   unfolding byteOf
   at-entry s j p q =
       let i = entryAt s + j in
@@ -95,36 +135,19 @@ module _ (M : Meaning) where
       let b : (i - 1) % entrySize ≡ j = omega arith in
       rw (ne-eqb i phaseAt (λ e. omega arith), lt-ltb i pendingFrom (omega arith), a, b)
 
-  pub at-phase : byteOf M phaseAt ≡ phaseByte (M .roster .phase)
-  unfolding byteOf
-  at-phase = refl
-
   pub at-state : (s : ℕ) → s < seats → byteOf M (stateAt s) ≡ stateByte (M .roster .state s)
-  unfolding entryByte
-  at-state s p = ap (byteOf M) (omega arith) ∙ at-entry s 0 p (omega arith)
+  at-state s p = ap (byteOf M) (omega arith) ∙ at-entry s 0 p (omega arith) ∙ entryByte-state M s
 
   pub at-number : (s j : ℕ) → s < seats → j < 8 → byteOf M (numberFrom s + j) ≡ digit 8 (M .roster .number s) j
-  unfolding entryByte
-  at-number s j p q =
-      let e : 1 + j - 1 ≡ j = omega arith in
-      ap (byteOf M) (omega arith)
-      ∙ at-entry s (1 + j) p (omega arith)
-      ∙ rw (ne-eqb (1 + j) 0 (λ e. omega arith), lt-ltb (1 + j) 9 (omega arith), e)
+  at-number s j p q = ap (byteOf M) (omega arith) ∙ at-entry s (1 + j) p (omega arith) ∙ entryByte-number M s j q
 
   pub at-vector : (s : ℕ) → s < seats → byteOf M (vectorAt s) ≡ M .roster .vector s
-  unfolding entryByte
-  at-vector s p = at-entry s 9 p (omega arith)
+  at-vector s p = at-entry s 9 p (omega arith) ∙ entryByte-vector M s
 
   pub at-link : (s k : ℕ) (d : Side) → s < seats → k < levels → byteOf M (linkAt s k d) ≡ linkByte (M .link s k d)
-  unfolding entryByte
   at-link s k d p q =
       let o = sideNumber-lt d in
-      let j = 10 + 2 * k + sideNumber d in
-      let a : (j - 10) / 2 ≡ k = omega arith in
-      let b : (j - 10) % 2 ≡ sideNumber d = omega arith in
-      ap (byteOf M) (omega arith)
-      ∙ at-entry s j p (omega arith)
-      ∙ rw (ne-eqb j 0 (λ e. omega arith), le-ltb j 9 (omega arith), ne-eqb j 9 (λ e. omega arith), a, b, side-sideNumber d)
+      ap (byteOf M) (omega arith) ∙ at-entry s (10 + 2 * k + sideNumber d) p (omega arith) ∙ entryByte-link M s k d
 
   pub at-pending : (b : ℕ) → b < pendingSize → byteOf M (pendingFrom + b) ≡ pendingByte M b
   unfolding byteOf

@@ -23,15 +23,16 @@ use Rattle.protocol.specs.Numbering.{exists, place, messageAt}
 use Rattle.protocol.specs.Rules.{SeatState, free, staying, leaving}
 use Rattle.protocol.specs.State.{Meaning, isFree}
 use Rattle.protocol.specs.Sound.{Sound, numberBits}
-use Rattle.protocol.proofs.Numbering.{sideNumber-lt, place-lt, messageAt-place}
+use Rattle.protocol.proofs.Numbering.{sideNumber-lt, messageAt-place}
 use Rattle.protocol.proofs.SoundFacts.{two-level, link-linked, pending-exists}
-use Rattle.record.specs.Layout.{seats, levels, noLink, messages, phaseAt, stateAt, numberFrom, vectorAt, linkAt, pendingFrom, pendingSize, size}
+use Rattle.record.specs.Layout.{seats, levels, noLink, messages, phaseAt, stateAt, numberFrom, vectorAt, linkAt}
+use Rattle.record.specs.Layout.{pendingFrom, pendingSize, size}
 use Rattle.record.specs.Meaning.{phaseOf, stateOf, linkOf, rosterIn, meaning}
 use Rattle.record.specs.Meaning.{phaseByte, stateByte, linkByte, pendingByte, byteOf, bytesOf}
 use Rattle.record.proofs.Values.{phaseByte-phaseOf, phaseOf-phaseByte, stateByte-stateOf, stateOf-stateByte}
 use Rattle.record.proofs.Values.{linkByte-linkOf, linkOf-linkByte}
 use Rattle.record.proofs.Values.{phaseByte-lt, stateByte-lt, linkByte-lt, isFree-free}
-use Rattle.record.proofs.Places.{messages-count, by-place, at-phase, at-state, at-number, at-vector, at-link, at-pending}
+use Rattle.record.proofs.Places.{place-within, by-place, at-phase, at-state, at-number, at-vector, at-link, at-pending}
 use Rattle.record.proofs.Places.{length-bytesOf, getD-bytesOf}
 use Rattle.record.proofs.Form.{Form, meaning-phase, meaning-state, meaning-number, meaning-vector, meaning-link}
 use Rattle.record.proofs.Form.{meaning-pending, meaning-bit}
@@ -90,7 +91,7 @@ module _ (M : Meaning) where
 
   pub read-message : (m : Msg) → T (exists seats width m) → bitSet (bytesOf M) pendingFrom (place seats width m) ≡ M .pending m
   read-message m x =
-      read-bit (place seats width m) (rw messages-count (place-lt seats width m x)) ∙ ap (M .pending) (messageAt-place seats width m x)
+      read-bit (place seats width m) (place-within m x) ∙ ap (M .pending) (messageAt-place seats width m x)
 
   -- they are bytes if vectors and links are
   pub bytes-bytes : ((s : ℕ) → s < seats → M .roster .vector s < 256)

@@ -1,7 +1,6 @@
 -- `memory::byte_of` meets its contract: a shift by whole bytes is a division by a power of 256. Assumes nothing.
 use borrow.Author.Needs.{needs}
-use mathlib.Core.Path.{_≡_}
-use Prim.Native.Nat.{ℕ, suc, _-_}
+use Prim.Native.Nat.{_-_}
 use native.Mathlib.Omega.{arith}
 use Rattle.memory.proofs.Digits.{digit-shift}
 use Rattle.memory.proofs.byte_of.Statement.{statement}
@@ -20,7 +19,7 @@ cast-result : tie.Need-cast-result
 cast-result c = search needs
 
 returns : tie.Need-returns
-returns c = let e : 7 - c .args .j ≡ 8 - suc (c .args .j) = omega arith in rw e (digit-shift 8 (c .args .n) (c .args .j))
+returns c = digit-shift 8 (c .args .n) (c .args .j) (7 - c .args .j) (omega arith)
 
 pub byte-of-spec : {M : Type 1} → statement M
 byte-of-spec = tie.close (tie.spec sub-result mul-result shr-result cast-result returns)

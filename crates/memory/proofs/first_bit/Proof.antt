@@ -1,17 +1,14 @@
 -- `memory::first_bit` meets its contract: the first set bit is in the byte of `from`, else in the bytes after it. Assumes nothing.
-use mathlib.Core.Path.{_≡_, ap, sym, _∙_}
-use Prim.Native.Nat.{ℕ, _+_, _-_, _*_, _/_, _%_}
+use mathlib.Core.Path.{ap, sym, _∙_}
+use Prim.Native.Nat.{ℕ, _+_, _*_, _/_, _%_}
 use native.Mathlib.Omega.{arith}
 use native.Mathlib.Nat.{sub-self, div-add-mod'}
 use borrow.Author.Needs.{needs}
-use Rattle.memory.specs.Loops.{firstFrom}
 use Rattle.memory.specs.Bits.{bitSet}
 use Rattle.memory.proofs.First.{first-end}
 use Rattle.memory.proofs.Search.{first-byte-found, first-byte-none}
 use Rattle.memory.proofs.first_bit.Statement.{statement}
 use Rattle.memory.proofs.first_bit.Tie as tie
-use Rattle.memory.proofs.first_bit.Reads as reads
-use Rattle.memory.proofs.first_bit.Lts as lts
 
 returns : tie.Need-returns
 returns c =

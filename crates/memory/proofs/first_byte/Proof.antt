@@ -1,7 +1,7 @@
 -- `memory::first_byte` meets its contract. The loop's invariant: the search has the same answer from i on. Assumes nothing.
 use mathlib.Core.Path.{_≡_, ap, sym, _∙_}
 use mathlib.Core.Bool.{not}
-use Prim.Native.Nat.{ℕ, _-_, _≤_}
+use Prim.Native.Nat.{_-_, _≤_}
 use native.Mathlib.Omega.{arith}
 use native.Mathlib.Nat.{sub-self}
 use lib.ListN.{getD}
@@ -12,8 +12,6 @@ use Rattle.memory.specs.Bytes.{nonZero}
 use Rattle.memory.proofs.First.{first-end, first-here, first-more}
 use Rattle.memory.proofs.first_byte.Statement.{statement}
 use Rattle.memory.proofs.first_byte.Tie as tie
-use Rattle.memory.proofs.first_byte.Reads as reads
-use Rattle.memory.proofs.first_byte.Lts as lts
 
 abbrev Inv-loop : tie.InvT-loop
 Inv-loop rec at end i₀ i = (i ≤ end) × (firstFrom (end - at) at (nonZero rec) ≡ firstFrom (end - i) i (nonZero rec))

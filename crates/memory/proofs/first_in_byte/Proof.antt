@@ -1,10 +1,11 @@
--- `memory::first_in_byte` meets its contract: the trailing zeros of the shifted byte are the clear bits before the first set one. Assumes nothing.
+-- `memory::first_in_byte` meets its contract: the trailing zeros of the shifted byte are the clear bits before the first set bit.
+-- Assumes nothing.
 use mathlib.Core.Path.{sym}
 use Prim.Native.Nat.{_/_, _^_}
 use native.Mathlib.Omega.{arith}
 use lib.Count.{trailing-le}
 use borrow.Author.Needs.{needs}
-use Rattle.memory.proofs.Counted.{first-by-shift, first-of-none}
+use Rattle.memory.proofs.MachineCounts.{first-by-shift, first-of-none}
 use Rattle.memory.proofs.first_in_byte.Statement.{statement}
 use Rattle.memory.proofs.first_in_byte.Tie as tie
 

@@ -1,5 +1,5 @@
 -- `memory::first_in_bytes` meets its contract: the first set bit is in the first byte that is not 0. Assumes nothing.
-use mathlib.Core.Path.{_≡_, ap, sym, _∙_}
+use mathlib.Core.Path.{ap, sym, _∙_}
 use Prim.Native.Nat.{ℕ, _+_, _-_, _*_, _/_, _<_}
 use native.Mathlib.Omega.{arith}
 use lib.ListN.{getD}
@@ -10,8 +10,6 @@ use Rattle.memory.proofs.First.{IsFirst, first}
 use Rattle.memory.proofs.Search.{first-bytes-none, first-bytes-found}
 use Rattle.memory.proofs.first_in_bytes.Statement.{statement}
 use Rattle.memory.proofs.first_in_bytes.Tie as tie
-use Rattle.memory.proofs.first_in_bytes.Reads as reads
-use Rattle.memory.proofs.first_in_bytes.Lts as lts
 
 -- what first_byte found
 found : (c : tie.After-first-byte)
@@ -33,7 +31,8 @@ first-byte-requires c κs = search needs
 returns : tie.Need-returns
 returns c =
     let s = c .before .before .before .args in
-    sym (first-bytes-none (s .rec .now) (s .base) (s .count) (s .b) (c .before .first-byte .result) (omega arith) (omega arith) (found (c .before)) (c .if1 .taken))
+    let at = c .before .first-byte .result in
+    sym (first-bytes-none (s .rec .now) (s .base) (s .count) (s .b) at (omega arith) (omega arith) (found (c .before)) (c .if1 .taken))
 
 sub-result : tie.Need-sub-result
 sub-result c = let f = found (c .before) in omega (arith, f .low)
@@ -58,9 +57,10 @@ returns-2 c =
     let b = c .before .before .before in
     let s = b .before .before .args in
     let bytes : AreBytes (s .rec .now) = λ j. omega (arith, c .before .shared-slice-known2 .given j) in
-    let below : b .first-byte .result < s .base + s .count / 8 = omega (arith, found b .high, c .before .before .if1 .left) in
-    ap (λ (r : ℕ). (b .first-byte .result - s .base) * 8 + r) (c .first-in-byte .ensures)
-    ∙ sym (first-bytes-found (s .rec .now) (s .base) (s .count) (s .b) (b .first-byte .result) (omega arith) (omega arith) (found b) below bytes)
+    let at = b .first-byte .result in
+    let below : at < s .base + s .count / 8 = omega (arith, found b .high, c .before .before .if1 .left) in
+    ap (λ (r : ℕ). (at - s .base) * 8 + r) (c .first-in-byte .ensures)
+    ∙ sym (first-bytes-found (s .rec .now) (s .base) (s .count) (s .b) at (omega arith) (omega arith) (found b) below bytes)
 
 pub first-in-bytes-spec : {M : Type 1} → statement M
 first-in-bytes-spec =

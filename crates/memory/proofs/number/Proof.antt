@@ -1,36 +1,23 @@
--- `memory::number` meets its contract. The loop's invariant: n is the number in the bytes read so far. Assumes nothing.
+-- `memory::number` meets its contract. The loop's invariant: n is the number in the bytes read so far, at their place. Assumes nothing.
 use mathlib.Core.Path.{_≡_, ap, sym, _∙_}
-use Prim.Native.Nat.{ℕ, _+_, _-_, _*_, _^_, _≤_, _<_}
+use Prim.Native.Nat.{ℕ, _+_, _-_, _*_, _%_, _^_, _≤_}
 use native.Mathlib.Omega.{arith}
-use lib.ListN.{getD}
+use lib.Bits.{bitOr}
 use borrow.Author.Needs.{needs}
-use Rattle.memory.specs.Bytes.{AreBytes, numberAt}
-use Rattle.memory.proofs.Bytes.{numberAt-none, numberAt-more, numberAt-fits}
+use Rattle.memory.specs.Bytes.{numberAt}
+use Rattle.memory.proofs.Bytes.{numberAt-none, numberAt-more}
+use Rattle.memory.proofs.Digits.{or-digit}
 use Rattle.memory.proofs.number.Statement.{statement}
 use Rattle.memory.proofs.number.Tie as tie
-use Rattle.memory.proofs.number.Reads as reads
-use Rattle.memory.proofs.number.Lts as lts
 
 abbrev Inv-loop : tie.InvT-loop
-Inv-loop rec at n₀ i₀ n i = (i ≤ 8) × (n ≡ numberAt rec at i)
+Inv-loop rec at n₀ i₀ n i = (i ≤ 8) × (n ≡ numberAt rec at i * 256 ^ (8 - i))
 
 abbrev μ-loop : tie.MeasureT-loop
 μ-loop rec at n₀ i₀ n i = 8 - i
 
 loop-holds : tie.Need-loop-holds Inv-loop μ-loop
-loop-holds c = (search needs, sym (numberAt-none (c .before .args .rec .now) (c .before .args .at)))
-
--- the next byte still fits
-next-fits : (c : tie.At-loop Inv-loop μ-loop) → c .loop .i < 8
-    → c .loop .n * 256 + getD (c .before .before .args .rec .now) (c .before .before .args .at + c .loop .i) 0 < 2 ^ 64
-next-fits c h =
-    let l = c .before .before .args .rec .now in
-    let a = c .before .before .args .at in
-    let bytes : AreBytes l = λ j. omega (arith, c .before .shared-slice-known .given j) in
-    omega (arith, numberAt-more l a (c .loop .i), numberAt-fits l a (c .loop .i + 1) 8 bytes (omega arith))
-
-mul-n : tie.Need-mul-n Inv-loop μ-loop
-mul-n c = omega (arith, next-fits (c .before) (omega arith))
+loop-holds c = omega (arith, numberAt-none (c .before .args .rec .now) (c .before .args .at))
 
 add-wide : tie.Need-add-wide Inv-loop μ-loop
 add-wide c = search needs
@@ -41,8 +28,14 @@ shared-slice-read-wide c = search needs
 wide-requires : tie.Need-wide-requires Inv-loop μ-loop
 wide-requires c κs = search needs
 
-add-n : tie.Need-add-n Inv-loop μ-loop
-add-n c = omega (arith, next-fits (c .before .before .before) (omega arith))
+sub-n : tie.Need-sub-n Inv-loop μ-loop
+sub-n c = search needs
+
+mul-n : tie.Need-mul-n Inv-loop μ-loop
+mul-n c = search needs
+
+shl-n : tie.Need-shl-n Inv-loop μ-loop
+shl-n c = search needs
 
 add-i : tie.Need-add-i Inv-loop μ-loop
 add-i c = search needs
@@ -53,13 +46,21 @@ loop-less c = search needs
 loop-again : tie.Need-loop-again Inv-loop μ-loop
 loop-again c =
     let b = c .before .before .before in
-    omega (arith, numberAt-more (b .before .before .args .rec .now) (b .before .before .args .at) (b .loop .i))
+    let l = b .before .before .args .rec .now in
+    let a = b .before .before .args .at in
+    let i = b .loop .i in
+    let x = numberAt l a i in
+    let w = c .wide .result in
+    let e : 8 - (i + 1) ≡ 7 - i = omega arith in
+    let next : numberAt l a (i + 1) ≡ x * 256 + w = omega (arith, numberAt-more l a i) in
+    let joined = or-digit x w 8 i (7 - i) (omega arith) (omega arith) in
+    (search needs, ap (λ (n : ℕ). bitOr n ((w * 2 ^ (8 * (7 - i))) % 2 ^ 64)) (b .loop .inv .1) ∙ joined ∙ sym (rw (next, e)))
 
 returns : tie.Need-returns Inv-loop μ-loop
 returns c =
-    let b = c .before .before .before in
+    let s = c .before .before .before .args in
     let e : c .before .loop .i ≡ 8 = omega arith in
-    c .before .loop .inv .1 ∙ ap (numberAt (b .args .rec .now) (b .args .at)) e
+    c .before .loop .inv .1 ∙ rw e (omega arith)
 
 pub number-spec : {M : Type 1} → statement M
 number-spec =
@@ -68,11 +69,12 @@ number-spec =
     Inv-loop
     μ-loop
     loop-holds
-    mul-n
     add-wide
     shared-slice-read-wide
     wide-requires
-    add-n
+    sub-n
+    mul-n
+    shl-n
     add-i
     loop-less
     loop-again

@@ -1,7 +1,6 @@
--- `memory::put_number` meets its contract. The loop's invariant: the bytes written so far are those of the number's highest digits. Assumes nothing.
+-- `memory::put_number` meets its contract. The loop's invariant: the bytes written so far are the number's highest digits. Assumes nothing.
 use mathlib.Core.Path.{_≡_, ap, sym, _∙_}
-use mathlib.Core.List.{List}
-use Prim.Native.Nat.{ℕ, _+_, _-_, _/_, _^_, _≤_}
+use Prim.Native.Nat.{_-_, _/_, _^_, _≤_}
 use native.Mathlib.Omega.{arith}
 use native.Mathlib.Nat.{div-one}
 use lib.ListN.{length}
@@ -11,8 +10,6 @@ use Rattle.memory.proofs.Bytes.{length-putNumber}
 use Rattle.memory.proofs.Digits.{putNumber-none, putNumber-more}
 use Rattle.memory.proofs.put_number.Statement.{statement}
 use Rattle.memory.proofs.put_number.Tie as tie
-use Rattle.memory.proofs.put_number.Reads as reads
-use Rattle.memory.proofs.put_number.Lts as lts
 
 abbrev Inv-loop : tie.InvT-loop
 Inv-loop rec₀ at n i₀ rec i = (i ≤ 8) × (rec ≡ putNumber rec₀ at i (n / 256 ^ (8 - i)))

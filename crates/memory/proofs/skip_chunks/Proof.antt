@@ -1,7 +1,7 @@
 -- `memory::skip_chunks` meets its contract. The loop's invariant: the search has the same answer from i on. Assumes nothing.
-use mathlib.Core.Path.{_≡_, refl, ap, sym, _∙_}
+use mathlib.Core.Path.{_≡_, refl, sym, _∙_}
 use mathlib.Core.Bool.{true}
-use Prim.Native.Nat.{ℕ, _+_, _-_, _≤_}
+use Prim.Native.Nat.{_-_, _≤_}
 use native.Mathlib.Omega.{arith}
 use borrow.Author.Needs.{needs}
 use borrow.Author.Tests.{not-false}
@@ -10,8 +10,6 @@ use Rattle.memory.specs.Bytes.{nonZero, zeros}
 use Rattle.memory.proofs.Zeros.{zeros-skip}
 use Rattle.memory.proofs.skip_chunks.Statement.{statement}
 use Rattle.memory.proofs.skip_chunks.Tie as tie
-use Rattle.memory.proofs.skip_chunks.Reads as reads
-use Rattle.memory.proofs.skip_chunks.Lts as lts
 
 abbrev Inv-loop : tie.InvT-loop
 Inv-loop rec at end i₀ i = (i ≤ end) × (firstFrom (end - at) at (nonZero rec) ≡ firstFrom (end - i) i (nonZero rec))
@@ -41,7 +39,8 @@ loop-again : tie.Need-loop-again Inv-loop μ-loop
 loop-again c =
     let b = c .before .before .before in
     let s = b .before .before .args in
-    let z : zeros (s .rec .now) (b .loop .i) 32 ≡ true = sym (c .before .zero-chunk .ensures) ∙ not-false (c .before .zero-chunk .result) (c .if1 .left) in
+    let r = c .before .zero-chunk in
+    let z : zeros (s .rec .now) (b .loop .i) 32 ≡ true = sym (r .ensures) ∙ not-false (r .result) (c .if1 .left) in
     (search needs, b .loop .inv .1 ∙ zeros-skip (s .rec .now) (s .end) (b .loop .i) 32 (omega arith) z)
 
 returns-2 : tie.Need-returns-2 Inv-loop μ-loop

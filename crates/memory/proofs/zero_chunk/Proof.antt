@@ -1,17 +1,12 @@
 -- `memory::zero_chunk` meets its contract. The loop's invariant: `or` is the or of the bytes passed. Assumes nothing.
 use mathlib.Core.Path.{_≡_, ap, sym, _∙_}
-use Prim.Native.Nat.{ℕ, _+_, _-_, _≤_}
+use Prim.Native.Nat.{ℕ, _-_, _≤_}
 use native.Mathlib.Omega.{arith}
-use lib.Bits.{bitOr}
 use lib.Dec.{eqb}
-use lib.ListN.{getD}
 use borrow.Author.Needs.{needs}
-use Rattle.memory.specs.Bytes.{zeros}
 use Rattle.memory.proofs.Zeros.{orOf, orOf-none, orOf-more, orOf-zeros}
 use Rattle.memory.proofs.zero_chunk.Statement.{statement}
 use Rattle.memory.proofs.zero_chunk.Tie as tie
-use Rattle.memory.proofs.zero_chunk.Reads as reads
-use Rattle.memory.proofs.zero_chunk.Lts as lts
 
 abbrev Inv-loop : tie.InvT-loop
 Inv-loop rec at or₀ i₀ or i = (i ≤ 32) × (or ≡ orOf rec at i)
@@ -43,9 +38,10 @@ loop-again c =
 
 returns : tie.Need-returns Inv-loop μ-loop
 returns c =
-    let b = c .before .before in
+    let s = c .before .before .args in
     let e : c .before .loop .i ≡ 32 = omega arith in
-    ap (λ (x : ℕ). eqb x 0) (c .before .loop .inv .1 ∙ ap (orOf (b .args .rec .now) (b .args .at)) e) ∙ orOf-zeros (b .args .rec .now) (b .args .at) 32
+    let whole = c .before .loop .inv .1 ∙ ap (orOf (s .rec .now) (s .at)) e in
+    ap (λ (x : ℕ). eqb x 0) whole ∙ orOf-zeros (s .rec .now) (s .at) 32
 
 pub zero-chunk-spec : {M : Type 1} → statement M
 zero-chunk-spec =

@@ -1,22 +1,17 @@
--- The machine's counts of a number's bits: the trailing zeros are the first set bit, and the ones are the count of set bits. Assumes nothing.
-use Prim.Native.Nat.{ℕ, zero, suc, _+_, _-_, _*_, _/_, _%_, _^_, _≤_, _<_}
+-- The machine's counts of a number's bits: the trailing zeros are the first set bit, the ones the count of set bits. Assumes nothing.
+use Prim.Native.Nat.{ℕ, zero, suc, _+_, _-_, _/_, _%_, _^_, _≤_, _<_}
 use mathlib.Core.Path.{_≡_, refl, sym, ap, _∙_}
-use mathlib.Core.Bool.{Bool, true, false}
+use mathlib.Core.Bool.{true, false}
 use native.Mathlib.Omega.{arith}
 use native.Mathlib.Nat.{suc-add, pow-suc}
 use native.Mathlib.Numerals.{one-add}
 use lib.Count.{ones, ones-step, ones-le, trailingZeros, trailing-of-zero, under}
-use lib.Dec.{eqb}
 use lib.Pow.{shr-lt}
-use Rattle.memory.specs.Loops.{oneIf, firstFrom, count}
-use Rattle.memory.specs.Bits.{bitOf, hasBit}
-use Rattle.memory.proofs.Bits.{bitOf-zero, bitOf-shr, oneIf-hasBit, hasBit-is}
+use Rattle.memory.specs.Loops.{firstFrom, count}
+use Rattle.memory.specs.Bits.{hasBit}
+use Rattle.memory.proofs.Bits.{bitOf-zero, oneIf-hasBit, hasBit-is, hasBit-shr}
 use Rattle.memory.proofs.First.{first-same, first-shift}
 use Rattle.memory.proofs.Count.{count-append, count-more, count-none, count-same}
-
--- the bits above the lowest
-hasBit-above : (x j : ℕ) → hasBit x (1 + j) ≡ hasBit (x / 2) j
-hasBit-above x j = ap (λ (y : ℕ). eqb y 1) (sym (bitOf-shr x 1 j))
 
 -- the first of the lowest n bits that is set
 pub trailing-first : (n x : ℕ) → trailingZeros n x ≡ firstFrom n 0 (hasBit x)
@@ -27,9 +22,10 @@ trailing-first (suc n) x = by (x % 2) refl (trailing-first n (x / 2))
     rest : firstFrom n 1 (hasBit x) ≡ 1 + firstFrom n 0 (hasBit (x / 2))
     rest =
         first-shift 1 n 0 (hasBit x)
-        ∙ ap (λ (r : ℕ). 1 + r) (first-same n 0 (λ j. hasBit x (1 + j)) (hasBit (x / 2)) (λ j a b. hasBit-above x j))
+        ∙ ap (λ (r : ℕ). 1 + r) (first-same n 0 (λ j. hasBit x (1 + j)) (hasBit (x / 2)) (λ j a b. hasBit-shr x 1 j))
 
-    by : (d : ℕ) → x % 2 ≡ d → trailingZeros n (x / 2) ≡ firstFrom n 0 (hasBit (x / 2)) → under d (trailingZeros n (x / 2)) ≡ firstFrom (suc n) 0 (hasBit x)
+    by : (d : ℕ) → x % 2 ≡ d → trailingZeros n (x / 2) ≡ firstFrom n 0 (hasBit (x / 2))
+        → under d (trailingZeros n (x / 2)) ≡ firstFrom (suc n) 0 (hasBit x)
     by zero e ih = rw (hasBit-is x 0 false (bitOf-zero x ∙ e)) (omega (arith, rest))
     by (suc zero) e ih = rw (hasBit-is x 0 true (bitOf-zero x ∙ e))
     by (suc (suc d)) e ih = absurd (omega arith)
@@ -51,7 +47,7 @@ ones-count zero x h = omega (arith, ones-le 0 x h, count-none (hasBit x))
 ones-count (suc n) x h =
     let p = hasBit x in
     let lowest : count 1 p ≡ x % 2 = count-more 0 p ∙ omega (arith, count-none p, oneIf-hasBit x 0, bitOf-zero x) in
-    let above = count-same n (λ j. p (1 + j)) (hasBit (x / 2)) (λ j l. hasBit-above x j) in
+    let above = count-same n (λ j. p (1 + j)) (hasBit (x / 2)) (λ j l. hasBit-shr x 1 j) in
     let rest = ones-count n (x / 2) (omega (arith, pow-suc 2 n)) in
     rw (← one-add n) (omega (arith, ones-step x, count-append 1 n p))
 
@@ -63,10 +59,10 @@ module _ (n k x : ℕ) (within : k ≤ n) (fits : x < 2 ^ n) where
   shifted : firstFrom (n - k) k (hasBit x) ≡ k + trailingZeros (n - k) (x / 2 ^ k)
   shifted =
       let e : k ≡ k + 0 = omega arith in
+      let bits = first-same (n - k) 0 (λ j. hasBit x (k + j)) (hasBit (x / 2 ^ k)) (λ j a b. hasBit-shr x k j) in
       ap (λ (i : ℕ). firstFrom (n - k) i (hasBit x)) e
       ∙ first-shift k (n - k) 0 (hasBit x)
-      ∙ ap (λ (r : ℕ). k + r) (first-same (n - k) 0 (λ j. hasBit x (k + j)) (hasBit (x / 2 ^ k)) (λ j a b. ap (λ (y : ℕ). eqb y 1) (sym (bitOf-shr x k j))))
-      ∙ ap (λ (r : ℕ). k + r) (sym (trailing-first (n - k) (x / 2 ^ k)))
+      ∙ ap (λ (r : ℕ). k + r) (bits ∙ sym (trailing-first (n - k) (x / 2 ^ k)))
 
   pub first-by-shift : (x / 2 ^ k ≡ 0 → ⊥) → firstFrom (n - k) k (hasBit x) ≡ k + trailingZeros n (x / 2 ^ k)
   first-by-shift ne =

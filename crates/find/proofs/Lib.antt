@@ -1,0 +1,3 @@
+-- The search on the bytes.
+pub mod Read
+pub mod Steps

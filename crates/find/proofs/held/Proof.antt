@@ -1,0 +1,70 @@
+-- `find::held` meets its contract. Assumes nothing.
+use Prim.Native.Nat.{ℕ, suc, _+_, _≤_, _<_}
+use mathlib.Core.Path.{_≡_, sym, _∙_, ap}
+use native.Mathlib.Omega.{arith}
+use native.Mathlib.Numerals.{add-one}
+use borrow.Author.Needs.{needs}
+use Rattle.record.specs.Meaning.{rosterIn, meaning}
+use Rattle.search.proofs.Step.{is-end, is-left, is-none, held-at}
+use Rattle.find.specs.declared.Found.the-variants.{Holder}
+use Rattle.find.specs.Answer.{heldBy, heldOf}
+use Rattle.find.proofs.Read.{number-read, link-some, link-none}
+use Rattle.find.proofs.held.Statement.{statement}
+use Rattle.find.proofs.held.Tie as tie
+use Rattle.find.proofs.held.Reads as reads
+use Rattle.find.proofs.held.Lts as lts
+use Rattle.record.proofs.link.Reads as link-reads
+use Rattle.record.proofs.number.Reads as number-reads
+
+-- src/lib.rt:125:8
+number-requires : tie.Need-number-requires
+number-requires c κs = search needs
+
+-- src/lib.rt:126:30
+cast-t8 : tie.Need-cast-t8
+cast-t8 c = search needs
+
+-- src/lib.rt:126:9
+returns : tie.Need-returns
+unfolding heldBy
+returns c = let b = c .before .before .before in
+    let l = b .args .rec .now in
+    let n = number-read l (b .args .s) (c .before .number .result) (b .pre .1) (c .before .number .ensures) in
+    ap heldOf (sym (held-at (is-end (rw n (c .if1 .taken)))))
+
+-- src/lib.rt:128:9
+link-requires : tie.Need-link-requires
+link-requires c κs = search needs
+
+-- src/lib.rt:129:9
+cast-if2 : tie.Need-cast-if2
+cast-if2 c = search needs
+
+-- src/lib.rt:130:33
+add-t10 : tie.Need-add-t10
+add-t10 c = search needs
+
+-- src/lib.rt:130:9
+returns-2 : tie.Need-returns-2
+unfolding heldBy
+returns-2 c = let b = c .before .before .before .before .before in
+    let l = b .args .rec .now in
+    let y = c .before .link .result in
+    let n = number-read l (b .args .s) (c .before .before .before .number .result) (b .pre .1) (c .before .before .before .number .ensures) in
+    let o = link-some l (b .args .s) 0 0 y (b .pre .1) (omega arith) (omega arith) (c .before .link .ensures) (c .if2 .taken) in
+    ap (Holder y) (add-one (b .args .h)) ∙ ap heldOf (sym (held-at (is-left (rw n (c .before .before .if1 .left)) o)))
+
+-- src/lib.rt:121:1
+returns-3 : tie.Need-returns-3
+unfolding heldBy
+returns-3 c = let b = c .before .before .before .before .before in
+    let l = b .args .rec .now in
+    let y = c .before .link .result in
+    let n = number-read l (b .args .s) (c .before .before .before .number .result) (b .pre .1) (c .before .before .before .number .ensures) in
+    let o = link-none l (b .args .s) 0 0 y (b .pre .1) (omega arith) (omega arith) (c .before .link .ensures) (c .if2 .left) in
+    ap heldOf (sym (held-at (is-none (rw n (c .before .before .if1 .left)) o)))
+
+pub held-spec : {M : Type 1} → statement M
+held-spec =
+    tie.close
+    (tie.spec number-requires cast-t8 returns link-requires cast-if2 add-t10 returns-2 returns-3)

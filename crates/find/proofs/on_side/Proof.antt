@@ -1,0 +1,19 @@
+-- `find::on_side` meets its contract. Assumes nothing.
+use Prim.Native.Nat.{ℕ}
+use mathlib.Core.Path.{_≡_, refl}
+use lib.Dec.{eqb, ltb}
+use borrow.Author.Tests.{eq-eqb, ne-eqb}
+use Rattle.graph.specs.Side.{onSide}
+use Rattle.find.proofs.on_side.Statement.{statement}
+use Rattle.find.proofs.on_side.Tie as tie
+
+returns : tie.Need-returns
+unfolding onSide
+returns c = rw (eq-eqb (c .before .args .d) 1 (c .if1 .taken))
+
+returns-2 : tie.Need-returns-2
+unfolding onSide
+returns-2 c = rw (ne-eqb (c .before .args .d) 1 (c .if1 .left))
+
+pub on-side-spec : {M : Type 1} → statement M
+on-side-spec = tie.close (tie.spec returns returns-2)

@@ -1,0 +1,40 @@
+-- `find::step` meets its contract. Assumes nothing.
+use Prim.Native.Nat.{ℕ}
+use mathlib.Core.Path.{_≡_, sym, _∙_, ap}
+use borrow.Author.Needs.{needs}
+use Rattle.graph.specs.Side.{sideOf}
+use Rattle.protocol.specs.Message.{sideNumber}
+use Rattle.record.specs.Meaning.{rosterIn, meaning}
+use Rattle.find.proofs.Read.{number-read}
+use Rattle.find.proofs.Steps.{step-side}
+use Rattle.find.proofs.step.Statement.{statement}
+use Rattle.find.proofs.step.Tie as tie
+use Rattle.find.proofs.step.Reads as reads
+use Rattle.find.proofs.step.Lts as lts
+use Rattle.find.proofs.along.Reads as along-reads
+use Rattle.find.proofs.side_of.Reads as side-of-reads
+use Rattle.record.proofs.number.Reads as number-reads
+
+-- src/lib.rt:67:21
+number-requires : tie.Need-number-requires
+number-requires c κs = search needs
+
+-- src/lib.rt:67:9
+side-of-requires : tie.Need-side-of-requires
+side-of-requires c κs = search needs
+
+-- src/lib.rt:68:5
+along-requires : tie.Need-along-requires
+along-requires c κs = search needs
+
+-- src/lib.rt:63:1
+returns : tie.Need-returns
+returns c = let b = c .before .before .before .before in
+    let l = b .args .rec .now in
+    let x = b .args .x in
+    let n = number-read l (b .args .s) (c .before .before .number .result) (b .pre .1) (c .before .before .number .ensures) in
+    step-side (rosterIn l .number) (meaning l .link) x (b .args .s) (b .args .k) (c .before .side-of .result) (c .along .result) (b .pre .3)
+    (c .before .side-of .ensures .0 ∙ ap (λ (m : ℕ). sideNumber (sideOf m x)) (sym n)) (c .along .ensures)
+
+pub step-spec : {M : Type 1} → statement M
+step-spec = tie.close (tie.spec number-requires side-of-requires along-requires returns)

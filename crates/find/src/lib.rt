@@ -1,0 +1,147 @@
+// The search for the lot of a scanned number over a lent record (document 01, "Find"): from the top level toward the number, a level down
+// where the link is none or lies beyond it, and at the end the lot that is not above it.
+ghost use mathlib.Core.Path.{_≡_};
+ghost use Prim.Native.Nat.{ℕ, _+_, _^_, _<_};
+ghost use lib.Dec.{T};
+ghost use Rattle.graph.specs.Vector.{width};
+ghost use Rattle.protocol.specs.State.{seated};
+ghost use lib.ListN.{length};
+ghost use Rattle.graph.specs.Side.{onSide, sideOf};
+ghost use Rattle.protocol.specs.Message.{sideNumber};
+ghost use Rattle.record.specs.Layout.{seats, levels, size};
+ghost use Rattle.record.specs.Meaning.{rosterIn, meaning};
+ghost use Rattle.record.specs.Reading.{sideOfNumber};
+ghost use Rattle.search.specs.Walk.{along as alongOf, stepAt, drop, holderAt, find as findOf};
+ghost use Rattle.find.specs.Answer.{heldOf};
+ghost use Rattle.find.specs.Steps.{asStep, Fit, Ready, Walked};
+
+pub enum Found {
+    Refused(u8),
+    Holder(u8, u64),
+    Nobody(u64),
+}
+
+// Where a walk stands, and its moves so far.
+pub struct Walk {
+    pub seat: usize,
+    pub level: usize,
+    pub hops: u64,
+}
+
+// The side of number a on which b lies: 1 right, 0 left.
+fn side_of(a: u64, b: u64) -> usize
+    ensures { λ r. ⌜ (r ≡ sideNumber (sideOf a b)) × (r < 2) ⌝ }
+{
+    if a < b {
+        return 1;
+    }
+    0
+}
+
+// Whether number b lies on side d of a.
+fn on_side(d: usize, a: u64, b: u64) -> bool
+    ensures { λ r. ⌜ r ≡ onSide (sideOfNumber d) a b ⌝ }
+{
+    if d == 1 {
+        return a < b;
+    }
+    b < a
+}
+
+// The link of seat s at level k on side d, or SEATS if there is none or it lies beyond x.
+fn along(rec: &[u8], s: usize, k: usize, d: usize, x: u64) -> usize
+    requires { ⌜ (length (now rec) ≡ size) × (s < seats) × (k < levels) × (d < 2) ⌝ }
+    ensures { λ r. ⌜ alongOf (rosterIn (now (rec .entry)) .number) (meaning (now (rec .entry)) .link) x (sideOfNumber d) (meaning (now (rec .entry)) .link s k (sideOfNumber d)) ≡ asStep r ⌝ }
+{
+    let y = record::link(rec, s, k, d) as usize;
+    if y >= record::SEATS {
+        return record::SEATS;
+    }
+    if on_side(d, x, record::number(rec, y)) {
+        return record::SEATS;
+    }
+    y
+}
+
+// Where the walk goes from seat s at level k, if the number there is not x.
+fn step(rec: &[u8], s: usize, k: usize, x: u64) -> usize
+    requires { ⌜ (length (now rec) ≡ size) × (s < seats) × (k < levels) × (rosterIn (now rec) .number s ≡ x → ⊥) ⌝ }
+    ensures { λ r. ⌜ stepAt (rosterIn (now (rec .entry)) .number) (meaning (now (rec .entry)) .link) x s k ≡ asStep r ⌝ }
+{
+    let d = side_of(record::number(rec, s), x);
+    along(rec, s, k, d, x)
+}
+
+impl Walk {
+    // On along the level, until the number is x or the way is barred.
+    fn advance(self, rec: &[u8], x: u64) -> Walk
+        requires { ⌜ Ready (now rec) x self ⌝ }
+        ensures { λ r. ⌜ Walked (now (rec .entry)) x self r ⌝ }
+    {
+        let s = self.seat;
+        let k = self.level;
+        let h = self.hops;
+        if record::number(rec, s) == x {
+            return self;
+        }
+        let y = step(rec, s, k, x);
+        if y < record::SEATS {
+            let w = Walk {
+                seat: y,
+                level: k,
+                hops: h + 1,
+            };
+            w.advance(rec, x)
+        } else {
+            self.descend(rec, x)
+        }
+    }
+
+    // A level down, or at level 0 the end.
+    fn descend(self, rec: &[u8], x: u64) -> Walk
+        requires { ⌜ Ready (now rec) x self × (stepAt (rosterIn (now rec) .number) (meaning (now rec) .link) x (self .seat) (self .level) ≡ drop) ⌝ }
+        ensures { λ r. ⌜ Walked (now (rec .entry)) x self r ⌝ }
+    {
+        let s = self.seat;
+        let k = self.level;
+        let h = self.hops;
+        if k == 0 {
+            return self;
+        }
+        let w = Walk {
+            seat: s,
+            level: k - 1,
+            hops: h,
+        };
+        w.advance(rec, x)
+    }
+}
+
+// From the end of the walk on seat s after h hops: the lot there if it is not above x, else its left neighbour.
+fn held(rec: &[u8], s: usize, h: u64, x: u64) -> Found
+    requires { ⌜ (length (now rec) ≡ size) × (s < seats) × (h + 1 < 2 ^ 64) ⌝ }
+    ensures { λ r. ⌜ r ≡ heldOf (holderAt (rosterIn (now (rec .entry)) .number) (meaning (now (rec .entry)) .link) x s h) ⌝ }
+{
+    if record::number(rec, s) <= x {
+        return Found::Holder(s as u8, h);
+    }
+    let y = record::link(rec, s, 0, 0);
+    if (y as usize) < record::SEATS {
+        return Found::Holder(y, h + 1);
+    }
+    Found::Nobody(h)
+}
+
+// The search from the lot on seat s.
+fn search(rec: &[u8], s: usize, x: u64) -> Found
+    requires { ⌜ Fit (now rec) × T (seated (rosterIn (now rec)) s) ⌝ }
+    ensures { λ r. ⌜ r ≡ heldOf (findOf (rosterIn (now (rec .entry)) .number) (meaning (now (rec .entry)) .link) x seats width s) ⌝ }
+{
+    let w = Walk {
+        seat: s,
+        level: record::LEVELS - 1,
+        hops: 0,
+    };
+    let e = w.advance(rec, x);
+    held(rec, e.seat, e.hops, x)
+}

@@ -1,0 +1,141 @@
+-- What the readings of sound bytes give, in terms of their meaning: refusals 1 and 2 do not apply, a lot, a link, a message and the
+-- counts; and nothing is pending exactly if the pending count is 0. Assumes nothing.
+use Prim.Native.Nat.{ℕ, _<_}
+use mathlib.Core.Path.{_≡_, sym, ap, _∙_}
+use mathlib.Core.Logic.{_↔_}
+use mathlib.Core.Bool.{true, false, not}
+use mathlib.Core.List.{List, [], _∷_}
+use lib.Dec.{T}
+use lib.ListN.{length}
+use borrow.Author.Tests.{lt-ltb, eq-eqb, not-true}
+use Rattle.memory.specs.Loops.{oneIf, all}
+use Rattle.memory.specs.Loops.{count as howMany}
+use Rattle.memory.specs.Bytes.{AreBytes, zeros}
+use Rattle.memory.specs.Bits.{bitSet}
+use Rattle.memory.proofs.Cases.{same-test}
+use Rattle.memory.proofs.All.{all-at, all-from}
+use Rattle.memory.proofs.Count.{count-same, count-zero}
+use Rattle.memory.proofs.Zeros.{zeros-bits}
+use Rattle.graph.specs.Side.{Side}
+use Rattle.graph.specs.Vector.{width}
+use Rattle.graph.proofs.Tests.{T-true}
+use Rattle.protocol.specs.Message.{Msg, Name, nameOf, named, sideNumber}
+use Rattle.protocol.specs.Numbering.{place, messageAt, somePending}
+use Rattle.protocol.specs.State.{Meaning, isFree, seated}
+use Rattle.protocol.specs.Table.{Row, first, isPending}
+use Rattle.protocol.proofs.Message.{named-name}
+use Rattle.protocol.proofs.Numbering.{sideNumber-lt, messageAt-place, none-pending, pending-none}
+use Rattle.record.specs.Layout.{seats, levels, messages, pendingFrom, pendingSize, size}
+use Rattle.record.specs.Meaning.{meaning, rosterIn, phaseByte, stateByte, linkByte}
+use Rattle.record.specs.Sound.{sound}
+use Rattle.record.specs.Reading.{wrongSize, unsound, noSuchSeat, emptySeat, noSuchLevel}
+use Rattle.record.specs.Reading.{lotRefusal, linkRefusal, recordRefusal, readLot, readLink, readMessage, readCounts}
+use Rattle.record.proofs.Places.{place-within, exists-at, side-sideNumber}
+use Rattle.record.proofs.Form.{meaning-pending, meaning-bit}
+
+-- how many messages are pending
+abbrev pub pendingCount : Meaning → ℕ
+pendingCount M = howMany messages (λ i. M .pending (messageAt seats width i))
+
+-- none exactly if the count is 0
+pub pendingCount-zero : (M : Meaning) → (pendingCount M ≡ 0) ↔ (somePending seats width (M .pending) ≡ false)
+pendingCount-zero M = (to, from)
+  where
+    to : pendingCount M ≡ 0 → somePending seats width (M .pending) ≡ false
+    to e = pending-none seats width (M .pending) (λ m x.
+        ap (M .pending) (sym (messageAt-place seats width m x))
+        ∙ count-zero messages (λ i. M .pending (messageAt seats width i)) .0 e (place seats width m) (place-within m x))
+
+    from : somePending seats width (M .pending) ≡ false → pendingCount M ≡ 0
+    from e = count-zero messages (λ i. M .pending (messageAt seats width i)) .1 (λ i h.
+        none-pending seats width (M .pending) e (messageAt seats width i) (exists-at i h))
+
+module _ (l : List ℕ) where
+  pub count-bits : howMany messages (bitSet l pendingFrom) ≡ pendingCount (meaning l)
+  count-bits = count-same messages (bitSet l pendingFrom) (λ i. meaning l .pending (messageAt seats width i)) (λ i h. sym (meaning-bit l i h))
+
+  -- none exactly if the pending bytes are 0
+  pub zeros-quiet : AreBytes l → zeros l pendingFrom pendingSize ≡ not (somePending seats width (meaning l .pending))
+  zeros-quiet b = same-test (zeros l pendingFrom pendingSize) (not (somePending seats width (meaning l .pending))) to from
+    where
+      bits : zeros l pendingFrom pendingSize ≡ all messages (λ i. not (bitSet l pendingFrom i))
+      bits = zeros-bits l pendingFrom pendingSize b
+
+      to : zeros l pendingFrom pendingSize ≡ true → not (somePending seats width (meaning l .pending)) ≡ true
+      to z = ap not (pending-none seats width (meaning l .pending) (λ m x.
+          let clear = all-at messages (place seats width m) (λ i. not (bitSet l pendingFrom i)) (sym bits ∙ z) (place-within m x) in
+          meaning-pending l m x ∙ not-true (bitSet l pendingFrom (place seats width m)) clear))
+
+      from : not (somePending seats width (meaning l .pending)) ≡ true → zeros l pendingFrom pendingSize ≡ true
+      from q =
+          let quiet = none-pending seats width (meaning l .pending) (not-true (somePending seats width (meaning l .pending)) q) in
+          bits ∙ all-from messages _ (λ i h. ap not (sym (meaning-bit l i h) ∙ quiet (messageAt seats width i) (exists-at i h)))
+
+module _ (l : List ℕ) (e : length l ≡ size) (s : sound l ≡ true) where
+  -- refusals 1 and 2 do not apply
+  pub refusals-pass : (rs : List Row) → first (wrongSize l ∷ unsound l ∷ rs) ≡ first rs
+  unfolding first
+  refusals-pass rs = rw (eq-eqb (length l) size e, s)
+
+  pub record-accepted : recordRefusal l ≡ 0
+  unfolding recordRefusal first
+  record-accepted = refusals-pass []
+
+  pub lotRefusal-is : (x : ℕ) → lotRefusal l x ≡ first (noSuchSeat x ∷ emptySeat l x ∷ [])
+  unfolding lotRefusal
+  lotRefusal-is x = refusals-pass (noSuchSeat x ∷ emptySeat l x ∷ [])
+
+  pub linkRefusal-is : (x k d : ℕ) → linkRefusal l x k d ≡ first (noSuchSeat x ∷ noSuchLevel k d ∷ emptySeat l x ∷ [])
+  unfolding linkRefusal
+  linkRefusal-is x k d = refusals-pass (noSuchSeat x ∷ noSuchLevel k d ∷ emptySeat l x ∷ [])
+
+  -- a seated lot
+  module _ (x : ℕ) (h : x < seats) (t : T (seated (meaning l .roster) x)) where
+    taken : isFree (rosterIn l .state x) ≡ false
+    unfolding meaning
+    taken = not-true (isFree (rosterIn l .state x)) (T-true t)
+
+    pub lot-accepted : lotRefusal l x ≡ 0
+    unfolding first
+    lot-accepted = lotRefusal-is x ∙ rw (lt-ltb x seats h, taken)
+
+    pub lot-read : readLot l x ≡ record {
+      refused = 0;
+      state = stateByte (meaning l .roster .state x);
+      number = meaning l .roster .number x;
+      vector = meaning l .roster .vector x;
+    }
+    unfolding readLot meaning
+    lot-read = rw lot-accepted
+
+    pub link-accepted : (k d : ℕ) → k < levels → d < 2 → linkRefusal l x k d ≡ 0
+    unfolding first
+    link-accepted k d g q = linkRefusal-is x k d ∙ rw (lt-ltb x seats h, lt-ltb k levels g, lt-ltb d 2 q, taken)
+
+    pub link-read : (k : ℕ) (d : Side) → k < levels
+        → readLink l x k (sideNumber d) ≡ record { refused = 0; seat = linkByte (meaning l .link x k d) }
+    unfolding readLink
+    link-read k d g = rw (link-accepted k (sideNumber d) g (sideNumber-lt d), side-sideNumber d)
+
+  -- a free seat
+  pub free-read : (x : ℕ) → x < seats → T (isFree (meaning l .roster .state x))
+      → readLot l x ≡ record { refused = 8; state = 0; number = 0; vector = 0 }
+  unfolding readLot first meaning
+  free-read x h t = rw (lotRefusal-is x, lt-ltb x seats h, T-true {b = isFree (rosterIn l .state x)} t)
+
+  pub message-read : (n : Name) → readMessage l n ≡ record { refused = 0; pending = oneIf (isPending (meaning l .pending) (named n)) }
+  unfolding readMessage
+  message-read n = rw record-accepted
+
+  pub message-named : (m : Msg) → readMessage l (nameOf m) ≡ record { refused = 0; pending = oneIf (meaning l .pending m) }
+  unfolding isPending
+  message-named m = message-read (nameOf m) ∙ rw (named-name m)
+
+  pub counts-read : readCounts l ≡ record {
+    refused = 0;
+    lots = howMany seats (seated (meaning l .roster));
+    phase = phaseByte (meaning l .roster .phase);
+    pending = pendingCount (meaning l);
+  }
+  unfolding readCounts meaning
+  counts-read = rw (record-accepted, count-bits l)

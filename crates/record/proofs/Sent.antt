@@ -1,0 +1,121 @@
+-- Messages sent and taken, in the bytes: a bit each. The meaning is any, and the messages exist. Assumes nothing.
+use Prim.Native.Nat.{ℕ, _+_, _*_, _/_, _%_, _^_, _<_}
+use mathlib.Core.Path.{_≡_, refl, sym, ap, _∙_}
+use mathlib.Core.Logic.{⊎-elim, _≢_}
+use mathlib.Core.Option.{Option, none, some}
+use mathlib.Core.Bool.{Bool, true, false}
+use mathlib.Core.List.{List, [], _∷_, _++_, List·Memᴰ, List·Memᴰ·head, List·Memᴰ·tail, List·Memᴰ·not-nil}
+use native.Mathlib.Omega.{arith}
+use lib.Dec.{T}
+use lib.ListN.{getD}
+use Rattle.memory.specs.Bits.{hasBit, withBit, packed, putBit, setBit, clearBit}
+use Rattle.memory.proofs.Cases.{eq-or-ne}
+use Rattle.memory.proofs.Bits.{hasBit-withBit, hasBit-withBit-other, withBit-lt}
+use Rattle.memory.proofs.Packed.{packed-lt, packed-bits, packed-is}
+use Rattle.graph.specs.Vector.{width}
+use Rattle.protocol.specs.Message.{Msg}
+use Rattle.protocol.specs.Numbering.{exists, place, messageAt}
+use Rattle.protocol.specs.State.{Meaning}
+use Rattle.protocol.specs.Calls.{pendingAfter}
+use Rattle.protocol.proofs.Numbering.{messageAt-place}
+use Rattle.record.specs.Layout.{seats, messages, pendingFrom}
+use Rattle.record.specs.Meaning.{pendingByte, byteOf, bytesOf}
+use Rattle.record.proofs.Places.{place-within, place-at, at-pending, getD-bytesOf}
+use Rattle.record.proofs.Frame.{agree-pending, one-byte}
+use Rattle.record.proofs.Pending.{sent-same, sent-other, taken-same, taken-other, after-nothing, after-taken, after-first, after-last}
+use Rattle.record.proofs.Update.{withPending, withMessage, withoutMessage}
+
+-- one message, sent or taken: p is as before but at m
+module _ (M : Meaning) (p : Msg → Bool) (m : Msg) (x : T (exists seats width m)) (b : Bool) (here : p m ≡ b)
+    (others : (n : Msg) → n ≢ m → p n ≡ M .pending n) where
+  other : (j : ℕ) → j < messages → j ≢ place seats width m → messageAt seats width j ≢ m
+  other j h ne e = ne (sym (place-at j h) ∙ ap (place seats width) e)
+
+  pub bytes-withBit : bytesOf (withPending M p) ≡ putBit (bytesOf M) pendingFrom (place seats width m) b
+  unfolding pendingByte
+  bytes-withBit = one-byte a (withBit y (c % 8) b) (omega (arith, place-within m x)) new (agree-pending refl refl (λ j h q.
+      others (messageAt seats width j) (other j h (λ e. q (ap (λ (n : ℕ). pendingFrom + n / 8) e)))))
+    where
+      c : ℕ
+      c = place seats width m
+
+      a : ℕ
+      a = pendingFrom + c / 8
+
+      y : ℕ
+      y = getD (bytesOf M) a 0
+
+      old : y ≡ packed 8 (λ j. M .pending (messageAt seats width (c / 8 * 8 + j)))
+      old = getD-bytesOf M a (omega (arith, place-within m x)) ∙ at-pending M (c / 8) (omega (arith, place-within m x))
+
+      low : y < 2 ^ 8
+      low = rw old (packed-lt 8 (λ j. M .pending (messageAt seats width (c / 8 * 8 + j))))
+
+      bit : (j : ℕ) → j < 8 → hasBit (withBit y (c % 8) b) j ≡ p (messageAt seats width (c / 8 * 8 + j))
+      bit j l = ⊎-elim
+          (λ e. ap (hasBit (withBit y (c % 8) b)) e
+          ∙ hasBit-withBit y (c % 8) b
+          ∙ sym (ap p (ap (messageAt seats width) (omega arith) ∙ messageAt-place seats width m x) ∙ here))
+          (λ e. hasBit-withBit-other y (c % 8) j b e
+          ∙ ap (λ (n : ℕ). hasBit n j) old
+          ∙ packed-bits 8 (λ j. M .pending (messageAt seats width (c / 8 * 8 + j))) j l
+          ∙ sym (others (messageAt seats width (c / 8 * 8 + j)) (other (c / 8 * 8 + j) (omega (arith, place-within m x)) (λ q. e (omega arith)))))
+          (eq-or-ne j (c % 8))
+
+      new : byteOf (withPending M p) (pendingFrom + place seats width m / 8) ≡ withBit y (c % 8) b
+      new =
+          at-pending (withPending M p) (c / 8) (omega (arith, place-within m x))
+          ∙ packed-is 8 (withBit y (c % 8) b) (λ j. p (messageAt seats width (c / 8 * 8 + j))) (withBit-lt 8 y (c % 8) b low (omega arith)) bit
+
+module _ (M : Meaning) (m : Msg) (x : T (exists seats width m)) where
+  pub bytes-withMessage : bytesOf (withMessage M m) ≡ setBit (bytesOf M) pendingFrom (place seats width m)
+  bytes-withMessage = bytes-withBit M (pendingAfter (m ∷ []) none (M .pending)) m x true (sent-same m (M .pending)) (sent-other m (M .pending))
+
+  pub bytes-withoutMessage : bytesOf (withoutMessage M m) ≡ clearBit (bytesOf M) pendingFrom (place seats width m)
+  bytes-withoutMessage = bytes-withBit M (pendingAfter [] (some m) (M .pending)) m x false (taken-same m (M .pending)) (taken-other m (M .pending))
+
+-- messages sent one after the other, and one taken first
+unfoldable pub sentBits : List Msg → List ℕ → List ℕ
+sentBits [] l = l
+sentBits (m ∷ s) l = sentBits s (setBit l pendingFrom (place seats width m))
+
+unfoldable pub takenBits : Option Msg → List ℕ → List ℕ
+takenBits none l = l
+takenBits (some m) l = clearBit l pendingFrom (place seats width m)
+
+pub sentBits-append : (s t : List Msg) (l : List ℕ) → sentBits (s ++ t) l ≡ sentBits t (sentBits s l)
+unfolding sentBits
+sentBits-append [] t l = refl
+sentBits-append (m ∷ s) t l = sentBits-append s t (setBit l pendingFrom (place seats width m))
+
+pub bytes-sent : (M : Meaning) (s : List Msg) → ((m : Msg) → List·Memᴰ m s → T (exists seats width m))
+    → bytesOf (withPending M (pendingAfter s none (M .pending))) ≡ sentBits s (bytesOf M)
+unfolding sentBits
+bytes-sent M [] x = ap (λ (p : Msg → Bool). bytesOf (withPending M p)) (after-nothing (M .pending))
+bytes-sent M (m ∷ s) x =
+    ap (λ (p : Msg → Bool). bytesOf (withPending M p)) (after-first m s none (M .pending))
+    ∙ bytes-sent (withMessage M m) s (λ n h. x n (List·Memᴰ·tail h))
+    ∙ ap (sentBits s) (bytes-withMessage M m (x m (List·Memᴰ·head refl)))
+
+pub bytes-taken : (M : Meaning) (t : Option Msg) → ((m : Msg) → t ≡ some m → T (exists seats width m))
+    → bytesOf (withPending M (pendingAfter [] t (M .pending))) ≡ takenBits t (bytesOf M)
+unfolding takenBits sentBits
+bytes-taken M none y = bytes-sent M [] (λ m h. absurd (List·Memᴰ·not-nil h))
+bytes-taken M (some m) y = bytes-withoutMessage M m (y m refl)
+
+-- the pending set after a call
+pub bytes-pendingAfter : (M : Meaning) (s : List Msg) (t : Option Msg) → ((m : Msg) → List·Memᴰ m s → T (exists seats width m))
+    → ((m : Msg) → t ≡ some m → T (exists seats width m))
+    → bytesOf (withPending M (pendingAfter s t (M .pending))) ≡ sentBits s (takenBits t (bytesOf M))
+bytes-pendingAfter M s t x y =
+    ap (λ (p : Msg → Bool). bytesOf (withPending M p)) (after-taken s t (M .pending))
+    ∙ bytes-sent (withPending M (pendingAfter [] t (M .pending))) s x
+    ∙ ap (sentBits s) (bytes-taken M t y)
+
+-- one message more, after the others
+pub bytes-one-more : (M : Meaning) (m : Msg) (s : List Msg) (t : Option Msg) → T (exists seats width m)
+    → bytesOf (withPending M (pendingAfter (m ∷ s) t (M .pending)))
+    ≡ setBit (bytesOf (withPending M (pendingAfter s t (M .pending)))) pendingFrom (place seats width m)
+bytes-one-more M m s t x =
+    ap (λ (p : Msg → Bool). bytesOf (withPending M p)) (after-last m s t (M .pending))
+    ∙ bytes-withMessage (withPending M (pendingAfter s t (M .pending))) m x

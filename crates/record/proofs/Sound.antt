@@ -1,0 +1,167 @@
+-- Sound bytes are those of the form whose meaning is sound, and the bytes of a sound meaning are sound. Assumes nothing.
+use Prim.Native.Nat.{ℕ, _^_, _<_}
+use mathlib.Core.Path.{_≡_, sym, _∙_, subst}
+use mathlib.Core.Logic.{inl, inr, ⊎-elim, _↔_}
+use mathlib.Core.Option.{none, some}
+use mathlib.Core.Bool.{true, not}
+use mathlib.Core.List.{List}
+use native.Mathlib.Omega.{arith}
+use lib.Dec.{T}
+use lib.Pow.{pow-pos}
+use lib.ListN.{length, getD}
+use borrow.Author.Tests.{lt-ltb}
+use Rattle.memory.specs.Bytes.{AreBytes}
+use Rattle.memory.proofs.Cases.{lt-or-ge}
+use Rattle.memory.proofs.Bytes.{numberAt-lt}
+use Rattle.graph.specs.Side.{Side}
+use Rattle.graph.specs.Vector.{width}
+use Rattle.graph.proofs.Tests.{some-inj, none-some}
+use Rattle.protocol.specs.Message.{Msg}
+use Rattle.protocol.specs.Numbering.{place, messageAt}
+use Rattle.protocol.specs.Rules.{SeatState}
+use Rattle.protocol.specs.State.{Meaning, isFree, seated}
+use Rattle.protocol.specs.Sound.{Sound, linkOk, messageOk, numberBits}
+use Rattle.protocol.proofs.Numbering.{messageAt-place}
+use Rattle.record.specs.Layout.{seats, levels, noLink, messages, numberFrom, vectorAt, linkAt, size}
+use Rattle.record.specs.Meaning.{linkOf, rosterIn, meaning, bytesOf}
+use Rattle.record.specs.Sound.{sound}
+use Rattle.record.proofs.Places.{place-within}
+use Rattle.record.proofs.Form.{Form, meaning-number, meaning-vector, meaning-link, meaning-pending, meaning-bit}
+use Rattle.record.proofs.Form.{no-seat-state, no-seat-number, no-seat-vector, no-seat-link, no-level-link, exists-pending}
+use Rattle.record.proofs.Round.{same-bytes, meaning-bytes, bytes-form}
+use Rattle.record.proofs.Clauses.{AsOpened, LinkFits, Fits, sound-fits}
+
+-- a link's byte that is a seat, and one that is none
+linkOf-seat : (b : ℕ) → b < seats → linkOf b ≡ some b
+unfolding linkOf
+linkOf-seat b h = rw (lt-ltb b seats h)
+
+linkOf-none : (b : ℕ) → b ≡ noLink → linkOf b ≡ none
+unfolding linkOf
+linkOf-none b e = rw e
+
+module _ {l : List ℕ} (bytes : AreBytes l) (f : Fits l) where
+  fits-form : length l ≡ size → Form l
+  fits-form e = record {
+    sized = e;
+    bytes = bytes;
+    phase = f .phase;
+    states = f .states;
+    links = λ s k d h g. ⊎-elim (λ q. inl q) (λ q. inr (q .0)) (f .links s k d h g);
+  }
+
+  seat-in : (x : ℕ) → T (seated (meaning l .roster) x) → x < seats
+  seat-in x t = ⊎-elim (λ p. p) (λ p. absurd (subst (λ (s : SeatState). T (not (isFree s))) (no-seat-state l x p) t)) (lt-or-ge x seats)
+
+  link-in : (x k y : ℕ) (d : Side) → meaning l .link x k d ≡ some y → (x < seats) × (k < levels)
+  link-in x k y d e = (
+    ⊎-elim (λ p. p) (λ p. none-some (no-seat-link l x k d p) e) (lt-or-ge x seats),
+    ⊎-elim (λ p. p) (λ p. none-some (no-level-link l x k d p) e) (lt-or-ge k levels),
+  )
+
+  number-fits : (x : ℕ) → meaning l .roster .number x < 2 ^ numberBits
+  number-fits x = ⊎-elim
+      (λ p. rw (meaning-number l x p) (numberAt-lt l (numberFrom x) 8 bytes))
+      (λ p. rw (no-seat-number l x p) (pow-pos numberBits))
+      (lt-or-ge x seats)
+
+  vector-fits : (x : ℕ) → meaning l .roster .vector x < 2 ^ width
+  vector-fits x = ⊎-elim
+      (λ p. rw (meaning-vector l x p) (bytes (vectorAt x)))
+      (λ p. rw (no-seat-vector l x p) (pow-pos width))
+      (lt-or-ge x seats)
+
+  unused-fits : (x : ℕ) → T (isFree (meaning l .roster .state x))
+      → (meaning l .roster .number x ≡ 0) × (meaning l .roster .vector x ≡ 0) × ((k : ℕ) (d : Side) → meaning l .link x k d ≡ none)
+  unfolding meaning
+  unused-fits x t = ⊎-elim
+      (λ p. let u = f .unused x p t in (
+        u .0,
+        u .1,
+        λ k d. ⊎-elim
+            (λ q. meaning-link l x k d p q ∙ linkOf-none (getD l (linkAt x k d) 0) (u .2 k d q))
+            (no-level-link l x k d)
+            (lt-or-ge k levels),
+      ))
+      (λ p. (no-seat-number l x p, no-seat-vector l x p, λ k d. no-seat-link l x k d p))
+      (lt-or-ge x seats)
+
+  numbers-fit : (x y : ℕ) → T (seated (meaning l .roster) x) → T (seated (meaning l .roster) y)
+      → meaning l .roster .number x ≡ meaning l .roster .number y → x ≡ y
+  unfolding meaning
+  numbers-fit x y s t e = ⊎-elim
+      (λ p. absurd (f .differ y x (seat-in y t) p t s (sym e)))
+      (λ p. ⊎-elim (λ q. absurd (f .differ x y (seat-in x s) q s t e)) (λ q. omega arith) (lt-or-ge y x))
+      (lt-or-ge x y)
+
+  link-fits : (x k y : ℕ) (d : Side) → meaning l .link x k d ≡ some y → T (linkOk width (meaning l .roster) x k d y)
+  unfolding meaning
+  link-fits x k y d e =
+      let (p, q) = link-in x k y d e in
+      let b = getD l (linkAt x k d) 0 in
+      let m = meaning-link l x k d p q in
+      ⊎-elim
+      (λ u. none-some (m ∙ linkOf-none b u) e)
+      (λ u. subst (λ (z : ℕ). T (linkOk width (rosterIn l) x k d z)) (some-inj (sym (m ∙ linkOf-seat b (u .0)) ∙ e)) (u .1))
+      (f .links x k d p q)
+
+  message-fits : (m : Msg) → T (meaning l .pending m) → T (messageOk width (meaning l .roster) m)
+  unfolding meaning
+  message-fits m t =
+      let x = exists-pending l m t in
+      subst (λ (n : Msg). T (messageOk width (rosterIn l) n)) (messageAt-place seats width m x)
+      (f .messages (place seats width m) (place-within m x) (rw (meaning-pending l m x) at t))
+
+  fits-sound : Sound seats width (meaning l)
+  fits-sound = record {
+    seats = seat-in;
+    numbers = number-fits;
+    vectors = vector-fits;
+    unused = unused-fits;
+    differ = numbers-fit;
+    links = link-fits;
+    messages = message-fits;
+  }
+
+module _ {l : List ℕ} (f : Form l) (h : Sound seats width (meaning l)) where
+  sound-unused : (s : ℕ) → s < seats → T (isFree (rosterIn l .state s)) → AsOpened l s
+  unfolding meaning
+  sound-unused s p t = let u = h .unused s t in (
+    u .0,
+    u .1,
+    λ k d q. ⊎-elim
+        (λ e. e)
+        (λ e. none-some (sym (meaning-link l s k d p q) ∙ u .2 k d) (linkOf-seat (getD l (linkAt s k d) 0) e))
+        (f .links s k d p q),
+  )
+
+  sound-link : (x k : ℕ) (d : Side) → x < seats → k < levels → LinkFits l x k d
+  unfolding meaning
+  sound-link x k d p q = let b = getD l (linkAt x k d) 0 in ⊎-elim
+      (λ e. inl e)
+      (λ e. inr (e, h .links x k b d (meaning-link l x k d p q ∙ linkOf-seat b e)))
+      (f .links x k d p q)
+
+  form-fits : Fits l
+  unfolding meaning
+  form-fits = record {
+    phase = f .phase;
+    states = f .states;
+    unused = sound-unused;
+    differ = λ x y p q s t e. omega (arith, h .differ x y s t e);
+    links = sound-link;
+    messages = λ i p t. h .messages (messageAt seats width i) (rw (meaning-bit l i p) t);
+  }
+
+pub sound-is : (l : List ℕ) → length l ≡ size → AreBytes l → (sound l ≡ true) ↔ (Form l × Sound seats width (meaning l))
+sound-is l e b =
+    (λ s. let f = sound-fits l .0 s in (fits-form b f e, fits-sound b f), λ p. sound-fits l .1 (form-fits (p .0) (p .1)))
+
+pub bytes-sound : {M : Meaning} → Sound seats width M → sound (bytesOf M) ≡ true
+bytes-sound {M} h =
+    sound-fits (bytesOf M) .1 (form-fits (bytes-form h) (subst (λ (N : Meaning). Sound seats width N) (sym (meaning-bytes h)) h))
+
+-- sound bytes with the same meaning are the same
+pub same-sound-bytes : (l m : List ℕ) → length l ≡ size → length m ≡ size → AreBytes l → AreBytes m → sound l ≡ true → sound m ≡ true
+    → meaning l ≡ meaning m → l ≡ m
+same-sound-bytes l m e f a b s t q = same-bytes (sound-is l e a .0 s .0) (sound-is m f b .0 t .0) q

@@ -1,0 +1,4 @@
+-- Demand 3 on the bytes.
+pub mod Same
+pub mod Readings
+pub mod Theorem

@@ -1,0 +1,2 @@
+-- Demand 3 on the bytes: lists of calls on an opened record, and what holds after each.
+pub mod Run

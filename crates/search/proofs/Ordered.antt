@@ -1,0 +1,58 @@
+-- What the search needs of a record, and every sound record has: links that keep to their side. The rank of a lot, which each link lowers.
+-- Assumes nothing.
+use Prim.Native.Nat.{ℕ, _≤_, _<_}
+use mathlib.Core.Path.{_≡_, refl}
+use mathlib.Core.Option.{some}
+use mathlib.Core.Bool.{Bool, _&&_}
+use lib.Dec.{T}
+use Rattle.graph.specs.Side.{Side, onSide}
+use Rattle.graph.specs.Graph.{Lots, Links, Laws, graph, IsGraph}
+use Rattle.graph.proofs.Tests.{and-T, and-fst, and-snd}
+use Rattle.graph.proofs.Order.{Lt, lt-trans, lt-irr, on-lt, lt-on}
+use Rattle.graph.proofs.Laws.{twoSeated, laws-two}
+use Rattle.graph.proofs.Walk.{Sorted, constraints-sorted}
+use Rattle.graph.proofs.SkipGraph.{graph-constraints}
+use Rattle.search.proofs.Count.{count, count-less}
+
+-- seated lots sit below N, their numbers differ, and a link of a seated lot names a seated lot on its own side
+pub record Ordered (N W : ℕ) (seated : ℕ → Bool) (number : ℕ → ℕ) (L : Links) : Type 0 where
+  pub seat : (x : ℕ) → T (seated x) → x < N
+  pub differ : (x y : ℕ) → T (seated x) → T (seated y) → number x ≡ number y → x ≡ y
+  pub within : {x k y : ℕ} {d : Side} → T (seated x) → k ≤ W → L x k d ≡ some y → T (seated y)
+  pub order : {x k y : ℕ} {d : Side} → T (seated x) → k ≤ W → L x k d ≡ some y → Lt number d x y
+
+pub sorted-ordered : {N W : ℕ} {G : Lots} {L : Links} → Laws N G → Sorted W G L → Ordered N W (G .member) (G .number) L
+sorted-ordered laws s = record { seat = laws .seat; differ = laws .differ; within = s .within; order = s .order }
+
+pub graph-ordered : {N W : ℕ} {G : Lots} {L : Links} → Laws N G → IsGraph N W G L → Ordered N W (G .member) (G .number) L
+graph-ordered laws g = sorted-ordered laws (constraints-sorted (graph-constraints laws g))
+
+-- an instance
+pub ordered-two : (W : ℕ) → Ordered 2 W (twoSeated .member) (twoSeated .number) (graph 2 W twoSeated)
+ordered-two W = graph-ordered laws-two (record { link = λ x k d m l. refl })
+
+-- all members are in one component, as document 01 has it
+abbrev pub OneComponent : Lots → Type 0
+OneComponent G = (x y : ℕ) → T (G .member x) → T (G .member y) → G .component x ≡ G .component y
+
+-- how many seated lots lie on side d of x
+unfoldable pub rank : (N : ℕ) (seated : ℕ → Bool) (number : ℕ → ℕ) (d : Side) (x : ℕ) → ℕ
+rank N seated number d x = count N (λ z. seated z && onSide d (number x) (number z))
+
+module _ {N W : ℕ} {seated : ℕ → Bool} {number : ℕ → ℕ} {L : Links} (o : Ordered N W seated number L) where
+  pub rank-less : {d : Side} {x y : ℕ} → T (seated y) → Lt number d x y → rank N seated number d y < rank N seated number d x
+  unfolding rank
+  rank-less {d} {x} {y} m l = count-less N (beyond y) (beyond x) y (o .seat y m)
+      (and-T (seated y) (onSide d (number x) (number y)) m (lt-on number l))
+      (λ t. lt-irr (on-lt number d y y (and-snd (seated y) (onSide d (number y) (number y)) t)))
+      (λ z t. and-T (seated z) (onSide d (number x) (number z)) (and-fst (seated z) (onSide d (number y) (number z)) t)
+      (lt-on number (lt-trans l (on-lt number d y z (and-snd (seated z) (onSide d (number y) (number z)) t)))))
+    where
+      beyond : ℕ → ℕ → Bool
+      beyond u z = seated z && onSide d (number u) (number z)
+
+  pub rank-most : (d : Side) (x : ℕ) → T (seated x) → rank N seated number d x < count N seated
+  unfolding rank
+  rank-most d x m = count-less N (λ z. seated z && onSide d (number x) (number z)) seated x (o .seat x m) m
+      (λ t. lt-irr (on-lt number d x x (and-snd (seated x) (onSide d (number x) (number x)) t)))
+      (λ z t. and-fst (seated z) (onSide d (number x) (number z)) t)

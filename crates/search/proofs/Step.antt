@@ -1,0 +1,126 @@
+-- One step of the walk by comparisons, as code makes it, and the last one, to the holder: what `stepAt` and `holderAt` of specs/ are in each
+-- case. Assumes nothing.
+use Prim.Native.Nat.{ℕ, suc, _≤_, _<_}
+use mathlib.Core.Path.{_≡_, refl, sym, _∙_, subst}
+use mathlib.Core.Logic.{_⊎_, inl, inr}
+use mathlib.Core.Option.{Option, none, some}
+use mathlib.Core.Bool.{true, false}
+use native.Mathlib.Omega.{arith}
+use native.Mathlib.Decide.{ℕ-discrete, decLt}
+use borrow.Author.Tests.{eq-eqb, ne-eqb, le-leb, lt-leb}
+use Rattle.graph.specs.Side.{Side, left, right, onSide}
+use Rattle.graph.specs.Graph.{Links}
+use Rattle.graph.proofs.Tests.{T-true, not-T-false}
+use Rattle.graph.proofs.Order.{Lt, toL, toR, lt-irr, lt-some, on-lt, lt-on, side-of}
+use Rattle.search.specs.Walk.{Step, stop, move, drop, along, stepAt, Found, holderAt}
+
+-- number b lies on side d of number a
+abbrev pub Beyond : Side → ℕ → ℕ → Type 0
+Beyond = Lt (λ n. n)
+
+-- number b is a or lies on side d of it
+pub data Upto : Side → ℕ → ℕ → Type 0 where
+  uptoL : {a b : ℕ} → b ≤ a → Upto left a b
+  uptoR : {a b : ℕ} → a ≤ b → Upto right a b
+
+pub upto-some : (a b : ℕ) → (d : Side) × Upto d a b
+upto-some a b = by (decLt a b)
+  where
+    by : Dec (a < b) → (d : Side) × Upto d a b
+    by (yes l) = (right, uptoR {a = a} {b = b} (omega arith))
+    by (no l) = (left, uptoL {a = a} {b = b} (omega arith))
+
+pub upto-or-beyond : (d : Side) (a b : ℕ) → Upto d a b ⊎ Beyond d b a
+upto-or-beyond left a b = by (decLt a b)
+  where
+    by : Dec (a < b) → Upto left a b ⊎ Beyond left b a
+    by (yes l) = inr (toL l)
+    by (no l) = inl (uptoL {a = a} {b = b} (omega arith))
+upto-or-beyond right a b = by (decLt b a)
+  where
+    by : Dec (b < a) → Upto right a b ⊎ Beyond right b a
+    by (yes l) = inr (toR l)
+    by (no l) = inl (uptoR {a = a} {b = b} (omega arith))
+
+pub upto-not : {d : Side} {a b : ℕ} → Upto d a b → Beyond d b a → ⊥
+upto-not (uptoL p) (toL q) = omega arith
+upto-not (uptoR p) (toR q) = omega arith
+
+-- b lies on one side only
+pub upto-side : {d e : Side} {a b : ℕ} → Upto d a b → Beyond e a b → e ≡ d
+upto-side (uptoL p) (toL q) = refl
+upto-side (uptoL p) (toR q) = absurd (omega arith)
+upto-side (uptoR p) (toL q) = absurd (omega arith)
+upto-side (uptoR p) (toR q) = refl
+
+-- what the walk does at lot s and level k: it is found, or x lies on side d, where the link leads up to x or beyond it, or there is none
+pub data Stepped (number : ℕ → ℕ) (L : Links) (x s k : ℕ) : Step → Type 0 where
+  is-found : number s ≡ x → Stepped number L x s k stop
+  is-move : {d : Side} {y : ℕ} → Beyond d (number s) x → L s k d ≡ some y → Upto d (number y) x → Stepped number L x s k (move y)
+  is-past : {d : Side} {y : ℕ} → Beyond d (number s) x → L s k d ≡ some y → Beyond d x (number y) → Stepped number L x s k drop
+  is-last : {d : Side} → Beyond d (number s) x → L s k d ≡ none → Stepped number L x s k drop
+
+module _ (number : ℕ → ℕ) (L : Links) (x s k : ℕ) where
+  step-along : {d : Side} → Beyond d (number s) x → stepAt number L x s k ≡ along number L x d (L s k d)
+  unfolding stepAt
+  step-along {d} b = rw (ne-eqb (number s) x (λ e. lt-irr (rw e at b)), side-of (λ n. n) b)
+
+  -- some step is made
+  stepped : (t : Step) × Stepped number L x s k t
+  stepped = by (ℕ-discrete (number s) x)
+    where
+      linked : {d : Side} {y : ℕ} → Beyond d (number s) x → L s k d ≡ some y → Upto d (number y) x ⊎ Beyond d x (number y)
+          → (t : Step) × Stepped number L x s k t
+      linked {y = y} b e (inl u) = (move y, is-move b e u)
+      linked b e (inr l) = (drop, is-past b e l)
+
+      on : (d : Side) → Beyond d (number s) x → (o : Option ℕ) → L s k d ≡ o → (t : Step) × Stepped number L x s k t
+      on d b none e = (drop, is-last b e)
+      on d b (some y) e = linked b e (upto-or-beyond d (number y) x)
+
+      by : Dec (number s ≡ x) → (t : Step) × Stepped number L x s k t
+      by (yes e) = (stop, is-found e)
+      by (no n) = let (d, b) = lt-some (λ n. n) (number s) x n in on d b (L s k d) refl
+
+module _ {number : ℕ → ℕ} {L : Links} {x s k : ℕ} where
+  -- `stepAt` makes that step
+  pub stepped-at : {t : Step} → Stepped number L x s k t → stepAt number L x s k ≡ t
+  unfolding stepAt along
+  stepped-at (is-found e) = rw (eq-eqb (number s) x e)
+  stepped-at (is-move {d} {y} b e u) =
+      let f : onSide d x (number y) ≡ false = not-T-false (λ v. upto-not u (on-lt (λ n. n) d x (number y) v)) in
+      step-along number L x s k b ∙ rw (e, f)
+  stepped-at (is-past {d} {y} b e l) =
+      let f : onSide d x (number y) ≡ true = T-true (lt-on (λ n. n) l) in
+      step-along number L x s k b ∙ rw (e, f)
+  stepped-at (is-last b e) = step-along number L x s k b ∙ rw e
+
+  -- and no other
+  pub at-stepped : {t : Step} → stepAt number L x s k ≡ t → Stepped number L x s k t
+  at-stepped e = let (t, r) = stepped number L x s k in subst (Stepped number L x s k) (sym (stepped-at r) ∙ e) r
+
+-- what is found from the end e of the walk, after h hops
+pub data Held (number : ℕ → ℕ) (L : Links) (x e h : ℕ) : Found → Type 0 where
+  is-end : number e ≤ x → Held number L x e h (record { holder = some e; hops = h })
+  is-left : {y : ℕ} → x < number e → L e 0 left ≡ some y → Held number L x e h (record { holder = some y; hops = suc h })
+  is-none : x < number e → L e 0 left ≡ none → Held number L x e h (record { holder = none; hops = h })
+
+pub held-at : {number : ℕ → ℕ} {L : Links} {x e h : ℕ} {r : Found} → Held number L x e h r → holderAt number L x e h ≡ r
+unfolding holderAt
+held-at {number} {x = x} {e = e} (is-end l) = rw (le-leb (number e) x l)
+held-at {number} {x = x} {e = e} (is-left l f) = rw (lt-leb (number e) x l, f)
+held-at {number} {x = x} {e = e} (is-none l f) = rw (lt-leb (number e) x l, f)
+
+pub at-held : (number : ℕ → ℕ) (L : Links) (x e h : ℕ) → Held number L x e h (holderAt number L x e h)
+at-held number L x e h = by (decLt x (number e))
+  where
+    put : {r : Found} → Held number L x e h r → Held number L x e h (holderAt number L x e h)
+    put r = rw (held-at r) r
+
+    linked : x < number e → (o : Option ℕ) → L e 0 left ≡ o → Held number L x e h (holderAt number L x e h)
+    linked l none f = put (is-none l f)
+    linked l (some y) f = put (is-left l f)
+
+    by : Dec (x < number e) → Held number L x e h (holderAt number L x e h)
+    by (yes l) = linked l (L e 0 left) refl
+    by (no l) = put (is-end (omega arith))

@@ -1,0 +1,55 @@
+-- The roster of a record by its bytes: phase, and state, number and vector of a seat that exists. Assumes nothing.
+use Prim.Native.Nat.{ℕ, _<_}
+use mathlib.Core.Path.{_≡_}
+use mathlib.Core.Logic.{⊎-elim}
+use mathlib.Core.Bool.{not}
+use mathlib.Core.List.{List}
+use lib.Dec.{eqb}
+use lib.ListN.{getD}
+use borrow.Author.Tests.{lt-ltb, eq-eqb, ne-eqb}
+use Rattle.memory.specs.Bytes.{numberAt}
+use Rattle.memory.proofs.Cases.{eq-or-ne}
+use Rattle.protocol.specs.Rules.{isStaying}
+use Rattle.protocol.specs.State.{isClearing, isFree, seated, stays}
+use Rattle.record.specs.Layout.{seats, phaseAt, stateAt, numberFrom, vectorAt}
+use Rattle.record.specs.Meaning.{phaseOf, stateOf, rosterIn}
+
+clearing-of : (b : ℕ) → isClearing (phaseOf b) ≡ not (eqb b 0)
+unfolding phaseOf
+clearing-of b = ⊎-elim (λ e. rw (eq-eqb b 0 e)) (λ e. rw (ne-eqb b 0 e)) (eq-or-ne b 0)
+
+free-of : (b : ℕ) → isFree (stateOf b) ≡ eqb b 0
+unfolding stateOf
+free-of b = ⊎-elim
+    (λ e. rw (eq-eqb b 0 e))
+    (λ e. ⊎-elim (λ q. rw (ne-eqb b 0 e, eq-eqb b 1 q)) (λ q. rw (ne-eqb b 0 e, ne-eqb b 1 q)) (eq-or-ne b 1))
+    (eq-or-ne b 0)
+
+staying-of : (b : ℕ) → isStaying (stateOf b) ≡ eqb b 1
+unfolding stateOf
+staying-of b = ⊎-elim
+    (λ e. rw e)
+    (λ e. ⊎-elim (λ q. rw (ne-eqb b 0 e, eq-eqb b 1 q)) (λ q. rw (ne-eqb b 0 e, ne-eqb b 1 q)) (eq-or-ne b 1))
+    (eq-or-ne b 0)
+
+module _ (l : List ℕ) where
+  pub clearing-byte : isClearing (rosterIn l .phase) ≡ not (eqb (getD l phaseAt 0) 0)
+  unfolding rosterIn
+  clearing-byte = clearing-of (getD l phaseAt 0)
+
+  module _ (s : ℕ) (h : s < seats) where
+    pub seated-byte : seated (rosterIn l) s ≡ not (eqb (getD l (stateAt s) 0) 0)
+    unfolding rosterIn
+    seated-byte = rw (lt-ltb s seats h, free-of (getD l (stateAt s) 0))
+
+    pub stays-byte : stays (rosterIn l) s ≡ eqb (getD l (stateAt s) 0) 1
+    unfolding rosterIn
+    stays-byte = rw (lt-ltb s seats h, staying-of (getD l (stateAt s) 0))
+
+    pub number-bytes : rosterIn l .number s ≡ numberAt l (numberFrom s) 8
+    unfolding rosterIn
+    number-bytes = rw (lt-ltb s seats h)
+
+    pub vector-byte : rosterIn l .vector s ≡ getD l (vectorAt s) 0
+    unfolding rosterIn
+    vector-byte = rw (lt-ltb s seats h)

@@ -1,0 +1,16 @@
+-- `soundness::links::on_side` meets its contract. Assumes nothing.
+use borrow.Author.Tests.{eq-eqb, ne-eqb}
+use Rattle.graph.specs.Side.{onSide}
+use Rattle.soundness.proofs.links.on_side.Statement.{statement}
+use Rattle.soundness.proofs.links.on_side.Tie as tie
+
+returns : tie.Need-returns
+unfolding onSide
+returns c = rw (eq-eqb _ _ (c .if1 .taken))
+
+returns-2 : tie.Need-returns-2
+unfolding onSide
+returns-2 c = rw (ne-eqb _ _ (c .if1 .left))
+
+pub on-side-spec : {M : Type 1} → statement M
+on-side-spec = tie.close (tie.spec returns returns-2)

@@ -1,0 +1,23 @@
+-- Parts of the clauses of record's specs/Sound.antt that have no name there, and the numbers of all seats in an array. Assumes nothing.
+use Prim.Native.Nat.{ℕ, _<_}
+use mathlib.Core.Path.{_≡_}
+use mathlib.Core.Bool.{Bool, not, _&&_}
+use mathlib.Core.List.{List}
+use lib.Dec.{eqb}
+use lib.ListN.{getD}
+use Rattle.graph.specs.Side.{left, right}
+use Rattle.protocol.specs.State.{seated}
+use Rattle.record.specs.Layout.{seats, noLink, linkAt}
+use Rattle.record.specs.Meaning.{rosterIn}
+
+-- a has the number of each seat
+abbrev pub HasNumbers : (l a : List ℕ) → Type 0
+HasNumbers l a = (s : ℕ) → s < seats → getD a s 0 ≡ rosterIn l .number s
+
+-- seat s has no link at level k
+abbrev pub unlinked : (l : List ℕ) (s k : ℕ) → Bool
+unlinked l s k = eqb (getD l (linkAt s k left) 0) noLink && eqb (getD l (linkAt s k right) 0) noLink
+
+-- x and y are not two seated lots with one number
+abbrev pub differ : (l : List ℕ) (x y : ℕ) → Bool
+differ l x y = not (seated (rosterIn l) x && (seated (rosterIn l) y && eqb (rosterIn l .number x) (rosterIn l .number y)))

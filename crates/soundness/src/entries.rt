@@ -1,0 +1,133 @@
+// Phase and entries: the clauses of soundness that name no link of a seated lot and no message.
+ghost use mathlib.Core.Path.{_≡_};
+ghost use mathlib.Core.Bool.{_||_};
+ghost use Prim.Native.Nat.{_<_};
+ghost use lib.ListN.{length};
+ghost use Rattle.memory.specs.Loops.{all};
+ghost use Rattle.protocol.specs.State.{seated};
+ghost use Rattle.record.specs.Layout.{seats, levels, size};
+ghost use Rattle.record.specs.Meaning.{rosterIn};
+ghost use Rattle.record.specs.Sound.{phaseFits, statesFit, asOpened, unusedFit, numbersDiffer};
+ghost use Rattle.soundness.specs.Parts.{HasNumbers, unlinked, differ};
+use super::lots::is_seated;
+use record::LEVELS;
+use record::NONE;
+use record::SEATS;
+
+pub fn phase_fits(rec: &[u8]) -> bool
+    requires { ⌜ length (now rec) ≡ size ⌝ }
+    ensures { λ r. ⌜ r ≡ phaseFits (now (rec .entry)) ⌝ }
+{
+    record::phase(rec) < 2
+}
+
+pub fn states_fit(rec: &[u8]) -> bool
+    requires { ⌜ length (now rec) ≡ size ⌝ }
+    ensures { λ r. ⌜ r ≡ statesFit (now (rec .entry)) ⌝ }
+{
+    for s in 0..SEATS {
+        if 3 <= record::state(rec, s) {
+            return false;
+        }
+    }
+    true
+}
+
+// Whether seat s has neither link at level k.
+fn no_links_at(rec: &[u8], s: usize, k: usize) -> bool
+    requires { ⌜ (length (now rec) ≡ size) × (s < seats) × (k < levels) ⌝ }
+    ensures { λ r. ⌜ r ≡ unlinked (now (rec .entry)) s k ⌝ }
+{
+    record::link(rec, s, k, 0) == NONE && record::link(rec, s, k, 1) == NONE
+}
+
+// Whether seat s has no link.
+fn no_links(rec: &[u8], s: usize) -> bool
+    requires { ⌜ (length (now rec) ≡ size) × (s < seats) ⌝ }
+    ensures { λ r. ⌜ r ≡ all levels (unlinked (now (rec .entry)) s) ⌝ }
+{
+    for k in 0..LEVELS {
+        if !no_links_at(rec, s, k) {
+            return false;
+        }
+    }
+    true
+}
+
+// Whether number, vector and links of seat s are as open writes them.
+fn as_opened(rec: &[u8], s: usize) -> bool
+    requires { ⌜ (length (now rec) ≡ size) × (s < seats) ⌝ }
+    ensures { λ r. ⌜ r ≡ asOpened (now (rec .entry)) s ⌝ }
+{
+    record::number(rec, s) == 0 && (record::vector(rec, s) == 0 && no_links(rec, s))
+}
+
+fn seat_fits(rec: &[u8], s: usize) -> bool
+    requires { ⌜ (length (now rec) ≡ size) × (s < seats) ⌝ }
+    ensures { λ r. ⌜ r ≡ seated (rosterIn (now (rec .entry))) s || asOpened (now (rec .entry)) s ⌝ }
+{
+    is_seated(rec, s) || as_opened(rec, s)
+}
+
+pub fn unused_fit(rec: &[u8]) -> bool
+    requires { ⌜ length (now rec) ≡ size ⌝ }
+    ensures { λ r. ⌜ r ≡ unusedFit (now (rec .entry)) ⌝ }
+{
+    for s in 0..SEATS {
+        if !seat_fits(rec, s) {
+            return false;
+        }
+    }
+    true
+}
+
+// The numbers of all seats, read once for the tests that compare them.
+pub fn numbers_of(rec: &[u8]) -> [u64; SEATS]
+    requires { ⌜ length (now rec) ≡ size ⌝ }
+    ensures { λ r. ⌜ HasNumbers (now (rec .entry)) r ⌝ }
+{
+    let mut numbers = [0u64; SEATS];
+    for s in 0..SEATS {
+        numbers[s] = record::number(rec, s);
+    }
+    numbers
+}
+
+// Whether x and y are not two seated lots with one number. The numbers come first: they differ nearly always.
+fn pair_differs(rec: &[u8], numbers: &[u64; SEATS], x: usize, y: usize) -> bool
+    requires { ⌜ (length (now rec) ≡ size) × HasNumbers (now rec) (now numbers) × (x < seats) × (y < seats) ⌝ }
+    ensures { λ r. ⌜ r ≡ differ (now (rec .entry)) x y ⌝ }
+{
+    if numbers[x] != numbers[y] {
+        return true;
+    }
+    if !is_seated(rec, x) {
+        return true;
+    }
+    !is_seated(rec, y)
+}
+
+// Whether no seated lot below x has the number of x, a seated lot.
+fn number_differs(rec: &[u8], numbers: &[u64; SEATS], x: usize) -> bool
+    requires { ⌜ (length (now rec) ≡ size) × HasNumbers (now rec) (now numbers) × (x < seats) ⌝ }
+    ensures { λ r. ⌜ r ≡ all x (differ (now (rec .entry)) x) ⌝ }
+{
+    for y in 0..x {
+        if !pair_differs(rec, numbers, x, y) {
+            return false;
+        }
+    }
+    true
+}
+
+pub fn numbers_differ(rec: &[u8], numbers: &[u64; SEATS]) -> bool
+    requires { ⌜ (length (now rec) ≡ size) × HasNumbers (now rec) (now numbers) ⌝ }
+    ensures { λ r. ⌜ r ≡ numbersDiffer (now (rec .entry)) ⌝ }
+{
+    for x in 0..SEATS {
+        if !number_differs(rec, numbers, x) {
+            return false;
+        }
+    }
+    true
+}
