@@ -2,3 +2,7 @@
 pub mod Sides
 pub mod Sends
 pub mod Named
+pub mod Placed
+pub mod Answers
+pub mod Delivered
+pub mod Steps

@@ -3,22 +3,17 @@
 use Prim.Native.Nat.{ℕ}
 use mathlib.Core.Option.{Option, none, some}
 use mathlib.Core.Bool.{Bool, false, cond}
-use mathlib.Core.List.{List, [], _∷_}
+use mathlib.Core.List.{List}
 use lib.ListN.{set}
-use Rattle.memory.specs.Bits.{setBit}
 use Rattle.graph.specs.Vector.{width}
 use Rattle.protocol.specs.Message.{Msg, nameOf}
 use Rattle.protocol.specs.Numbering.{exists, place}
 use Rattle.protocol.specs.Rules.{Change, keep, Effect}
 use Rattle.protocol.specs.Rules.{set as setLink}
 use Rattle.protocol.specs.Calls.{rule}
-use Rattle.record.specs.Layout.{seats, messages, linkAt, pendingFrom}
+use Rattle.record.specs.Layout.{seats, messages, linkAt}
 use Rattle.record.specs.Meaning.{meaning, linkByte}
-
--- messages sent one after the other
-unfoldable pub sendAll : List Msg → List ℕ → List ℕ
-sendAll [] l = l
-sendAll (m ∷ ms) l = sendAll ms (setBit l pendingFrom (place seats width m))
+use Rattle.record.proofs.Sent.{sentBits}
 
 -- a change of the links of seat t
 unfoldable pub changed : ℕ → Change → List ℕ → List ℕ
@@ -27,7 +22,7 @@ changed t (setLink k d o) l = set l (linkAt t k d) (linkByte o)
 
 -- the effect of a rule at seat t
 unfoldable pub done : ℕ → Effect → List ℕ → List ℕ
-done t e l = sendAll (e .sent) (changed t (e .change) l)
+done t e l = sentBits (e .sent) (changed t (e .change) l)
 
 -- the rule of a message, if there is one
 unfoldable pub ruled : Option Msg → List ℕ → List ℕ

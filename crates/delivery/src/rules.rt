@@ -14,7 +14,8 @@ ghost use Rattle.protocol.specs.Calls.{rule};
 ghost use Rattle.record.specs.Layout.{seats, levels, size};
 ghost use Rattle.record.specs.Meaning.{meaning, linkOf};
 ghost use Rattle.record.specs.Reading.{sideOfNumber};
-ghost use Rattle.delivery.specs.Done.{sendAll, done};
+ghost use Rattle.record.proofs.Sent.{sentBits};
+ghost use Rattle.delivery.specs.Done.{done};
 use crate::places::WIDTH;
 use crate::places::found_place;
 use crate::places::meet_place;
@@ -47,7 +48,7 @@ fn spread(
     side: usize,
 )
     requires { ⌜ (length (now rec) ≡ size) × (to < seats) × (about < seats) × (side < 2) ⌝ }
-    ensures { λ _. ⌜ now (rec .exit) ≡ sendAll (cond (ltb level width) (probeOf about to level ∷ toLink (linkOf other) (λ z. pullOf z (not (bitAt width level vector)) level (sideOfNumber side))) []) (now (rec .entry)) ⌝ }
+    ensures { λ _. ⌜ now (rec .exit) ≡ sentBits (cond (ltb level width) (probeOf about to level ∷ toLink (linkOf other) (λ z. pullOf z (not (bitAt width level vector)) level (sideOfNumber side))) []) (now (rec .entry)) ⌝ }
 {
     if level < WIDTH {
         record::send(rec, probe_place(about, to, level));

@@ -9,7 +9,7 @@ ghost use Rattle.protocol.specs.Rules.{toLink};
 ghost use Rattle.record.specs.Layout.{seats, levels, entrySize, size, linkAt};
 ghost use Rattle.record.specs.Meaning.{linkOf};
 ghost use Rattle.record.specs.Reading.{sideOfNumber};
-ghost use Rattle.delivery.specs.Done.{sendAll};
+ghost use Rattle.record.proofs.Sent.{sentBits};
 use crate::places::meet_place;
 use crate::places::probe_place;
 use crate::places::pull_place;
@@ -40,7 +40,7 @@ pub fn put_link(rec: &mut [u8], s: usize, k: usize, d: usize, v: u8)
 // MEET to a lot about the link z.
 pub fn meet_about_link(rec: &mut [u8], to: usize, z: usize, level: usize)
     requires { ⌜ (length (now rec) ≡ size) × (to < seats) × (level < levels) ⌝ }
-    ensures { λ _. ⌜ now (rec .exit) ≡ sendAll (toLink (linkOf z) (λ o. meet to o level)) (now (rec .entry)) ⌝ }
+    ensures { λ _. ⌜ now (rec .exit) ≡ sentBits (toLink (linkOf z) (λ o. meet to o level)) (now (rec .entry)) ⌝ }
 {
     if z < SEATS {
         record::send(rec, meet_place(to, z, level));
@@ -50,7 +50,7 @@ pub fn meet_about_link(rec: &mut [u8], to: usize, z: usize, level: usize)
 // PROBE to the link z.
 pub fn probe_link(rec: &mut [u8], z: usize, about: usize, level: usize)
     requires { ⌜ (length (now rec) ≡ size) × (about < seats) × (level < width) ⌝ }
-    ensures { λ _. ⌜ now (rec .exit) ≡ sendAll (toLink (linkOf z) (λ o. probe o about level)) (now (rec .entry)) ⌝ }
+    ensures { λ _. ⌜ now (rec .exit) ≡ sentBits (toLink (linkOf z) (λ o. probe o about level)) (now (rec .entry)) ⌝ }
 {
     if z < SEATS {
         record::send(rec, probe_place(z, about, level));
@@ -60,7 +60,7 @@ pub fn probe_link(rec: &mut [u8], z: usize, about: usize, level: usize)
 // PULL to the link z.
 pub fn pull_link(rec: &mut [u8], z: usize, want: usize, level: usize, side: usize)
     requires { ⌜ (length (now rec) ≡ size) × (want < 2) × (level < width) × (side < 2) ⌝ }
-    ensures { λ _. ⌜ now (rec .exit) ≡ sendAll (toLink (linkOf z) (λ o. pull o (eqb want 1) level (sideOfNumber side))) (now (rec .entry)) ⌝ }
+    ensures { λ _. ⌜ now (rec .exit) ≡ sentBits (toLink (linkOf z) (λ o. pull o (eqb want 1) level (sideOfNumber side))) (now (rec .entry)) ⌝ }
 {
     if z < SEATS {
         record::send(rec, pull_place(z, want, level, side));
@@ -70,7 +70,7 @@ pub fn pull_link(rec: &mut [u8], z: usize, want: usize, level: usize, side: usiz
 // SEEK to the link z.
 pub fn seek_link(rec: &mut [u8], z: usize, about: usize, level: usize)
     requires { ⌜ (length (now rec) ≡ size) × (about < seats) × (level < levels) ⌝ }
-    ensures { λ _. ⌜ now (rec .exit) ≡ sendAll (toLink (linkOf z) (λ o. seek o about level)) (now (rec .entry)) ⌝ }
+    ensures { λ _. ⌜ now (rec .exit) ≡ sentBits (toLink (linkOf z) (λ o. seek o about level)) (now (rec .entry)) ⌝ }
 {
     if z < SEATS {
         record::send(rec, seek_place(z, about, level));

@@ -1,5 +1,6 @@
 -- `delivery::rules::found` meets its contract. Assumes nothing.
-use Rattle.delivery.specs.Done.{sendAll, changed, done}
+use Rattle.record.proofs.Sent.{sentBits}
+use Rattle.delivery.specs.Done.{changed, done}
 use Rattle.protocol.specs.Rules.{effect}
 use Rattle.protocol.specs.Calls.{rule}
 use borrow.Author.Needs.{needs}
@@ -23,7 +24,7 @@ same-length : tie.Need-same-length
 same-length c = search needs
 
 returns : tie.Need-returns
-unfolding done sendAll changed rule effect
+unfolding done sentBits changed rule effect
 returns c = rw (← c .before .before .before .before .side-of .ensures .0) (c .before .before .put-link .ensures)
 
 pub found-spec : {M : Type 1} → statement M

@@ -1,5 +1,6 @@
 -- `delivery::rules::going` meets its contract. Assumes nothing.
-use Rattle.delivery.specs.Done.{sendAll, changed, done}
+use Rattle.record.proofs.Sent.{sentBits}
+use Rattle.delivery.specs.Done.{changed, done}
 use Rattle.protocol.specs.Rules.{effect, parting}
 use Rattle.protocol.specs.Calls.{rule}
 use borrow.Author.Needs.{needs}
@@ -24,7 +25,7 @@ same-length : tie.Need-same-length
 same-length c = search needs
 
 returns : tie.Need-returns
-unfolding done sendAll changed rule effect parting
+unfolding done sentBits changed rule effect parting
 returns c =
     rw (← c .before .before .before .before .before .before .before .stays .ensures, c .before .before .before .before .before .before .if1 .taken, ← c .before .before .before .before .link .ensures) (c .before .before .seek-link .ensures)
 
@@ -32,7 +33,7 @@ same-length-2 : tie.Need-same-length-2
 same-length-2 c = search needs
 
 returns-2 : tie.Need-returns-2
-unfolding done sendAll changed rule effect parting
+unfolding done sentBits changed rule effect parting
 returns-2 c = rw (← c .before .stays .ensures, c .if1 .left)
 
 pub going-spec : {M : Type 1} → statement M

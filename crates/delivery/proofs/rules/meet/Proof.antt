@@ -2,7 +2,8 @@
 use Rattle.delivery.proofs.Sends.{link-seat, link-none}
 use Rattle.protocol.specs.Rules.{effect, meeting}
 use Rattle.protocol.specs.Calls.{rule}
-use Rattle.delivery.specs.Done.{sendAll, changed, done}
+use Rattle.record.proofs.Sent.{sentBits}
+use Rattle.delivery.specs.Done.{changed, done}
 use borrow.Author.Tests.{lt-ltb, le-ltb, eq-eqb, ne-eqb}
 use borrow.Author.Needs.{needs}
 use Rattle.delivery.proofs.rules.meet.Statement.{statement}
@@ -38,7 +39,7 @@ same-length-2 : tie.Need-same-length-2
 same-length-2 c = search needs
 
 returns-2 : tie.Need-returns-2
-unfolding done sendAll changed rule effect meeting
+unfolding done sentBits changed rule effect meeting
 returns-2 c =
     let k = c .before .before in
     rw (← k .before .before .side-of .ensures .0, ← k .link .ensures, link-seat _ (c .before .if1 .left), eq-eqb _ _ (c .if2 .taken))
@@ -56,7 +57,7 @@ same-length-3 : tie.Need-same-length-3
 same-length-3 c = search needs
 
 returns-3 : tie.Need-returns-3
-unfolding done sendAll changed rule effect meeting
+unfolding done sentBits changed rule effect meeting
 returns-3 c =
     let s = c .before .before in
     let b = s .before .before .before .before in

@@ -2,7 +2,8 @@
 use native.Mathlib.Numerals.{add-one}
 use Rattle.protocol.specs.Rules.{effect, probing}
 use Rattle.protocol.specs.Calls.{rule}
-use Rattle.delivery.specs.Done.{sendAll, changed, done}
+use Rattle.record.proofs.Sent.{sentBits}
+use Rattle.delivery.specs.Done.{changed, done}
 use Rattle.delivery.proofs.Sides.{side-opp}
 use borrow.Author.Tests.{lt-ltb, le-ltb, eq-eqb, ne-eqb}
 use borrow.Author.Needs.{needs}
@@ -33,7 +34,7 @@ same-length : tie.Need-same-length
 same-length c = search needs
 
 returns : tie.Need-returns
-unfolding done sendAll changed rule effect probing
+unfolding done sentBits changed rule effect probing
 returns c =
     let s = c .before .before in
     let b = s .before .before .before .before .before .before .before in
@@ -55,7 +56,7 @@ same-length-2 : tie.Need-same-length-2
 same-length-2 c = search needs
 
 returns-2 : tie.Need-returns-2
-unfolding done sendAll changed rule effect probing
+unfolding done sentBits changed rule effect probing
 returns-2 c =
     let k = c .before .before .before .before in
     let d = k .before .before in

@@ -2,7 +2,8 @@
 use Rattle.record.proofs.Form.{meaning-vector}
 use Rattle.protocol.specs.Rules.{effect, pulling}
 use Rattle.protocol.specs.Calls.{rule}
-use Rattle.delivery.specs.Done.{sendAll, changed, done}
+use Rattle.record.proofs.Sent.{sentBits}
+use Rattle.delivery.specs.Done.{changed, done}
 use Rattle.delivery.proofs.Sides.{side-opp, same-bits}
 use borrow.Author.Tests.{lt-ltb, le-ltb, eq-eqb, ne-eqb}
 use borrow.Author.Needs.{needs}
@@ -35,7 +36,7 @@ same-length : tie.Need-same-length
 same-length c = search needs
 
 returns : tie.Need-returns
-unfolding done sendAll changed rule effect pulling
+unfolding done sentBits changed rule effect pulling
 returns c =
     let k = c .before .before .before .before in
     let v = k .before .before .before .before in
@@ -52,7 +53,7 @@ same-length-2 : tie.Need-same-length-2
 same-length-2 c = search needs
 
 returns-2 : tie.Need-returns-2
-unfolding done sendAll changed rule effect pulling
+unfolding done sentBits changed rule effect pulling
 returns-2 c =
     let k = c .before .before .before .before in
     let v = k .before .before .before .before in

@@ -2,7 +2,8 @@
 use Rattle.delivery.proofs.Sends.{link-seat, link-none}
 use Rattle.protocol.specs.Rules.{effect, seeking, passing}
 use Rattle.protocol.specs.Calls.{rule}
-use Rattle.delivery.specs.Done.{sendAll, changed, done}
+use Rattle.record.proofs.Sent.{sentBits}
+use Rattle.delivery.specs.Done.{changed, done}
 use Rattle.delivery.proofs.Sides.{side-opp}
 use borrow.Author.Needs.{needs}
 use Rattle.delivery.proofs.rules.seek.Statement.{statement}
@@ -30,7 +31,7 @@ same-length : tie.Need-same-length
 same-length c = search needs
 
 returns : tie.Need-returns
-unfolding done sendAll changed rule effect seeking
+unfolding done sentBits changed rule effect seeking
 returns c =
     let s = c .before .before in
     rw (← s .before .before .before .before .stays .ensures, s .before .before .before .if1 .taken, ← s .before .found-place .ensures .0) (s .send .ensures)
@@ -51,7 +52,7 @@ same-length-2 : tie.Need-same-length-2
 same-length-2 c = search needs
 
 returns-2 : tie.Need-returns-2
-unfolding done sendAll changed rule effect seeking passing
+unfolding done sentBits changed rule effect seeking passing
 returns-2 c =
     let s = c .before .before in
     let k = s .before .before .before .before in
@@ -68,7 +69,7 @@ same-length-3 : tie.Need-same-length-3
 same-length-3 c = search needs
 
 returns-3 : tie.Need-returns-3
-unfolding done sendAll changed rule effect seeking passing
+unfolding done sentBits changed rule effect seeking passing
 returns-3 c =
     let s = c .before .before in
     let k = s .before .before .before .before in

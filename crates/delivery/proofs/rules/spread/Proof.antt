@@ -1,6 +1,6 @@
 -- `delivery::rules::spread` meets its contract. Assumes nothing.
 use Rattle.delivery.proofs.Sends.{send-more}
-use Rattle.delivery.specs.Done.{sendAll}
+use Rattle.record.proofs.Sent.{sentBits}
 use Rattle.delivery.proofs.Sides.{bit-not}
 use borrow.Author.Tests.{lt-ltb, le-ltb, eq-eqb, ne-eqb}
 use borrow.Author.Needs.{needs}
@@ -38,7 +38,7 @@ returns c =
     rw (lt-ltb _ _ (b .before .before .if1 .taken), send-more, ← b .probe-place .ensures .0, ← d .before .before .before .before .send .ensures, ← d .bit .ensures .0, ← bit-not _ (d .bit .ensures .1)) (c .before .before .pull-link .ensures)
 
 returns-2 : tie.Need-returns-2
-unfolding sendAll
+unfolding sentBits
 returns-2 c = rw (le-ltb _ _ (c .if1 .left))
 
 pub spread-spec : {M : Type 1} → statement M
