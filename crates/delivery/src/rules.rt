@@ -48,7 +48,9 @@ fn spread(
     side: usize,
 )
     requires { ⌜ (length (now rec) ≡ size) × (to < seats) × (about < seats) × (side < 2) ⌝ }
-    ensures { λ _. ⌜ now (rec .exit) ≡ sentBits (cond (ltb level width) (probeOf about to level ∷ toLink (linkOf other) (λ z. pullOf z (not (bitAt width level vector)) level (sideOfNumber side))) []) (now (rec .entry)) ⌝ }
+    ensures { λ _. ⌜ now (rec .exit) ≡ sentBits (cond (ltb level width)
+        (probeOf about to level ∷ toLink (linkOf other) (λ z. pullOf z (not (bitAt width level vector)) level (sideOfNumber side))) [])
+        (now (rec .entry)) ⌝ }
 {
     if level < WIDTH {
         record::send(rec, probe_place(about, to, level));
@@ -59,7 +61,8 @@ fn spread(
 // 1 MEET, the link is set to `about`.
 fn setting(rec: &mut [u8], to: usize, about: usize, level: usize, d: usize)
     requires { ⌜ (length (now rec) ≡ size) × (to < seats) × (about < seats) × (level < levels) × (d < 2) ⌝ }
-    ensures { λ _. ⌜ now (rec .exit) ≡ done to (settingOf width (meaning (now (rec .entry)) .roster .number) (meaning (now (rec .entry)) .roster .vector) (entryOf (meaning (now (rec .entry))) to) to about level (sideOfNumber d)) (now (rec .entry)) ⌝ }
+    ensures { λ _. ⌜ now (rec .exit) ≡ done to (settingOf width (meaning (now (rec .entry)) .roster .number) (meaning (now (rec .entry)) .roster .vector)
+        (entryOf (meaning (now (rec .entry))) to) to about level (sideOfNumber d)) (now (rec .entry)) ⌝ }
 {
     let old = link(rec, to, level, d);
     let other = link(rec, to, level, 1 - d);
