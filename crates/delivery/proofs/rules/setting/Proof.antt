@@ -8,11 +8,11 @@ use Rattle.delivery.proofs.Sides.{side-opp}
 use Rattle.delivery.proofs.rules.setting.Statement.{statement}
 use Rattle.delivery.proofs.rules.setting.Tie as tie
 
+sub-away : tie.Need-sub-away
+sub-away c = search needs
+
 link-requires : tie.Need-link-requires
 link-requires c κs = search needs
-
-sub-link : tie.Need-sub-link
-sub-link c = search needs
 
 link-requires-2 : tie.Need-link-requires-2
 link-requires-2 c κs = search needs
@@ -34,9 +34,6 @@ send-requires c κs = search needs
 
 meet-about-link-requires : tie.Need-meet-about-link-requires
 meet-about-link-requires c κs = search needs
-
-sub-spread : tie.Need-sub-spread
-sub-spread c = search needs
 
 spread-requires : tie.Need-spread-requires
 spread-requires c κs = search needs
@@ -69,8 +66,8 @@ pub setting-spec : {M : Type 1} → statement M
 setting-spec =
     tie.close
     (tie.spec
+    sub-away
     link-requires
-    sub-link
     link-requires-2
     vector-requires
     cast-put-link
@@ -78,7 +75,6 @@ setting-spec =
     meet-place-requires
     send-requires
     meet-about-link-requires
-    sub-spread
     spread-requires
     same-length
     returns)
