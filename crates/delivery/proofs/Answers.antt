@@ -1,13 +1,13 @@
 -- The answer of a delivery in each case of the tests before it: the record is refused, the message is not pending, it is. Assumes nothing.
-use Prim.Native.Nat.{ℕ, zero, suc}
-use mathlib.Core.Path.{_≡_, refl, sym, ap, _∙_}
+use Prim.Native.Nat.{ℕ}
+use mathlib.Core.Path.{_≡_, refl, _∙_}
 use mathlib.Core.Logic.{_≢_}
 use mathlib.Core.Bool.{Bool, true, false, not}
 use mathlib.Core.List.{List, [], _∷_}
 use native.Mathlib.Omega.{arith}
 use lib.Dec.{eqb}
 use lib.ListN.{length}
-use borrow.Author.Tests.{eq-eqb, eqb-true}
+use borrow.Author.Tests.{eqb-true}
 use Rattle.graph.specs.Vector.{width}
 use Rattle.protocol.specs.Message.{Name, named}
 use Rattle.protocol.specs.Table.{Call, deliver, Row, row, first, rows, refusal, isPending}
@@ -29,9 +29,12 @@ record-refused l c ne = by (eqb (length l) size) (sound l) ne
     rs : List Row
     rs = rows seats width (meaning l .roster) (meaning l .pending) c
 
+    new : List ℕ
+    new = bytesOf (accept seats width (meaning l) c)
+
     by : (p q : Bool) → first (row 1 (not p) ∷ row 2 (not q) ∷ []) ≢ 0
         → told (Refused (first (row 1 (not p) ∷ row 2 (not q) ∷ []))) l
-        ≡ told (answerOf (first (row 1 (not p) ∷ row 2 (not q) ∷ rs))) (unlessRefused (first (row 1 (not p) ∷ row 2 (not q) ∷ rs)) l (bytesOf (accept seats width (meaning l) c)))
+        ≡ told (answerOf (first (row 1 (not p) ∷ row 2 (not q) ∷ rs))) (unlessRefused (first (row 1 (not p) ∷ row 2 (not q) ∷ rs)) l new)
     by false q f = refl
     by true false f = refl
     by true true f = absurd (f refl)
@@ -41,7 +44,8 @@ pub record-fine : (l : List ℕ) → recordRefusal l ≡ 0 → (length l ≡ siz
 unfolding recordRefusal first
 record-fine l e = by (eqb (length l) size) (sound l) refl refl e
   where
-    by : (p q : Bool) → eqb (length l) size ≡ p → sound l ≡ q → first (row 1 (not p) ∷ row 2 (not q) ∷ []) ≡ 0 → (length l ≡ size) × (sound l ≡ true)
+    by : (p q : Bool) → eqb (length l) size ≡ p → sound l ≡ q
+        → first (row 1 (not p) ∷ row 2 (not q) ∷ []) ≡ 0 → (length l ≡ size) × (sound l ≡ true)
     by true true a b f = (eqb-true (length l) size a, b)
     by true false a b f = absurd (omega (arith, f))
     by false q a b f = absurd (omega (arith, f))
@@ -55,6 +59,7 @@ module _ (l : List ℕ) (e : recordRefusal l ≡ 0) (n : Name) where
   unfolding made answered answerOf unlessRefused first
   not-pending p = rw (refusal-is false p)
 
-  pub delivered : isPending (meaning l .pending) (named n) ≡ true → told Done (bytesOf (accept seats width (meaning l) (deliver n))) ≡ answered (made l (deliver n))
+  pub delivered : isPending (meaning l .pending) (named n) ≡ true
+      → told Done (bytesOf (accept seats width (meaning l) (deliver n))) ≡ answered (made l (deliver n))
   unfolding made answered answerOf unlessRefused first
   delivered p = rw (refusal-is true p)

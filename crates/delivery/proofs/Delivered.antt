@@ -1,11 +1,10 @@
 -- A message taken and its rule done leave the bytes of the meaning after its delivery, in a sound record where it is pending.
 -- Assumes nothing.
 use Prim.Native.Nat.{ℕ, _<_}
-use mathlib.Core.Path.{_≡_, refl, sym, ap, _∙_}
+use mathlib.Core.Path.{_≡_, sym, ap, _∙_}
 use mathlib.Core.Option.{Option, none, some}
-use mathlib.Core.Bool.{Bool, true, false, cond, _||_}
+use mathlib.Core.Bool.{Bool, true, false, cond}
 use mathlib.Core.List.{List, [], _∷_, List·Memᴰ, List·Memᴰ·not-nil}
-use native.Mathlib.Omega.{arith}
 use lib.Dec.{T, eqb}
 use Rattle.memory.specs.Bits.{clearBit}
 use Rattle.graph.specs.Side.{Side, onSide}
@@ -17,7 +16,7 @@ use Rattle.protocol.specs.Rules.{Entry, Change, keep, set, Effect, sending, set
 use Rattle.protocol.specs.State.{Meaning}
 use Rattle.protocol.specs.Sound.{Sound, messageOk}
 use Rattle.protocol.specs.Table.{deliver, first, rows, refusal, isPending}
-use Rattle.protocol.specs.Calls.{accept, rule, pendingAfter}
+use Rattle.protocol.specs.Calls.{accept, rule}
 use Rattle.protocol.proofs.Message.{named-name, mem-among}
 use Rattle.protocol.proofs.SoundFacts.{pending-exists, pending-after}
 use Rattle.protocol.proofs.KeepDelivery.{deliver-sound}
@@ -39,7 +38,8 @@ AtLevel : Change → Type 0
 AtLevel keep = Unit {0}
 AtLevel (set k d o) = k < levels
 
-meeting-level : (num vec : ℕ → ℕ) (e : Entry) (t a l : ℕ) (d : Side) → l < levels → (o : Option ℕ) → AtLevel (meeting width num vec e t a l d o .change)
+meeting-level : (num vec : ℕ → ℕ) (e : Entry) (t a l : ℕ) (d : Side) → l < levels → (o : Option ℕ)
+    → AtLevel (meeting width num vec e t a l d o .change)
 unfolding AtLevel meeting setting
 meeting-level num vec e t a l d h none = h
 meeting-level num vec e t a l d h (some o) = by (eqb o a) (onSide d (num o) (num a))
@@ -88,9 +88,11 @@ without-sound {M} h m = record {
 }
 
 -- what a rule sends exists
-sent-exists : {M : Meaning} → Sound seats width M → (m : Msg) → T (M .pending m) → (n : Msg) → List·Memᴰ n (rule width M m .sent) → T (exists seats width n)
+sent-exists : {M : Meaning} → Sound seats width M → (m : Msg) → T (M .pending m)
+    → (n : Msg) → List·Memᴰ n (rule width M m .sent) → T (exists seats width n)
 unfolding refusal rows first isPending
-sent-exists {M} h m t n q = pending-exists after n (rw (pending-exactly seats width M m n) (or-left (among (rule width M m .sent) n) _ (mem-among _ q)))
+sent-exists {M} h m t n q =
+    pending-exists after n (rw (pending-exactly seats width M m n) (or-left (among (rule width M m .sent) n) _ (mem-among _ q)))
   where
     accepted : refusal seats width (M .roster) (M .pending) (deliver (nameOf m)) ≡ 0
     accepted = rw (named-name m, T-true {b = M .pending m} t)

@@ -6,3 +6,4 @@ pub mod Placed
 pub mod Answers
 pub mod Delivered
 pub mod Steps
+pub mod Local

@@ -6,8 +6,8 @@ use mathlib.Core.Option.{Option, none, some}
 use mathlib.Core.Bool.{Bool, true, false, cond, _&&_}
 use mathlib.Core.List.{List}
 use native.Mathlib.Omega.{arith}
-use borrow.Author.Tests.{ne-eqb, le-ltb}
 use lib.Dec.{T, eqb, ltb, ltb→lt}
+use borrow.Author.Tests.{ne-eqb, le-ltb}
 use Rattle.graph.specs.Side.{Side, left, right}
 use Rattle.graph.specs.Vector.{width}
 use Rattle.graph.proofs.Tests.{and-fst, and-snd}
@@ -23,12 +23,22 @@ use Rattle.delivery.specs.Done.{placeOf, isMessage, done, ruled}
 abbrev pub when : Bool → Msg → Option Msg
 when b m = cond b (some m) none
 
+-- a number that is no bit
+not-0 : (n : ℕ) → eqb (suc (suc n)) 0 ≡ false
+not-0 n = ne-eqb (suc (suc n)) 0 (λ e. omega arith)
+
+not-1 : (n : ℕ) → eqb (suc (suc n)) 1 ≡ false
+not-1 n = ne-eqb (suc (suc n)) 1 (λ e. omega arith)
+
+not-below-2 : (n : ℕ) → ltb (suc (suc n)) 2 ≡ false
+not-below-2 n = le-ltb (suc (suc n)) 2 (omega arith)
+
 -- a number that is 0 and one that is a side
 named-zero-side : (f : Side → Msg) (a s : ℕ) → ifZero a (ifBit s (some (f left)) (some (f right))) ≡ when (eqb a 0 && ltb s 2) (f (sideOfNumber s))
 unfolding ifZero ifBit
 named-zero-side f zero zero = refl
 named-zero-side f zero (suc zero) = refl
-named-zero-side f zero (suc (suc s)) = rw (ne-eqb (suc (suc s)) 0 (λ e. omega arith), ne-eqb (suc (suc s)) 1 (λ e. omega arith), le-ltb (suc (suc s)) 2 (omega arith))
+named-zero-side f zero (suc (suc s)) = rw (not-0 s, not-1 s, not-below-2 s)
 named-zero-side f (suc a) s = rw (ne-eqb (suc a) 0 (λ e. omega arith))
 
 -- a number that is a bit and one that is a side
@@ -38,11 +48,11 @@ named-bit-side : (t a l s : ℕ)
 unfolding ifBit
 named-bit-side t zero l zero = refl
 named-bit-side t zero l (suc zero) = refl
-named-bit-side t zero l (suc (suc s)) = rw (ne-eqb (suc (suc s)) 0 (λ e. omega arith), ne-eqb (suc (suc s)) 1 (λ e. omega arith), le-ltb (suc (suc s)) 2 (omega arith))
+named-bit-side t zero l (suc (suc s)) = rw (not-0 s, not-1 s, not-below-2 s)
 named-bit-side t (suc zero) l zero = refl
 named-bit-side t (suc zero) l (suc zero) = refl
-named-bit-side t (suc zero) l (suc (suc s)) = rw (ne-eqb (suc (suc s)) 0 (λ e. omega arith), ne-eqb (suc (suc s)) 1 (λ e. omega arith), le-ltb (suc (suc s)) 2 (omega arith))
-named-bit-side t (suc (suc a)) l s = rw (ne-eqb (suc (suc a)) 0 (λ e. omega arith), ne-eqb (suc (suc a)) 1 (λ e. omega arith), le-ltb (suc (suc a)) 2 (omega arith))
+named-bit-side t (suc zero) l (suc (suc s)) = rw (not-0 s, not-1 s, not-below-2 s)
+named-bit-side t (suc (suc a)) l s = rw (not-0 a, not-1 a, not-below-2 a)
 
 -- the seven kinds, and the rest
 module _ {k : ℕ} (t a l s : ℕ) where

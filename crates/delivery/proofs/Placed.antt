@@ -1,6 +1,6 @@
 -- The place of the message that five numbers name tells whether it exists, and its bit whether it is pending. Assumes nothing.
 use Prim.Native.Nat.{ℕ, _<_}
-use mathlib.Core.Path.{_≡_, refl, sym, _∙_}
+use mathlib.Core.Path.{_≡_, refl}
 use mathlib.Core.Logic.{_≢_}
 use mathlib.Core.Option.{Option, none, some}
 use mathlib.Core.Bool.{Bool, true, false, cond}
@@ -9,7 +9,7 @@ use native.Mathlib.Omega.{arith}
 use lib.Dec.{T}
 use Rattle.memory.specs.Bits.{bitSet}
 use Rattle.graph.specs.Vector.{width}
-use Rattle.graph.proofs.Tests.{T-true, true-T, false-T, not-T-false}
+use Rattle.graph.proofs.Tests.{T-true, not-T-false}
 use Rattle.protocol.specs.Message.{Msg}
 use Rattle.protocol.specs.Numbering.{exists, place}
 use Rattle.protocol.specs.Table.{isPending}

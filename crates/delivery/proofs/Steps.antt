@@ -15,7 +15,7 @@ use Rattle.record.specs.Meaning.{meaning}
 use Rattle.record.specs.Reading.{recordRefusal}
 use Rattle.record.proofs.Sound.{sound-is}
 use Rattle.outcome.specs.Made.{made}
-use Rattle.outcome.specs.Answer.{Told, told, answered}
+use Rattle.outcome.specs.Answer.{told, answered}
 use Rattle.outcome.specs.declared.Answer.the-variants.{Done, Refused}
 use Rattle.delivery.specs.Done.{placeOf, isMessage, ruled}
 use Rattle.delivery.proofs.Placed.{place-message, message-place, pending-bit, no-place}

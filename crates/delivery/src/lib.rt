@@ -74,13 +74,11 @@ pub fn deliver(rec: &mut [u8], kind: u8, to: u8, about: u8, level: u8, side: u8)
     if refused != 0 {
         return Answer::Refused(refused);
     }
-    let place = place_of(
-        kind,
-        to as usize,
-        about as usize,
-        level as usize,
-        side as usize,
-    );
+    let to = to as usize;
+    let about = about as usize;
+    let level = level as usize;
+    let side = side as usize;
+    let place = place_of(kind, to, about, level, side);
     if place == MESSAGES {
         return Answer::Refused(NO_SUCH_MESSAGE);
     }
@@ -88,13 +86,6 @@ pub fn deliver(rec: &mut [u8], kind: u8, to: u8, about: u8, level: u8, side: u8)
         return Answer::Refused(NO_SUCH_MESSAGE);
     }
     record::take(rec, place);
-    handle(
-        rec,
-        kind,
-        to as usize,
-        about as usize,
-        level as usize,
-        side as usize,
-    );
+    handle(rec, kind, to, about, level, side);
     Answer::Done
 }

@@ -1,6 +1,6 @@
 // The place of each message in the numbering of all messages (protocol's specs/Numbering.antt): the bit of the record that it has.
 ghost use mathlib.Core.Path.{_≡_};
-ghost use mathlib.Core.Bool.{Bool, _&&_};
+ghost use mathlib.Core.Bool.{_&&_};
 ghost use Prim.Native.Nat.{_<_};
 ghost use lib.Dec.{eqb, ltb};
 ghost use Rattle.graph.specs.Vector.{width};

@@ -48,7 +48,9 @@ fn spread(
     side: usize,
 )
     requires { ⌜ (length (now rec) ≡ size) × (to < seats) × (about < seats) × (side < 2) ⌝ }
-    ensures { λ _. ⌜ now (rec .exit) ≡ sentBits (cond (ltb level width) (probeOf about to level ∷ toLink (linkOf other) (λ z. pullOf z (not (bitAt width level vector)) level (sideOfNumber side))) []) (now (rec .entry)) ⌝ }
+    ensures { λ _. ⌜ now (rec .exit) ≡ sentBits (cond (ltb level width)
+        (probeOf about to level ∷ toLink (linkOf other) (λ z. pullOf z (not (bitAt width level vector)) level (sideOfNumber side))) [])
+        (now (rec .entry)) ⌝ }
 {
     if level < WIDTH {
         record::send(rec, probe_place(about, to, level));
@@ -59,15 +61,17 @@ fn spread(
 // 1 MEET, the link is set to `about`.
 fn setting(rec: &mut [u8], to: usize, about: usize, level: usize, d: usize)
     requires { ⌜ (length (now rec) ≡ size) × (to < seats) × (about < seats) × (level < levels) × (d < 2) ⌝ }
-    ensures { λ _. ⌜ now (rec .exit) ≡ done to (settingOf width (meaning (now (rec .entry)) .roster .number) (meaning (now (rec .entry)) .roster .vector) (entryOf (meaning (now (rec .entry))) to) to about level (sideOfNumber d)) (now (rec .entry)) ⌝ }
+    ensures { λ _. ⌜ now (rec .exit) ≡ done to (settingOf width (meaning (now (rec .entry)) .roster .number) (meaning (now (rec .entry)) .roster .vector)
+        (entryOf (meaning (now (rec .entry))) to) to about level (sideOfNumber d)) (now (rec .entry)) ⌝ }
 {
+    let away = 1 - d;
     let old = link(rec, to, level, d);
-    let other = link(rec, to, level, 1 - d);
+    let other = link(rec, to, level, away);
     let vector = record::vector(rec, to);
     put_link(rec, to, level, d, about as u8);
     record::send(rec, meet_place(about, to, level));
     meet_about_link(rec, about, old, level);
-    spread(rec, to, about, level, vector, other, 1 - d);
+    spread(rec, to, about, level, vector, other, away);
 }
 
 // 1 MEET: the link is `about`, nothing; it is nearer, it gets the MEET; otherwise it is set.
@@ -137,7 +141,8 @@ pub fn seek(rec: &mut [u8], to: usize, about: usize, level: usize)
     requires { ⌜ (length (now rec) ≡ size) × (to < seats) × (about < seats) × (level < levels) ⌝ }
     ensures { λ _. ⌜ now (rec .exit) ≡ done to (rule width (meaning (now (rec .entry))) (seekOf to about level)) (now (rec .entry)) ⌝ }
 {
-    if stays(rec, to) {
+    let staying = stays(rec, to);
+    if staying {
         record::send(rec, found_place(about, to, level));
         return;
     }

@@ -1,33 +1,25 @@
 -- `delivery::handle` meets its contract, kind by kind. Assumes nothing.
-use Rattle.record.specs.Reading.{sideOfNumber}
-use Rattle.protocol.specs.Message.{meet, probe, pull, going, seek, found, none-found}
-use mathlib.Core.Bool.{_&&_}
-use Rattle.delivery.proofs.Named.{named-meet, named-probe, named-pull, named-going, named-seek, named-found, named-none, named-rest, named-fits, named-ruled, two-below, three-below}
-use Rattle.delivery.specs.Done.{ruled}
-use Rattle.protocol.specs.Message.{named}
-use Rattle.protocol.specs.Numbering.{exists}
-use Rattle.graph.proofs.Tests.{and-snd}
-use lib.Dec.{eqb, ltb, ltb→lt}
 use mathlib.Core.Path.{sym, _∙_}
+use mathlib.Core.Bool.{_&&_}
+use lib.Dec.{eqb, ltb, ltb→lt}
 use borrow.Author.Needs.{needs}
+use Rattle.graph.proofs.Tests.{and-snd}
+use Rattle.protocol.specs.Message.{meet, probe, pull, going, seek, found, none-found, named}
+use Rattle.protocol.specs.Numbering.{exists}
+use Rattle.record.specs.Reading.{sideOfNumber}
+use Rattle.delivery.specs.Done.{ruled}
+use Rattle.delivery.proofs.Named.{named-meet, named-probe, named-pull, named-going, named-seek, named-found, named-none}
+use Rattle.delivery.proofs.Named.{named-rest, named-fits, named-ruled, two-below, three-below}
 use Rattle.delivery.proofs.handle.Statement.{statement}
 use Rattle.delivery.proofs.handle.Tie as tie
-use Rattle.delivery.proofs.handle.Reads as reads
-use Rattle.delivery.proofs.handle.Lts as lts
-use Rattle.delivery.proofs.rules.found.Reads as found-reads
-use Rattle.delivery.proofs.rules.going.Reads as going-reads
-use Rattle.delivery.proofs.rules.meet.Reads as meet-reads
-use Rattle.delivery.proofs.rules.none.Reads as none-reads
-use Rattle.delivery.proofs.rules.probe.Reads as probe-reads
-use Rattle.delivery.proofs.rules.pull.Reads as pull-reads
-use Rattle.delivery.proofs.rules.seek.Reads as seek-reads
 
 meet-requires : tie.Need-meet-requires
 unfolding exists
 meet-requires c κs =
     let s = c .before .before .before in
     let a = s .args in
-    let f = named-fits (eqb (a .side) 0) (meet (a .to) (a .about) (a .level)) (named-meet _ _ _ _ (c .before .match .keys1)) (s .pre .1) in
+    let e = named-meet _ _ _ _ (c .before .match .keys1) in
+    let f = named-fits (eqb (a .side) 0) (meet (a .to) (a .about) (a .level)) e (s .pre .1) in
     let p = three-below (a .to) (a .about) (a .level) _ _ _ (f .1) in
     (s .pre .0, p .0, p .1, p .2)
 
@@ -36,7 +28,8 @@ unfolding exists
 probe-requires c κs =
     let s = c .before .before .before in
     let a = s .args in
-    let f = named-fits (eqb (a .side) 0) (probe (a .to) (a .about) (a .level)) (named-probe _ _ _ _ (c .before .match .keys2)) (s .pre .1) in
+    let e = named-probe _ _ _ _ (c .before .match .keys2) in
+    let f = named-fits (eqb (a .side) 0) (probe (a .to) (a .about) (a .level)) e (s .pre .1) in
     let p = three-below (a .to) (a .about) (a .level) _ _ _ (f .1) in
     (s .pre .0, p .0, p .1, p .2)
 
@@ -45,7 +38,8 @@ unfolding exists
 pull-requires c κs =
     let s = c .before .before .before in
     let a = s .args in
-    let f = named-fits (ltb (a .about) 2 && ltb (a .side) 2) (pull (a .to) (eqb (a .about) 1) (a .level) (sideOfNumber (a .side))) (named-pull _ _ _ _ (c .before .match .keys3)) (s .pre .1) in
+    let e = named-pull _ _ _ _ (c .before .match .keys3) in
+    let f = named-fits (ltb (a .about) 2 && ltb (a .side) 2) (pull (a .to) (eqb (a .about) 1) (a .level) (sideOfNumber (a .side))) e (s .pre .1) in
     let p = two-below (a .to) (a .level) _ _ (f .1) in
     let q = two-below (a .about) (a .side) _ _ (f .0) in
     (s .pre .0, p .0, q .0, p .1, q .1)
@@ -55,7 +49,8 @@ unfolding exists
 going-requires c κs =
     let s = c .before .before .before in
     let a = s .args in
-    let f = named-fits (eqb (a .about) 0 && ltb (a .side) 2) (going (a .to) (a .level) (sideOfNumber (a .side))) (named-going _ _ _ _ (c .before .match .keys4)) (s .pre .1) in
+    let e = named-going _ _ _ _ (c .before .match .keys4) in
+    let f = named-fits (eqb (a .about) 0 && ltb (a .side) 2) (going (a .to) (a .level) (sideOfNumber (a .side))) e (s .pre .1) in
     let p = two-below (a .to) (a .level) _ _ (f .1) in
     (s .pre .0, p .0, p .1, ltb→lt (a .side) 2 (and-snd (eqb (a .about) 0) _ (f .0)))
 
@@ -64,7 +59,8 @@ unfolding exists
 seek-requires c κs =
     let s = c .before .before .before in
     let a = s .args in
-    let f = named-fits (eqb (a .side) 0) (seek (a .to) (a .about) (a .level)) (named-seek _ _ _ _ (c .before .match .keys5)) (s .pre .1) in
+    let e = named-seek _ _ _ _ (c .before .match .keys5) in
+    let f = named-fits (eqb (a .side) 0) (seek (a .to) (a .about) (a .level)) e (s .pre .1) in
     let p = three-below (a .to) (a .about) (a .level) _ _ _ (f .1) in
     (s .pre .0, p .0, p .1, p .2)
 
@@ -73,7 +69,8 @@ unfolding exists
 found-requires c κs =
     let s = c .before .before .before in
     let a = s .args in
-    let f = named-fits (eqb (a .side) 0) (found (a .to) (a .about) (a .level)) (named-found _ _ _ _ (c .before .match .keys6)) (s .pre .1) in
+    let e = named-found _ _ _ _ (c .before .match .keys6) in
+    let f = named-fits (eqb (a .side) 0) (found (a .to) (a .about) (a .level)) e (s .pre .1) in
     let p = three-below (a .to) (a .about) (a .level) _ _ _ (f .1) in
     (s .pre .0, p .0, p .1, p .2)
 
@@ -82,7 +79,8 @@ unfolding exists
 none-requires c κs =
     let s = c .before .before .before in
     let a = s .args in
-    let f = named-fits (eqb (a .about) 0 && ltb (a .side) 2) (none-found (a .to) (a .level) (sideOfNumber (a .side))) (named-none _ _ _ _ (c .before .match .keys7)) (s .pre .1) in
+    let e = named-none _ _ _ _ (c .before .match .keys7) in
+    let f = named-fits (eqb (a .about) 0 && ltb (a .side) 2) (none-found (a .to) (a .level) (sideOfNumber (a .side))) e (s .pre .1) in
     let p = two-below (a .to) (a .level) _ _ (f .1) in
     (s .pre .0, p .0, p .1, ltb→lt (a .side) 2 (and-snd (eqb (a .about) 0) _ (f .0)))
 
@@ -94,7 +92,8 @@ returns c =
     let d = c .before .before in
     let s = d .before .before .before .before in
     let a = s .args in
-    d .meet .ensures ∙ sym (named-ruled (eqb (a .side) 0) (meet (a .to) (a .about) (a .level)) _ (named-meet _ _ _ _ (d .before .before .match .keys1)) (s .pre .1))
+    let e = named-meet _ _ _ _ (d .before .before .match .keys1) in
+    d .meet .ensures ∙ sym (named-ruled (eqb (a .side) 0) (meet (a .to) (a .about) (a .level)) _ e (s .pre .1))
 
 same-length-2 : tie.Need-same-length-2
 same-length-2 c = search needs
@@ -104,7 +103,8 @@ returns-2 c =
     let d = c .before .before in
     let s = d .before .before .before .before in
     let a = s .args in
-    d .probe .ensures ∙ sym (named-ruled (eqb (a .side) 0) (probe (a .to) (a .about) (a .level)) _ (named-probe _ _ _ _ (d .before .before .match .keys2)) (s .pre .1))
+    let e = named-probe _ _ _ _ (d .before .before .match .keys2) in
+    d .probe .ensures ∙ sym (named-ruled (eqb (a .side) 0) (probe (a .to) (a .about) (a .level)) _ e (s .pre .1))
 
 same-length-3 : tie.Need-same-length-3
 same-length-3 c = search needs
@@ -114,7 +114,8 @@ returns-3 c =
     let d = c .before .before in
     let s = d .before .before .before .before in
     let a = s .args in
-    d .pull .ensures ∙ sym (named-ruled (ltb (a .about) 2 && ltb (a .side) 2) (pull (a .to) (eqb (a .about) 1) (a .level) (sideOfNumber (a .side))) _ (named-pull _ _ _ _ (d .before .before .match .keys3)) (s .pre .1))
+    let e = named-pull _ _ _ _ (d .before .before .match .keys3) in
+    d .pull .ensures ∙ sym (named-ruled (ltb (a .about) 2 && ltb (a .side) 2) (pull (a .to) (eqb (a .about) 1) (a .level) (sideOfNumber (a .side))) _ e (s .pre .1))
 
 same-length-4 : tie.Need-same-length-4
 same-length-4 c = search needs
@@ -124,7 +125,8 @@ returns-4 c =
     let d = c .before .before in
     let s = d .before .before .before .before in
     let a = s .args in
-    d .going .ensures ∙ sym (named-ruled (eqb (a .about) 0 && ltb (a .side) 2) (going (a .to) (a .level) (sideOfNumber (a .side))) _ (named-going _ _ _ _ (d .before .before .match .keys4)) (s .pre .1))
+    let e = named-going _ _ _ _ (d .before .before .match .keys4) in
+    d .going .ensures ∙ sym (named-ruled (eqb (a .about) 0 && ltb (a .side) 2) (going (a .to) (a .level) (sideOfNumber (a .side))) _ e (s .pre .1))
 
 same-length-5 : tie.Need-same-length-5
 same-length-5 c = search needs
@@ -134,7 +136,8 @@ returns-5 c =
     let d = c .before .before in
     let s = d .before .before .before .before in
     let a = s .args in
-    d .seek .ensures ∙ sym (named-ruled (eqb (a .side) 0) (seek (a .to) (a .about) (a .level)) _ (named-seek _ _ _ _ (d .before .before .match .keys5)) (s .pre .1))
+    let e = named-seek _ _ _ _ (d .before .before .match .keys5) in
+    d .seek .ensures ∙ sym (named-ruled (eqb (a .side) 0) (seek (a .to) (a .about) (a .level)) _ e (s .pre .1))
 
 same-length-6 : tie.Need-same-length-6
 same-length-6 c = search needs
@@ -144,7 +147,8 @@ returns-6 c =
     let d = c .before .before in
     let s = d .before .before .before .before in
     let a = s .args in
-    d .found .ensures ∙ sym (named-ruled (eqb (a .side) 0) (found (a .to) (a .about) (a .level)) _ (named-found _ _ _ _ (d .before .before .match .keys6)) (s .pre .1))
+    let e = named-found _ _ _ _ (d .before .before .match .keys6) in
+    d .found .ensures ∙ sym (named-ruled (eqb (a .side) 0) (found (a .to) (a .about) (a .level)) _ e (s .pre .1))
 
 same-length-7 : tie.Need-same-length-7
 same-length-7 c = search needs
@@ -154,7 +158,8 @@ returns-7 c =
     let d = c .before .before in
     let s = d .before .before .before .before in
     let a = s .args in
-    d .none .ensures ∙ sym (named-ruled (eqb (a .about) 0 && ltb (a .side) 2) (none-found (a .to) (a .level) (sideOfNumber (a .side))) _ (named-none _ _ _ _ (d .before .before .match .keys7)) (s .pre .1))
+    let e = named-none _ _ _ _ (d .before .before .match .keys7) in
+    d .none .ensures ∙ sym (named-ruled (eqb (a .about) 0 && ltb (a .side) 2) (none-found (a .to) (a .level) (sideOfNumber (a .side))) _ e (s .pre .1))
 
 returns-8 : tie.Need-returns-8
 unfolding ruled named

@@ -1,13 +1,10 @@
 -- `delivery::record_refusal` meets its contract. Assumes nothing.
-use Rattle.record.specs.Reading.{recordRefusal}
-use Rattle.protocol.specs.Table.{first}
 use borrow.Author.Tests.{eq-eqb, ne-eqb}
 use borrow.Author.Needs.{needs}
+use Rattle.protocol.specs.Table.{first}
+use Rattle.record.specs.Reading.{recordRefusal}
 use Rattle.delivery.proofs.record_refusal.Statement.{statement}
 use Rattle.delivery.proofs.record_refusal.Tie as tie
-use Rattle.delivery.proofs.record_refusal.Reads as reads
-use Rattle.delivery.proofs.record_refusal.Lts as lts
-use Rattle.soundness.proofs.is_sound.Reads as is-sound-reads
 
 returns : tie.Need-returns
 unfolding recordRefusal first

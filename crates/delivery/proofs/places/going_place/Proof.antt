@@ -1,12 +1,10 @@
 -- `delivery::places::going_place` meets its contract. Assumes nothing.
 use native.Mathlib.Omega.{arith}
+use borrow.Author.Needs.{needs}
 use Rattle.protocol.specs.Numbering.{place}
 use Rattle.record.proofs.Places.{sideNumber-side}
-use borrow.Author.Needs.{needs}
 use Rattle.delivery.proofs.places.going_place.Statement.{statement}
 use Rattle.delivery.proofs.places.going_place.Tie as tie
-use Rattle.delivery.proofs.places.going_place.Reads as reads
-use Rattle.delivery.proofs.places.going_place.Lts as lts
 
 mul-result : tie.Need-mul-result
 mul-result c = search needs

@@ -2,8 +2,6 @@
 use borrow.Author.Tests.{lt-ltb, le-ltb, eq-eqb, ne-eqb}
 use Rattle.delivery.proofs.places.pair_fits.Statement.{statement}
 use Rattle.delivery.proofs.places.pair_fits.Tie as tie
-use Rattle.delivery.proofs.places.pair_fits.Reads as reads
-use Rattle.delivery.proofs.places.pair_fits.Lts as lts
 
 returns : tie.Need-returns
 returns c = rw (eq-eqb _ _ (c .before .before .if1 .taken), lt-ltb _ _ (c .before .if2 .taken), lt-ltb _ _ (c .if3 .taken))

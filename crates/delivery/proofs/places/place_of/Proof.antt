@@ -1,27 +1,16 @@
 -- `delivery::places::place_of` meets its contract, kind by kind. Assumes nothing.
-use Rattle.delivery.proofs.Named.{named-meet, named-probe, named-pull, named-going, named-seek, named-found, named-none, named-rest, named-place, three-below}
-use Rattle.delivery.specs.Done.{placeOf}
+use mathlib.Core.Path.{sym, _∙_}
+use lib.Dec.{eqb, ltb, ltb→lt}
+use borrow.Author.Needs.{needs}
+use Rattle.memory.proofs.Cases.{and-assoc}
+use Rattle.graph.proofs.Tests.{true-T, and-fst, and-snd}
 use Rattle.protocol.specs.Message.{named}
 use Rattle.protocol.specs.Numbering.{exists}
-use Rattle.graph.proofs.Tests.{true-T, and-fst, and-snd}
-use Rattle.memory.proofs.Cases.{and-assoc}
-use lib.Dec.{eqb, ltb, ltb→lt}
-use mathlib.Core.Path.{sym, _∙_}
-use borrow.Author.Needs.{needs}
+use Rattle.delivery.specs.Done.{placeOf}
+use Rattle.delivery.proofs.Named.{named-meet, named-probe, named-pull, named-going, named-seek, named-found, named-none}
+use Rattle.delivery.proofs.Named.{named-rest, named-place, three-below}
 use Rattle.delivery.proofs.places.place_of.Statement.{statement}
 use Rattle.delivery.proofs.places.place_of.Tie as tie
-use Rattle.delivery.proofs.places.place_of.Reads as reads
-use Rattle.delivery.proofs.places.place_of.Lts as lts
-use Rattle.delivery.proofs.places.found_place.Reads as found-place-reads
-use Rattle.delivery.proofs.places.going_place.Reads as going-place-reads
-use Rattle.delivery.proofs.places.meet_place.Reads as meet-place-reads
-use Rattle.delivery.proofs.places.none_place.Reads as none-place-reads
-use Rattle.delivery.proofs.places.pair_fits.Reads as pair-fits-reads
-use Rattle.delivery.proofs.places.probe_place.Reads as probe-place-reads
-use Rattle.delivery.proofs.places.pull_fits.Reads as pull-fits-reads
-use Rattle.delivery.proofs.places.pull_place.Reads as pull-place-reads
-use Rattle.delivery.proofs.places.seek_place.Reads as seek-place-reads
-use Rattle.delivery.proofs.places.side_fits.Reads as side-fits-reads
 
 pair-fits-requires : tie.Need-pair-fits-requires
 pair-fits-requires c κs = search needs
@@ -91,7 +80,13 @@ none-place-requires c κs =
 
 returns : tie.Need-returns
 unfolding exists
-returns c = rw (named-meet _ _ _ _ (c .before .before .before .match .keys1), named-place, ← c .before .before .pair-fits .ensures, c .before .if1 .taken) (c .meet-place .ensures .0)
+returns c =
+    rw (
+      named-meet _ _ _ _ (c .before .before .before .match .keys1),
+      named-place,
+      ← c .before .before .pair-fits .ensures,
+      c .before .if1 .taken,
+    ) (c .meet-place .ensures .0)
 
 returns-2 : tie.Need-returns-2
 unfolding exists
@@ -99,7 +94,13 @@ returns-2 c = rw (named-meet _ _ _ _ (c .before .before .match .keys1), named-pl
 
 returns-3 : tie.Need-returns-3
 unfolding exists
-returns-3 c = rw (named-probe _ _ _ _ (c .before .before .before .match .keys2), named-place, ← c .before .before .pair-fits2 .ensures, c .before .if2 .taken) (c .probe-place .ensures .0)
+returns-3 c =
+    rw (
+      named-probe _ _ _ _ (c .before .before .before .match .keys2),
+      named-place,
+      ← c .before .before .pair-fits2 .ensures,
+      c .before .if2 .taken,
+    ) (c .probe-place .ensures .0)
 
 returns-4 : tie.Need-returns-4
 unfolding exists
@@ -107,23 +108,57 @@ returns-4 c = rw (named-probe _ _ _ _ (c .before .before .match .keys2), named-p
 
 returns-5 : tie.Need-returns-5
 unfolding exists
-returns-5 c = rw (named-pull _ _ _ _ (c .before .before .before .match .keys3), named-place, and-assoc, ← c .before .before .pull-fits .ensures, c .before .if3 .taken) (c .pull-place .ensures .0)
+returns-5 c =
+    rw (
+      named-pull _ _ _ _ (c .before .before .before .match .keys3),
+      named-place,
+      and-assoc,
+      ← c .before .before .pull-fits .ensures,
+      c .before .if3 .taken,
+    ) (c .pull-place .ensures .0)
 
 returns-6 : tie.Need-returns-6
 unfolding exists
-returns-6 c = rw (named-pull _ _ _ _ (c .before .before .match .keys3), named-place, and-assoc, ← c .before .pull-fits .ensures, c .if3 .left)
+returns-6 c =
+    rw (
+      named-pull _ _ _ _ (c .before .before .match .keys3),
+      named-place,
+      and-assoc,
+      ← c .before .pull-fits .ensures,
+      c .if3 .left,
+    )
 
 returns-7 : tie.Need-returns-7
 unfolding exists
-returns-7 c = rw (named-going _ _ _ _ (c .before .before .before .match .keys4), named-place, and-assoc, ← c .before .before .side-fits .ensures, c .before .if4 .taken) (c .going-place .ensures .0)
+returns-7 c =
+    rw (
+      named-going _ _ _ _ (c .before .before .before .match .keys4),
+      named-place,
+      and-assoc,
+      ← c .before .before .side-fits .ensures,
+      c .before .if4 .taken,
+    ) (c .going-place .ensures .0)
 
 returns-8 : tie.Need-returns-8
 unfolding exists
-returns-8 c = rw (named-going _ _ _ _ (c .before .before .match .keys4), named-place, and-assoc, ← c .before .side-fits .ensures, c .if4 .left)
+returns-8 c =
+    rw (
+      named-going _ _ _ _ (c .before .before .match .keys4),
+      named-place,
+      and-assoc,
+      ← c .before .side-fits .ensures,
+      c .if4 .left,
+    )
 
 returns-9 : tie.Need-returns-9
 unfolding exists
-returns-9 c = rw (named-seek _ _ _ _ (c .before .before .before .match .keys5), named-place, ← c .before .before .pair-fits3 .ensures, c .before .if5 .taken) (c .seek-place .ensures .0)
+returns-9 c =
+    rw (
+      named-seek _ _ _ _ (c .before .before .before .match .keys5),
+      named-place,
+      ← c .before .before .pair-fits3 .ensures,
+      c .before .if5 .taken,
+    ) (c .seek-place .ensures .0)
 
 returns-10 : tie.Need-returns-10
 unfolding exists
@@ -131,7 +166,13 @@ returns-10 c = rw (named-seek _ _ _ _ (c .before .before .match .keys5), named-p
 
 returns-11 : tie.Need-returns-11
 unfolding exists
-returns-11 c = rw (named-found _ _ _ _ (c .before .before .before .match .keys6), named-place, ← c .before .before .pair-fits4 .ensures, c .before .if6 .taken) (c .found-place .ensures .0)
+returns-11 c =
+    rw (
+      named-found _ _ _ _ (c .before .before .before .match .keys6),
+      named-place,
+      ← c .before .before .pair-fits4 .ensures,
+      c .before .if6 .taken,
+    ) (c .found-place .ensures .0)
 
 returns-12 : tie.Need-returns-12
 unfolding exists
@@ -139,11 +180,25 @@ returns-12 c = rw (named-found _ _ _ _ (c .before .before .match .keys6), named-
 
 returns-13 : tie.Need-returns-13
 unfolding exists
-returns-13 c = rw (named-none _ _ _ _ (c .before .before .before .match .keys7), named-place, and-assoc, ← c .before .before .side-fits2 .ensures, c .before .if7 .taken) (c .none-place .ensures .0)
+returns-13 c =
+    rw (
+      named-none _ _ _ _ (c .before .before .before .match .keys7),
+      named-place,
+      and-assoc,
+      ← c .before .before .side-fits2 .ensures,
+      c .before .if7 .taken,
+    ) (c .none-place .ensures .0)
 
 returns-14 : tie.Need-returns-14
 unfolding exists
-returns-14 c = rw (named-none _ _ _ _ (c .before .before .match .keys7), named-place, and-assoc, ← c .before .side-fits2 .ensures, c .if7 .left)
+returns-14 c =
+    rw (
+      named-none _ _ _ _ (c .before .before .match .keys7),
+      named-place,
+      and-assoc,
+      ← c .before .side-fits2 .ensures,
+      c .if7 .left,
+    )
 
 returns-15 : tie.Need-returns-15
 unfolding placeOf named

@@ -1,12 +1,10 @@
 -- `delivery::places::probe_place` meets its contract. Assumes nothing.
 use mathlib.Core.Path.{refl}
 use native.Mathlib.Omega.{arith}
-use Rattle.protocol.specs.Numbering.{place}
 use borrow.Author.Needs.{needs}
+use Rattle.protocol.specs.Numbering.{place}
 use Rattle.delivery.proofs.places.probe_place.Statement.{statement}
 use Rattle.delivery.proofs.places.probe_place.Tie as tie
-use Rattle.delivery.proofs.places.probe_place.Reads as reads
-use Rattle.delivery.proofs.places.probe_place.Lts as lts
 
 mul-result : tie.Need-mul-result
 mul-result c = search needs

@@ -1,9 +1,7 @@
 -- `delivery::places::pull_fits` meets its contract. Assumes nothing.
-use borrow.Author.Tests.{lt-ltb, le-ltb, eq-eqb, ne-eqb}
+use borrow.Author.Tests.{lt-ltb, le-ltb}
 use Rattle.delivery.proofs.places.pull_fits.Statement.{statement}
 use Rattle.delivery.proofs.places.pull_fits.Tie as tie
-use Rattle.delivery.proofs.places.pull_fits.Reads as reads
-use Rattle.delivery.proofs.places.pull_fits.Lts as lts
 
 returns : tie.Need-returns
 returns c = rw (lt-ltb _ _ (c .before .before .if1 .taken), lt-ltb _ _ (c .before .if2 .taken), lt-ltb _ _ (c .if3 .taken))

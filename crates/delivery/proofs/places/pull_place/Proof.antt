@@ -1,13 +1,11 @@
 -- `delivery::places::pull_place` meets its contract. Assumes nothing.
 use native.Mathlib.Omega.{arith}
+use borrow.Author.Needs.{needs}
 use Rattle.protocol.specs.Numbering.{place}
 use Rattle.record.proofs.Places.{sideNumber-side}
 use Rattle.delivery.proofs.Sides.{bitNumber-bit}
-use borrow.Author.Needs.{needs}
 use Rattle.delivery.proofs.places.pull_place.Statement.{statement}
 use Rattle.delivery.proofs.places.pull_place.Tie as tie
-use Rattle.delivery.proofs.places.pull_place.Reads as reads
-use Rattle.delivery.proofs.places.pull_place.Lts as lts
 
 mul-result : tie.Need-mul-result
 mul-result c = search needs

@@ -1,11 +1,9 @@
 -- `delivery::places::seek_place` meets its contract. Assumes nothing.
 use native.Mathlib.Omega.{arith}
-use Rattle.protocol.specs.Numbering.{place}
 use borrow.Author.Needs.{needs}
+use Rattle.protocol.specs.Numbering.{place}
 use Rattle.delivery.proofs.places.seek_place.Statement.{statement}
 use Rattle.delivery.proofs.places.seek_place.Tie as tie
-use Rattle.delivery.proofs.places.seek_place.Reads as reads
-use Rattle.delivery.proofs.places.seek_place.Lts as lts
 
 mul-result : tie.Need-mul-result
 mul-result c = search needs

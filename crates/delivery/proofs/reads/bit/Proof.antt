@@ -1,14 +1,11 @@
 -- `delivery::reads::bit` meets its contract. Assumes nothing.
-use Rattle.graph.specs.Vector.{bit, width}
-use mathlib.Core.Path.{_≡_}
 use Prim.Native.Nat.{_-_, suc}
+use mathlib.Core.Path.{_≡_}
 use native.Mathlib.Omega.{arith}
-use Rattle.graph.specs.Vector.{bit}
 use borrow.Author.Needs.{needs}
+use Rattle.graph.specs.Vector.{bit, width}
 use Rattle.delivery.proofs.reads.bit.Statement.{statement}
 use Rattle.delivery.proofs.reads.bit.Tie as tie
-use Rattle.delivery.proofs.reads.bit.Reads as reads
-use Rattle.delivery.proofs.reads.bit.Lts as lts
 
 sub-result : tie.Need-sub-result
 sub-result c = search needs

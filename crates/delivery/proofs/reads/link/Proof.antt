@@ -1,12 +1,9 @@
 -- `delivery::reads::link` meets its contract. Assumes nothing.
+use borrow.Author.Needs.{needs}
 use Rattle.record.proofs.Places.{sideNumber-side}
 use Rattle.record.proofs.Form.{meaning-link}
-use borrow.Author.Needs.{needs}
 use Rattle.delivery.proofs.reads.link.Statement.{statement}
 use Rattle.delivery.proofs.reads.link.Tie as tie
-use Rattle.delivery.proofs.reads.link.Reads as reads
-use Rattle.delivery.proofs.reads.link.Lts as lts
-use Rattle.record.proofs.link.Reads as link-reads
 
 link-requires : tie.Need-link-requires
 link-requires c κs = search needs

@@ -1,13 +1,9 @@
 -- `delivery::reads::stays` meets its contract: the byte of staying is 1. Assumes nothing.
-use Rattle.delivery.proofs.Sides.{staying-byte}
-use Rattle.record.specs.Meaning.{stateOf}
-use Rattle.record.proofs.Form.{meaning-state}
 use borrow.Author.Needs.{needs}
+use Rattle.record.proofs.Form.{meaning-state}
+use Rattle.delivery.proofs.Sides.{staying-byte}
 use Rattle.delivery.proofs.reads.stays.Statement.{statement}
 use Rattle.delivery.proofs.reads.stays.Tie as tie
-use Rattle.delivery.proofs.reads.stays.Reads as reads
-use Rattle.delivery.proofs.reads.stays.Lts as lts
-use Rattle.record.proofs.state.Reads as state-reads
 
 state-requires : tie.Need-state-requires
 state-requires c κs = search needs

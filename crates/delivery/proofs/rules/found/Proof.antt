@@ -1,15 +1,11 @@
 -- `delivery::rules::found` meets its contract. Assumes nothing.
-use Rattle.record.proofs.Sent.{sentBits}
-use Rattle.delivery.specs.Done.{changed, done}
+use borrow.Author.Needs.{needs}
 use Rattle.protocol.specs.Rules.{effect}
 use Rattle.protocol.specs.Calls.{rule}
-use borrow.Author.Needs.{needs}
+use Rattle.record.proofs.Sent.{sentBits}
+use Rattle.delivery.specs.Done.{changed, done}
 use Rattle.delivery.proofs.rules.found.Statement.{statement}
 use Rattle.delivery.proofs.rules.found.Tie as tie
-use Rattle.delivery.proofs.rules.found.Reads as reads
-use Rattle.delivery.proofs.rules.found.Lts as lts
-use Rattle.delivery.proofs.reads.side_of.Reads as side-of-reads
-use Rattle.delivery.proofs.writes.put_link.Reads as put-link-reads
 
 side-of-requires : tie.Need-side-of-requires
 side-of-requires c κs = search needs

@@ -1,21 +1,13 @@
 -- `delivery::rules::meet` meets its contract. Assumes nothing.
-use Rattle.delivery.proofs.Sends.{link-seat, link-none}
+use borrow.Author.Tests.{eq-eqb, ne-eqb}
+use borrow.Author.Needs.{needs}
 use Rattle.protocol.specs.Rules.{effect, meeting}
 use Rattle.protocol.specs.Calls.{rule}
 use Rattle.record.proofs.Sent.{sentBits}
 use Rattle.delivery.specs.Done.{changed, done}
-use borrow.Author.Tests.{lt-ltb, le-ltb, eq-eqb, ne-eqb}
-use borrow.Author.Needs.{needs}
+use Rattle.delivery.proofs.Sends.{link-seat, link-none}
 use Rattle.delivery.proofs.rules.meet.Statement.{statement}
 use Rattle.delivery.proofs.rules.meet.Tie as tie
-use Rattle.delivery.proofs.rules.meet.Reads as reads
-use Rattle.delivery.proofs.rules.meet.Lts as lts
-use Rattle.delivery.proofs.places.meet_place.Reads as meet-place-reads
-use Rattle.delivery.proofs.reads.beyond.Reads as beyond-reads
-use Rattle.delivery.proofs.reads.link.Reads as link-reads
-use Rattle.delivery.proofs.reads.side_of.Reads as side-of-reads
-use Rattle.delivery.proofs.rules.setting.Reads as setting-reads
-use Rattle.record.proofs.send.Reads as send-reads
 
 side-of-requires : tie.Need-side-of-requires
 side-of-requires c κs = search needs
@@ -33,7 +25,11 @@ returns : tie.Need-returns
 unfolding rule effect meeting
 returns c =
     let k = c .before .before .before .before .before in
-    rw (← k .before .before .side-of .ensures .0, ← k .link .ensures, link-none _ (c .before .before .before .before .if1 .taken)) (c .before .before .setting .ensures)
+    rw (
+      ← k .before .before .side-of .ensures .0,
+      ← k .link .ensures,
+      link-none _ (c .before .before .before .before .if1 .taken),
+    ) (c .before .before .setting .ensures)
 
 same-length-2 : tie.Need-same-length-2
 same-length-2 c = search needs
@@ -62,7 +58,15 @@ returns-3 c =
     let s = c .before .before in
     let b = s .before .before .before .before in
     let k = b .before .before .before .before in
-    rw (← k .before .before .side-of .ensures .0, ← k .link .ensures, link-seat _ (b .before .before .before .if1 .left), ne-eqb _ _ (b .before .before .if2 .left), ← b .beyond .ensures, s .before .before .before .if3 .taken, ← s .before .meet-place .ensures .0) (s .send .ensures)
+    rw (
+      ← k .before .before .side-of .ensures .0,
+      ← k .link .ensures,
+      link-seat _ (b .before .before .before .if1 .left),
+      ne-eqb _ _ (b .before .before .if2 .left),
+      ← b .beyond .ensures,
+      s .before .before .before .if3 .taken,
+      ← s .before .meet-place .ensures .0,
+    ) (s .send .ensures)
 
 setting-requires-2 : tie.Need-setting-requires-2
 setting-requires-2 c κs = search needs
@@ -76,7 +80,14 @@ returns-4 c =
     let s = c .before .before in
     let b = s .before .before .before in
     let k = b .before .before .before .before in
-    rw (← k .before .before .side-of .ensures .0, ← k .link .ensures, link-seat _ (b .before .before .before .if1 .left), ne-eqb _ _ (b .before .before .if2 .left), ← b .beyond .ensures, s .before .before .if3 .left) (s .setting2 .ensures)
+    rw (
+      ← k .before .before .side-of .ensures .0,
+      ← k .link .ensures,
+      link-seat _ (b .before .before .before .if1 .left),
+      ne-eqb _ _ (b .before .before .if2 .left),
+      ← b .beyond .ensures,
+      s .before .before .if3 .left,
+    ) (s .setting2 .ensures)
 
 pub meet-spec : {M : Type 1} → statement M
 meet-spec =

@@ -1,14 +1,11 @@
 -- `delivery::rules::none` meets its contract. Assumes nothing.
-use Rattle.record.proofs.Sent.{sentBits}
-use Rattle.delivery.specs.Done.{changed, done}
+use borrow.Author.Needs.{needs}
 use Rattle.protocol.specs.Rules.{effect}
 use Rattle.protocol.specs.Calls.{rule}
-use borrow.Author.Needs.{needs}
+use Rattle.record.proofs.Sent.{sentBits}
+use Rattle.delivery.specs.Done.{changed, done}
 use Rattle.delivery.proofs.rules.none.Statement.{statement}
 use Rattle.delivery.proofs.rules.none.Tie as tie
-use Rattle.delivery.proofs.rules.none.Reads as reads
-use Rattle.delivery.proofs.rules.none.Lts as lts
-use Rattle.delivery.proofs.writes.put_link.Reads as put-link-reads
 
 put-link-requires : tie.Need-put-link-requires
 put-link-requires c κs = search needs

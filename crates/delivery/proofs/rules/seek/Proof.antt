@@ -1,22 +1,12 @@
 -- `delivery::rules::seek` meets its contract. Assumes nothing.
-use Rattle.delivery.proofs.Sends.{link-seat, link-none}
+use borrow.Author.Needs.{needs}
 use Rattle.protocol.specs.Rules.{effect, seeking, passing}
 use Rattle.protocol.specs.Calls.{rule}
 use Rattle.record.proofs.Sent.{sentBits}
 use Rattle.delivery.specs.Done.{changed, done}
-use Rattle.delivery.proofs.Sides.{side-opp}
-use borrow.Author.Needs.{needs}
+use Rattle.delivery.proofs.Sends.{link-seat, link-none}
 use Rattle.delivery.proofs.rules.seek.Statement.{statement}
 use Rattle.delivery.proofs.rules.seek.Tie as tie
-use Rattle.delivery.proofs.rules.seek.Reads as reads
-use Rattle.delivery.proofs.rules.seek.Lts as lts
-use Rattle.delivery.proofs.places.found_place.Reads as found-place-reads
-use Rattle.delivery.proofs.places.none_place.Reads as none-place-reads
-use Rattle.delivery.proofs.places.seek_place.Reads as seek-place-reads
-use Rattle.delivery.proofs.reads.link.Reads as link-reads
-use Rattle.delivery.proofs.reads.side_of.Reads as side-of-reads
-use Rattle.delivery.proofs.reads.stays.Reads as stays-reads
-use Rattle.record.proofs.send.Reads as send-reads
 
 stays-requires : tie.Need-stays-requires
 stays-requires c κs = search needs
@@ -34,7 +24,11 @@ returns : tie.Need-returns
 unfolding done sentBits changed rule effect seeking
 returns c =
     let s = c .before .before in
-    rw (← s .before .before .before .before .stays .ensures, s .before .before .before .if1 .taken, ← s .before .found-place .ensures .0) (s .send .ensures)
+    rw (
+      ← s .before .before .before .before .stays .ensures,
+      s .before .before .before .if1 .taken,
+      ← s .before .found-place .ensures .0,
+    ) (s .send .ensures)
 
 side-of-requires : tie.Need-side-of-requires
 side-of-requires c κs = search needs
@@ -57,7 +51,14 @@ returns-2 c =
     let s = c .before .before in
     let k = s .before .before .before .before in
     let d = k .before .before in
-    rw (← d .before .before .before .stays .ensures, d .before .before .if1 .left, ← d .side-of .ensures .0, ← k .link .ensures, link-seat _ (s .before .before .before .if2 .taken), ← s .before .seek-place .ensures .0) (s .send2 .ensures)
+    rw (
+      ← d .before .before .before .stays .ensures,
+      d .before .before .if1 .left,
+      ← d .side-of .ensures .0,
+      ← k .link .ensures,
+      link-seat _ (s .before .before .before .if2 .taken),
+      ← s .before .seek-place .ensures .0,
+    ) (s .send2 .ensures)
 
 none-place-requires : tie.Need-none-place-requires
 none-place-requires c κs = search needs
@@ -74,7 +75,14 @@ returns-3 c =
     let s = c .before .before in
     let k = s .before .before .before .before in
     let d = k .before .before in
-    rw (← d .before .before .before .stays .ensures, d .before .before .if1 .left, ← d .side-of .ensures .0, ← k .link .ensures, link-none _ (s .before .before .before .if2 .left), ← s .before .none-place .ensures .0) (s .send3 .ensures)
+    rw (
+      ← d .before .before .before .stays .ensures,
+      d .before .before .if1 .left,
+      ← d .side-of .ensures .0,
+      ← k .link .ensures,
+      link-none _ (s .before .before .before .if2 .left),
+      ← s .before .none-place .ensures .0,
+    ) (s .send3 .ensures)
 
 pub seek-spec : {M : Type 1} → statement M
 seek-spec =

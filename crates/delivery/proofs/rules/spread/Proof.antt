@@ -1,17 +1,11 @@
 -- `delivery::rules::spread` meets its contract. Assumes nothing.
-use Rattle.delivery.proofs.Sends.{send-more}
-use Rattle.record.proofs.Sent.{sentBits}
-use Rattle.delivery.proofs.Sides.{bit-not}
-use borrow.Author.Tests.{lt-ltb, le-ltb, eq-eqb, ne-eqb}
+use borrow.Author.Tests.{lt-ltb, le-ltb}
 use borrow.Author.Needs.{needs}
+use Rattle.record.proofs.Sent.{sentBits}
+use Rattle.delivery.proofs.Sends.{send-more}
+use Rattle.delivery.proofs.Sides.{bit-not}
 use Rattle.delivery.proofs.rules.spread.Statement.{statement}
 use Rattle.delivery.proofs.rules.spread.Tie as tie
-use Rattle.delivery.proofs.rules.spread.Reads as reads
-use Rattle.delivery.proofs.rules.spread.Lts as lts
-use Rattle.delivery.proofs.places.probe_place.Reads as probe-place-reads
-use Rattle.delivery.proofs.reads.bit.Reads as bit-reads
-use Rattle.delivery.proofs.writes.pull_link.Reads as pull-link-reads
-use Rattle.record.proofs.send.Reads as send-reads
 
 probe-place-requires : tie.Need-probe-place-requires
 probe-place-requires c κs = search needs
@@ -35,7 +29,14 @@ returns : tie.Need-returns
 returns c =
     let d = c .before .before .before in
     let b = d .before .before .before .before .before in
-    rw (lt-ltb _ _ (b .before .before .if1 .taken), send-more, ← b .probe-place .ensures .0, ← d .before .before .before .before .send .ensures, ← d .bit .ensures .0, ← bit-not _ (d .bit .ensures .1)) (c .before .before .pull-link .ensures)
+    rw (
+      lt-ltb _ _ (b .before .before .if1 .taken),
+      send-more,
+      ← b .probe-place .ensures .0,
+      ← d .before .before .before .before .send .ensures,
+      ← d .bit .ensures .0,
+      ← bit-not _ (d .bit .ensures .1),
+    ) (c .before .before .pull-link .ensures)
 
 returns-2 : tie.Need-returns-2
 unfolding sentBits

@@ -1,17 +1,14 @@
 -- `delivery::writes::put_link` meets its contract: a byte written in the entry is that byte of the record. Assumes nothing.
-use Rattle.record.proofs.Places.{sideNumber-side}
-use borrow.Rule.Slice.PartMut.{putMid, set-mid-at}
-use lib.ListN.{set, length-take, length-drop}
-use native.Mathlib.Omega.{arith}
 use Prim.Native.Nat.{ℕ, _+_, _*_, _-_}
+use mathlib.Core.Path.{ap, _∙_}
 use mathlib.Core.List.{List}
-use mathlib.Core.Path.{_≡_, ap, _∙_}
+use native.Mathlib.Omega.{arith}
+use lib.ListN.{set, length-take, length-drop}
+use borrow.Rule.Slice.PartMut.{putMid, set-mid-at}
 use borrow.Author.Needs.{needs}
+use Rattle.record.proofs.Places.{sideNumber-side}
 use Rattle.delivery.proofs.writes.put_link.Statement.{statement}
 use Rattle.delivery.proofs.writes.put_link.Tie as tie
-use Rattle.delivery.proofs.writes.put_link.Reads as reads
-use Rattle.delivery.proofs.writes.put_link.Lts as lts
-use Rattle.delivery.proofs.writes.put_in_entry.Reads as put-in-entry-reads
 
 mul-a : tie.Need-mul-a
 mul-a c = search needs
