@@ -1,11 +1,9 @@
 -- `turn::tell` meets its contract. Assumes nothing.
-use Prim.Native.Nat.{_-_}
 use mathlib.Core.Path.{ap, _∙_}
 use native.Mathlib.Omega.{arith}
 use borrow.Author.Needs.{needs}
 use Rattle.memory.specs.Bits.{setBit}
 use Rattle.record.specs.Layout.{pendingFrom}
-use Rattle.record.specs.Reading.{sideOfNumber}
 use Rattle.turn.proofs.Telling.{going-lt, tell-sent, tell-none}
 use Rattle.turn.proofs.tell.Statement.{statement}
 use Rattle.turn.proofs.tell.Tie as tie
@@ -20,12 +18,7 @@ going-place-requires : tie.Need-going-place-requires
 going-place-requires c κs = search needs
 
 send-requires : tie.Need-send-requires
-send-requires c κs =
-    let a = c .before .before .before in
-    let s = a .before .before .before .args in
-    let i = c .going-place .ensures in
-    let b = going-lt (a .link .result) (s .k) (sideOfNumber (1 - s .d)) (omega arith) (omega arith) in
-    omega arith
+send-requires c κs = (search needs, rw (c .going-place .ensures) (going-lt _ _ _ (omega arith) (omega arith)))
 
 same-length : tie.Need-same-length
 same-length c = search needs
