@@ -2,26 +2,31 @@
 use Prim.Native.Nat.{ℕ, zero, suc, _+_, _*_, _<_}
 use mathlib.Core.Path.{_≡_, refl, ap, _∙_}
 use mathlib.Core.Logic.{_≢_, inl, inr, ⊎-elim}
+use mathlib.Core.Bool.{Bool, true, false}
 use mathlib.Core.List.{List}
+use lib.Dec.{eqb}
 use lib.ListN.{getD}
 use borrow.Author.Tests.{ne-eqb}
 use Rattle.memory.specs.Bytes.{numberAt}
 use Rattle.memory.specs.Bits.{bitSet}
-use Rattle.memory.specs.Loops.{count}
+use Rattle.memory.specs.Loops.{oneIf, count}
+use Rattle.protocol.specs.Message.{Name, named}
 use Rattle.protocol.specs.State.{seated}
+use Rattle.protocol.specs.Table.{isPending}
 use Rattle.record.specs.Layout.{seats, levels, messages, phaseAt, entryAt, stateAt, numberFrom, vectorAt, linkAt, pendingFrom}
 use Rattle.record.specs.Meaning.{meaning, rosterIn, linkByte}
 use Rattle.record.specs.Reading.{sideOfNumber}
-use Rattle.record.specs.Reading.{recordRefusal, lotRefusal, linkRefusal, readLot, readLink, readCounts}
+use Rattle.record.specs.Reading.{recordRefusal, lotRefusal, linkRefusal, readLot, readLink, readMessage, readCounts}
 use Rattle.record.proofs.Places.{sideNumber-side}
 use Rattle.record.proofs.Values.{phaseByte-phaseOf, stateByte-stateOf, linkByte-linkOf}
 use Rattle.record.proofs.Form.{meaning-roster, meaning-state, meaning-number, meaning-vector, meaning-link}
 use Rattle.record.proofs.Clauses.{Fits, sound-fits}
-use Rattle.record.proofs.Reading.{record-accepted, lot-read, link-read}
+use Rattle.record.proofs.Reading.{record-accepted, lot-read, link-read, message-read}
 use Rattle.reading.specs.declared.LotRead.the-variants as lot
 use Rattle.reading.specs.declared.LinkRead.the-variants as link
+use Rattle.reading.specs.declared.MessageRead.the-variants as message
 use Rattle.reading.specs.declared.CountsRead.the-variants as counts
-use Rattle.reading.specs.Answer.{lotOf, lotAnswered, linkOf, linkAnswered, countsOf, countsAnswered}
+use Rattle.reading.specs.Answer.{lotOf, lotAnswered, linkOf, linkAnswered, messageOf, messageAnswered, countsOf, countsAnswered}
 use Rattle.reading.proofs.Refusals.{Accepted, Lot}
 
 module _ (l : List ℕ) where
@@ -60,6 +65,20 @@ module _ (l : List ℕ) where
       let value : linkByte (meaning l .link s k side) ≡ getD l (entryAt s + 10 + 2 * k + d) 0
       = ap linkByte (meaning-link l s k side h g) ∙ byte ∙ ap (λ (n : ℕ). getD l (entryAt s + 10 + 2 * k + n) 0) (sideNumber-side d q) in
       rw (← value, rw (sideNumber-side d q) at read)
+
+  -- a message
+  pub message-refused : (m : Name) (n : ℕ) → n ≡ recordRefusal l → n ≢ 0 → message.Refused n ≡ messageAnswered (readMessage l m)
+  unfolding readMessage messageAnswered messageOf
+  message-refused m zero e h = absurd (h refl)
+  message-refused m (suc n) e h = rw (← e, ne-eqb (suc n) 0 h)
+
+  pub message-value : (m : Name) → Accepted l → message.Pending (isPending (meaning l .pending) (named m)) ≡ messageAnswered (readMessage l m)
+  unfolding messageAnswered messageOf
+  message-value m a = rw (message-read l (a .sized) (a .fine) m) (ap message.Pending (one (isPending (meaning l .pending) (named m))))
+    where
+      one : (b : Bool) → b ≡ eqb (oneIf b) 1
+      one true = refl
+      one false = refl
 
   -- the counts
   pub counts-refused : (n : ℕ) → n ≡ recordRefusal l → n ≢ 0 → counts.Refused n ≡ countsAnswered (readCounts l)

@@ -1,11 +1,14 @@
 -- The answers of the readings as the code gives them, from the paper's numbers: refusal 0 gives the values, any other the refusal.
 -- Assumes nothing.
 use Prim.Native.Nat.{ℕ, zero, suc}
-use Rattle.record.specs.Reading.{LotAnswer, LinkAnswer, CountAnswer}
+use lib.Dec.{eqb}
+use Rattle.record.specs.Reading.{LotAnswer, LinkAnswer, MessageAnswer, CountAnswer}
 use Rattle.reading.specs.declared.LotRead.{LotRead}
 use Rattle.reading.specs.declared.LotRead.the-variants as lot
 use Rattle.reading.specs.declared.LinkRead.{LinkRead}
 use Rattle.reading.specs.declared.LinkRead.the-variants as link
+use Rattle.reading.specs.declared.MessageRead.{MessageRead}
+use Rattle.reading.specs.declared.MessageRead.the-variants as message
 use Rattle.reading.specs.declared.CountsRead.{CountsRead}
 use Rattle.reading.specs.declared.CountsRead.the-variants as counts
 
@@ -24,6 +27,14 @@ linkOf (suc r) s = link.Refused (suc r)
 
 unfoldable pub linkAnswered : LinkAnswer → LinkRead
 linkAnswered a = linkOf (a .refused) (a .seat)
+
+-- a message: 1 is pending, 0 not
+unfoldable pub messageOf : (refused pending : ℕ) → MessageRead
+messageOf zero p = message.Pending (eqb p 1)
+messageOf (suc r) p = message.Refused (suc r)
+
+unfoldable pub messageAnswered : MessageAnswer → MessageRead
+messageAnswered a = messageOf (a .refused) (a .pending)
 
 -- seated lots, phase and pending messages
 unfoldable pub countsOf : (refused lots phase pending : ℕ) → CountsRead

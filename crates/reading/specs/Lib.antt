@@ -1,3 +1,4 @@
--- The answers of the readings, and what the inner functions of open promise.
+-- The answers of the readings, and what the inner functions promise.
 pub mod Answer
 pub mod Filled
+pub mod Places

@@ -6,6 +6,7 @@ ghost use Rattle.protocol.specs.State.{seated};
 ghost use Rattle.record.specs.Layout.{seats, size};
 ghost use Rattle.record.specs.Meaning.{rosterIn};
 use record::SEATS;
+use soundness::lots::is_seated;
 
 pub fn seated_lots(rec: &[u8]) -> u8
     requires { ⌜ length (now rec) ≡ size ⌝ }
@@ -13,7 +14,7 @@ pub fn seated_lots(rec: &[u8]) -> u8
 {
     let mut n: u8 = 0;
     for s in 0..SEATS {
-        if record::state(rec, s) != 0 {
+        if is_seated(rec, s) {
             n += 1;
         }
     }

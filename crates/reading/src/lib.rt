@@ -1,34 +1,36 @@
 // Opening a record, and reading its lots, links, messages and counts (document 01, "Calls"). Any bytes and any numbers are taken. A refused
 // call gives the number of the first row of the table that applies; readings change no byte.
 ghost use mathlib.Core.Path.{_≡_};
+ghost use Rattle.protocol.specs.Message.{name};
 ghost use Rattle.outcome.specs.Answer.{told, answerOf};
-ghost use Rattle.record.specs.Reading.{recordRefusal, lotRefusal, linkRefusal, openRefusal, openBytes, readLot, readLink, readCounts};
-ghost use Rattle.reading.specs.Answer.{lotAnswered, linkAnswered, countsAnswered};
+ghost use Rattle.record.specs.Reading.{lotRefusal, linkRefusal, openRefusal, openBytes, readLot, readLink, readMessage, readCounts};
+ghost use Rattle.reading.specs.Answer.{lotAnswered, linkAnswered, messageAnswered, countsAnswered};
 
 mod counts;
 mod opening;
+mod places;
 
 use counts::seated_lots;
 use opening::fill;
 use opening::no_links;
 use outcome::Answer;
+use places::place_of;
 use record::LEVELS;
 use record::MESSAGES;
 use record::PENDING;
 use record::SEATS;
 use record::SIZE;
-use soundness::is_sound;
+use soundness::lots::is_seated;
+use soundness::record_refusal;
 
-// The refusals that these calls meet.
-pub const WRONG_SIZE: u8 = 1;
+// The refusals that these calls meet; 2 unsound is the record's.
+const WRONG_SIZE: u8 = 1;
 
-pub const UNSOUND: u8 = 2;
+const NO_SUCH_SEAT: u8 = 3;
 
-pub const NO_SEAT: u8 = 3;
+const EMPTY_SEAT: u8 = 8;
 
-pub const EMPTY_SEAT: u8 = 8;
-
-pub const NO_LEVEL: u8 = 12;
+const NO_SUCH_LEVEL: u8 = 12;
 
 // The sides, left and right.
 const SIDES: usize = 2;
@@ -45,23 +47,16 @@ pub enum LinkRead {
     Link(u8),
 }
 
+// Whether the message is pending.
+pub enum MessageRead {
+    Refused(u8),
+    Pending(bool),
+}
+
 // Seated lots, phase and pending messages.
 pub enum CountsRead {
     Refused(u8),
     Counted(u8, u8, u32),
-}
-
-// 1 wrong size, 2 unsound, or 0: first in every call but open.
-pub fn record_refusal(rec: &[u8]) -> u8
-    ensures { λ r. ⌜ r ≡ recordRefusal (now (rec .entry)) ⌝ }
-{
-    if rec.len() != SIZE {
-        return WRONG_SIZE;
-    }
-    if !is_sound(rec) {
-        return UNSOUND;
-    }
-    0
 }
 
 // 1, 2, then 3 no such seat, 8 empty seat, or 0.
@@ -74,9 +69,9 @@ pub fn lot_refusal(rec: &[u8], seat: u8) -> u8
     }
     let s = seat as usize;
     if s >= SEATS {
-        return NO_SEAT;
+        return NO_SUCH_SEAT;
     }
-    if record::state(rec, s) == 0 {
+    if !is_seated(rec, s) {
         return EMPTY_SEAT;
     }
     0
@@ -92,15 +87,15 @@ pub fn link_refusal(rec: &[u8], seat: u8, level: u8, side: u8) -> u8
     }
     let s = seat as usize;
     if s >= SEATS {
-        return NO_SEAT;
+        return NO_SUCH_SEAT;
     }
     if (level as usize) >= LEVELS {
-        return NO_LEVEL;
+        return NO_SUCH_LEVEL;
     }
     if (side as usize) >= SIDES {
-        return NO_LEVEL;
+        return NO_SUCH_LEVEL;
     }
-    if record::state(rec, s) == 0 {
+    if !is_seated(rec, s) {
         return EMPTY_SEAT;
     }
     0
@@ -143,6 +138,27 @@ pub fn read_link(rec: &[u8], seat: u8, level: u8, side: u8) -> LinkRead
         return LinkRead::Refused(n);
     }
     LinkRead::Link(record::link(rec, seat as usize, level as usize, side as usize))
+}
+
+// Whether five numbers are a pending message. Refused: 1, 2.
+pub fn read_message(rec: &[u8], kind: u8, to: u8, about: u8, level: u8, side: u8) -> MessageRead
+    ensures { λ r. ⌜ r ≡ messageAnswered (readMessage (now (rec .entry)) (name kind to about level side)) ⌝ }
+{
+    let n = record_refusal(rec);
+    if n != 0 {
+        return MessageRead::Refused(n);
+    }
+    let i = place_of(
+        kind,
+        to as usize,
+        about as usize,
+        level as usize,
+        side as usize,
+    );
+    if i == MESSAGES {
+        return MessageRead::Pending(false);
+    }
+    MessageRead::Pending(record::is_pending(rec, i))
 }
 
 // Seated lots, phase and pending messages. Refused: 1, 2.

@@ -1,6 +1,6 @@
 // The bytes that open writes: 0 everywhere, then none into every link.
 ghost use mathlib.Core.Path.{_≡_};
-ghost use Prim.Native.Nat.{ℕ, _+_, _<_, _≤_};
+ghost use Prim.Native.Nat.{ℕ, _+_, _≤_};
 ghost use lib.ListN.{length, getD};
 ghost use Rattle.record.specs.Layout.{size};
 ghost use Rattle.record.proofs.Opened.{IsOpened};

@@ -1,5 +1,5 @@
 -- `reading::read_counts` meets its contract. Assumes nothing.
-use mathlib.Core.Path.{refl, sym, _∙_}
+use mathlib.Core.Path.{refl}
 use native.Mathlib.Omega.{arith}
 use Rattle.memory.specs.Bits.{bitSet}
 use Rattle.memory.proofs.Count.{count-le}
@@ -12,7 +12,7 @@ use Rattle.reading.proofs.read_counts.Tie as tie
 
 -- no row applies
 passed : (c : tie.Else1) → Accepted (c .before .before .before .args .rec .now)
-passed c = record-passed _ (sym (c .before .record-refusal .ensures) ∙ c .if1 .left)
+passed c = record-passed _ (c .before .record-refusal .ensures) (c .if1 .left)
 
 record-refusal-requires : tie.Need-record-refusal-requires
 record-refusal-requires c κs = search needs

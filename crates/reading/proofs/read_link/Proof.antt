@@ -1,6 +1,5 @@
 -- `reading::read_link` meets its contract. Assumes nothing.
 use borrow.Author.Needs.{needs}
-use mathlib.Core.Path.{sym, _∙_}
 use Prim.Native.Nat.{_<_}
 use Rattle.record.specs.Layout.{levels}
 use Rattle.reading.proofs.Refusals.{Lot, link-passed}
@@ -10,7 +9,7 @@ use Rattle.reading.proofs.read_link.Tie as tie
 
 -- no row applies
 passed : (c : tie.Else1) → let a = c .before .before .before .args in Lot (a .rec .now) (a .seat) × (a .level < levels) × (a .side < 2)
-passed c = link-passed _ _ _ _ (sym (c .before .link-refusal .ensures) ∙ c .if1 .left)
+passed c = link-passed _ _ _ _ (c .before .link-refusal .ensures) (c .if1 .left)
 
 link-refusal-requires : tie.Need-link-refusal-requires
 link-refusal-requires c κs = search needs

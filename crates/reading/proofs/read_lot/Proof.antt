@@ -1,6 +1,5 @@
 -- `reading::read_lot` meets its contract. Assumes nothing.
 use borrow.Author.Needs.{needs}
-use mathlib.Core.Path.{sym, _∙_}
 use Rattle.reading.proofs.Refusals.{Lot, lot-passed}
 use Rattle.reading.proofs.Values.{lot-refused, lot-values}
 use Rattle.reading.proofs.read_lot.Statement.{statement}
@@ -8,7 +7,7 @@ use Rattle.reading.proofs.read_lot.Tie as tie
 
 -- no row applies
 passed : (c : tie.Else1) → Lot (c .before .before .before .args .rec .now) (c .before .before .before .args .seat)
-passed c = lot-passed _ _ (sym (c .before .lot-refusal .ensures) ∙ c .if1 .left)
+passed c = lot-passed _ _ (c .before .lot-refusal .ensures) (c .if1 .left)
 
 lot-refusal-requires : tie.Need-lot-refusal-requires
 lot-refusal-requires c κs = search needs

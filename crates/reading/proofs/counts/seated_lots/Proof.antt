@@ -1,8 +1,7 @@
 -- `reading::counts::seated_lots` meets its contract. The loop's invariant: n is the count of the seated lots passed. Assumes nothing.
 use mathlib.Core.Path.{_≡_, sym, ap, _∙_}
 use mathlib.Core.Logic.{⊎-elim}
-use mathlib.Core.Bool.{Bool, not}
-use Prim.Native.Nat.{ℕ, _-_, _≤_, _<_}
+use Prim.Native.Nat.{ℕ, _-_, _≤_}
 use native.Mathlib.Omega.{arith}
 use borrow.Author.Needs.{needs}
 use Rattle.memory.specs.Loops.{count, oneIf}
@@ -10,7 +9,6 @@ use Rattle.memory.proofs.Count.{count-none, count-more, count-le}
 use Rattle.protocol.specs.State.{seated}
 use Rattle.record.specs.Layout.{seats}
 use Rattle.record.specs.Meaning.{rosterIn}
-use Rattle.reading.proofs.Refusals.{is-free, is-taken}
 use Rattle.reading.proofs.counts.seated_lots.Statement.{statement}
 use Rattle.reading.proofs.counts.seated_lots.Tie as tie
 
@@ -23,8 +21,8 @@ abbrev μ-loop : tie.MeasureT-loop
 loop-holds : tie.Need-loop-holds Inv-loop μ-loop
 loop-holds c = (search needs, sym (count-none (seated (rosterIn (c .before .args .rec .now)))))
 
-state-requires : tie.Need-state-requires Inv-loop μ-loop
-state-requires c κs = search needs
+is-seated-requires : tie.Need-is-seated-requires Inv-loop μ-loop
+is-seated-requires c κs = search needs
 
 add-n : tie.Need-add-n Inv-loop μ-loop
 add-n c =
@@ -40,15 +38,12 @@ loop-less c = search needs
 loop-again : tie.Need-loop-again Inv-loop μ-loop
 loop-again c =
     let b = c .before .before .before in
-    let l = b .before .before .args .rec .now in
-    let s = b .loop .s in
-    let h : s < seats = omega arith in
-    let e = c .before .state .ensures in
-    let more = count-more s (seated (rosterIn l)) in (
+    let more = count-more (b .loop .s) (seated (rosterIn (b .before .before .args .rec .now))) in
+    let one = ap oneIf (c .before .is-seated .ensures) in (
       search needs,
       ⊎-elim
-          (λ w. omega (arith, more, ap (λ (f : Bool). oneIf (not f)) (is-taken l s _ h e (w .0 .taken))))
-          (λ w. omega (arith, more, ap (λ (f : Bool). oneIf (not f)) (is-free l s _ h e (w .0 .left))))
+          (λ w. omega (arith, more, one, ap oneIf (w .0 .taken)))
+          (λ w. omega (arith, more, one, ap oneIf (w .0 .left)))
           (c .if1 .came),
     )
 
@@ -61,4 +56,4 @@ returns c =
 pub seated-lots-spec : {M : Type 1} → statement M
 seated-lots-spec =
     tie.close
-    (tie.spec Inv-loop μ-loop loop-holds state-requires add-n add-s loop-less loop-again returns)
+    (tie.spec Inv-loop μ-loop loop-holds is-seated-requires add-n add-s loop-less loop-again returns)
