@@ -21,8 +21,8 @@ use outcome::Answer;
 use record::LEVELS;
 use record::NONE;
 use record::SEATS;
-use soundness::lots::is_clearing;
-use soundness::lots::is_seated;
+use roster::is_clearing;
+use roster::is_seated;
 use soundness::record_refusal;
 
 // The states of a seated lot.

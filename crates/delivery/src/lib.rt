@@ -6,7 +6,6 @@ ghost use lib.ListN.{length};
 ghost use Rattle.protocol.specs.Message.{name, named};
 ghost use Rattle.protocol.specs.Table.{deliver as delivering};
 ghost use Rattle.record.specs.Layout.{size};
-ghost use Rattle.record.specs.Reading.{recordRefusal};
 ghost use Rattle.outcome.specs.Made.{made};
 ghost use Rattle.outcome.specs.Answer.{told, answered};
 ghost use Rattle.delivery.specs.Done.{isMessage, ruled};
@@ -19,7 +18,7 @@ mod writes;
 use outcome::Answer;
 use places::place_of;
 use record::MESSAGES;
-use record::SIZE;
+use soundness::record_refusal;
 use rules::found;
 use rules::going;
 use rules::meet;
@@ -29,24 +28,7 @@ use rules::pull;
 use rules::seek;
 
 // The refusals of the table.
-const WRONG_SIZE: u8 = 1;
-
-const UNSOUND: u8 = 2;
-
 const NO_SUCH_MESSAGE: u8 = 10;
-
-// Refusals 1 and 2, 0 if the record is sound.
-fn record_refusal(rec: &[u8]) -> u8
-    ensures { λ r. ⌜ r ≡ recordRefusal (now (rec .entry)) ⌝ }
-{
-    if rec.len() != SIZE {
-        return WRONG_SIZE;
-    }
-    if !soundness::is_sound(rec) {
-        return UNSOUND;
-    }
-    0
-}
 
 // The rule of the message that five numbers name.
 fn handle(rec: &mut [u8], kind: u8, to: usize, about: usize, level: usize, side: usize)

@@ -20,7 +20,7 @@ use record::MESSAGES;
 use record::PENDING;
 use record::SEATS;
 use record::SIZE;
-use soundness::lots::is_seated;
+use roster::is_seated;
 use soundness::record_refusal;
 
 // The refusals that these calls meet; 2 unsound is the record's.

@@ -10,7 +10,7 @@ ghost use Rattle.protocol.specs.State.{leaves};
 ghost use Rattle.protocol.specs.Calls.{farewell, farewells, accept};
 ghost use Rattle.record.specs.Layout.{seats, levels, size, entryAt};
 ghost use Rattle.record.specs.Meaning.{rosterIn, meaning};
-ghost use Rattle.record.specs.Reading.{sideOfNumber, recordRefusal};
+ghost use Rattle.record.specs.Reading.{sideOfNumber};
 ghost use Rattle.outcome.specs.Made.{madeRefusal, made};
 ghost use Rattle.outcome.specs.Answer.{told, answered};
 ghost use Rattle.turn.specs.Steps.{Step, same, saying, lotFarewells, farewellsFrom, linkGoes, linkPlace, relinked, freedTo, begun, ended};
@@ -20,6 +20,7 @@ use record::NONE;
 use record::PENDING;
 use record::SEATS;
 use record::SIZE;
+use soundness::record_refusal;
 
 // The width of a vector, one less than the levels.
 const WIDTH: usize = LEVELS - 1;
@@ -34,11 +35,7 @@ const FREE: u8 = 0;
 
 const STAYING: u8 = 1;
 
-// The refusals of a turn.
-const WRONG_SIZE: u8 = 1;
-
-const UNSOUND: u8 = 2;
-
+// The refusal of a turn.
 const MESSAGES_LEFT: u8 = 11;
 
 // The sides.
@@ -215,19 +212,6 @@ fn carry_out(rec: &mut [u8])
     if has_leaver(rec) {
         begin_clearing(rec);
     }
-}
-
-// 1 wrong size, 2 unsound, or 0.
-fn record_refusal(rec: &[u8]) -> u8
-    ensures { λ r. ⌜ r ≡ recordRefusal (now (rec .entry)) ⌝ }
-{
-    if rec.len() != SIZE {
-        return WRONG_SIZE;
-    }
-    if !soundness::is_sound(rec) {
-        return UNSOUND;
-    }
-    0
 }
 
 fn has_pending(rec: &[u8]) -> bool
