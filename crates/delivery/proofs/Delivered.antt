@@ -29,9 +29,10 @@ use Rattle.record.proofs.Round.{bytes-meaning, meaning-bytes}
 use Rattle.record.proofs.Pending.{after-taken}
 use Rattle.record.proofs.Update.{withChange, withoutMessage, bytes-withLink, bytes-keep}
 use Rattle.record.proofs.Sent.{sentBits, bytes-withoutMessage, bytes-sent}
-use Rattle.delivery.specs.Done.{placeOf, changed, done, ruled}
-use Rattle.delivery.proofs.Named.{two-below, three-below}
-use Rattle.delivery.proofs.Placed.{placed}
+use Rattle.places.specs.Places.{placeOf}
+use Rattle.delivery.specs.Done.{changed, done, ruled}
+use Rattle.places.proofs.Named.{two-below, three-below}
+use Rattle.places.proofs.Placed.{placed}
 
 -- a change at a level that exists
 AtLevel : Change → Type 0

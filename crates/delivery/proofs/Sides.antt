@@ -7,7 +7,6 @@ use lib.Dec.{eqb}
 use borrow.Author.Tests.{ne-eqb}
 use Rattle.graph.specs.Side.{opp}
 use Rattle.graph.specs.Vector.{sameBit}
-use Rattle.protocol.specs.Message.{bitNumber}
 use Rattle.protocol.specs.Rules.{isStaying}
 use Rattle.record.specs.Meaning.{stateOf}
 use Rattle.record.specs.Reading.{sideOfNumber}
@@ -23,11 +22,6 @@ pub bit-not : (n : ℕ) → n < 2 → eqb (1 - n) 1 ≡ not (eqb n 1)
 bit-not zero h = refl
 bit-not (suc zero) h = refl
 bit-not (suc (suc n)) h = absurd (omega arith)
-
-pub bitNumber-bit : (n : ℕ) → n < 2 → bitNumber (eqb n 1) ≡ n
-bitNumber-bit zero h = refl
-bitNumber-bit (suc zero) h = refl
-bitNumber-bit (suc (suc n)) h = absurd (omega arith)
 
 -- two bits are the same: their numbers are
 pub same-bits : (m n : ℕ) → m < 2 → n < 2 → sameBit (eqb m 1) (eqb n 1) ≡ eqb m n

@@ -17,8 +17,9 @@ use Rattle.record.proofs.Sound.{sound-is}
 use Rattle.outcome.specs.Made.{made}
 use Rattle.outcome.specs.Answer.{told, answered}
 use Rattle.outcome.specs.declared.Answer.the-variants.{Done, Refused}
-use Rattle.delivery.specs.Done.{placeOf, isMessage, ruled}
-use Rattle.delivery.proofs.Placed.{place-message, message-place, pending-bit, no-place}
+use Rattle.places.specs.Places.{placeOf, isMessage}
+use Rattle.delivery.specs.Done.{ruled}
+use Rattle.places.proofs.Placed.{place-message, message-place, pending-bit, no-place}
 use Rattle.delivery.proofs.Answers.{record-refused, record-fine, not-pending, delivered}
 use Rattle.delivery.proofs.Delivered.{deliver-bytes}
 

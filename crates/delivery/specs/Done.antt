@@ -28,13 +28,3 @@ done t e l = sentBits (e .sent) (changed t (e .change) l)
 unfoldable pub ruled : Option Msg → List ℕ → List ℕ
 ruled none l = l
 ruled (some m) l = done (nameOf m .to) (rule width (meaning l) m) l
-
--- the numbers name a message that exists
-unfoldable pub isMessage : Option Msg → Bool
-isMessage none = false
-isMessage (some m) = exists seats width m
-
--- the place of a message, or how many there are if there is none
-unfoldable pub placeOf : Option Msg → ℕ
-placeOf none = messages
-placeOf (some m) = cond (exists seats width m) (place seats width m) messages

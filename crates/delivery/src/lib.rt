@@ -8,9 +8,9 @@ ghost use Rattle.protocol.specs.Table.{deliver as delivering};
 ghost use Rattle.record.specs.Layout.{size};
 ghost use Rattle.outcome.specs.Made.{made};
 ghost use Rattle.outcome.specs.Answer.{told, answered};
-ghost use Rattle.delivery.specs.Done.{isMessage, ruled};
+ghost use Rattle.places.specs.Places.{isMessage};
+ghost use Rattle.delivery.specs.Done.{ruled};
 
-mod places;
 mod reads;
 mod rules;
 mod writes;

@@ -8,7 +8,6 @@ ghost use Rattle.reading.specs.Answer.{lotAnswered, linkAnswered, messag
 
 mod counts;
 mod opening;
-mod places;
 
 use counts::seated_lots;
 use opening::fill;

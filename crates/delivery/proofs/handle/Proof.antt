@@ -8,8 +8,9 @@ use Rattle.protocol.specs.Message.{meet, probe, pull, going, seek, found, none-
 use Rattle.protocol.specs.Numbering.{exists}
 use Rattle.record.specs.Reading.{sideOfNumber}
 use Rattle.delivery.specs.Done.{ruled}
-use Rattle.delivery.proofs.Named.{named-meet, named-probe, named-pull, named-going, named-seek, named-found, named-none}
-use Rattle.delivery.proofs.Named.{named-rest, named-fits, named-ruled, two-below, three-below}
+use Rattle.places.proofs.Named.{named-meet, named-probe, named-pull, named-going, named-seek, named-found, named-none}
+use Rattle.places.proofs.Named.{named-rest, named-fits, two-below, three-below}
+use Rattle.delivery.proofs.Ruled.{named-ruled}
 use Rattle.delivery.proofs.handle.Statement.{statement}
 use Rattle.delivery.proofs.handle.Tie as tie
 
