@@ -1,6 +1,6 @@
 // Turn (document 01, "Calls"): into phase clearing, or out of it.
 ghost use mathlib.Core.Path.{_≡_};
-ghost use Prim.Native.Nat.{ℕ, _+_, _*_, _-_, _<_};
+ghost use Prim.Native.Nat.{_+_, _*_, _-_, _<_};
 ghost use lib.ListN.{length, getD};
 ghost use Rattle.graph.specs.Vector.{width};
 ghost use Rattle.protocol.specs.Message.{going};
@@ -10,7 +10,7 @@ ghost use Rattle.protocol.specs.State.{leaves};
 ghost use Rattle.protocol.specs.Calls.{farewell, farewells, accept};
 ghost use Rattle.record.specs.Layout.{seats, levels, size, entryAt};
 ghost use Rattle.record.specs.Meaning.{rosterIn, meaning};
-ghost use Rattle.record.specs.Reading.{sideOfNumber, recordRefusal};
+ghost use Rattle.record.specs.Reading.{sideOfNumber};
 ghost use Rattle.outcome.specs.Made.{madeRefusal, made};
 ghost use Rattle.outcome.specs.Answer.{told, answered};
 ghost use Rattle.turn.specs.Steps.{Step, same, saying, lotFarewells, farewellsFrom, linkGoes, linkPlace, relinked, freedTo, begun, ended};
@@ -34,11 +34,7 @@ const FREE: u8 = 0;
 
 const STAYING: u8 = 1;
 
-// The refusals of a turn.
-const WRONG_SIZE: u8 = 1;
-
-const UNSOUND: u8 = 2;
-
+// The refusal of a turn while messages are pending.
 const MESSAGES_LEFT: u8 = 11;
 
 // The sides.
@@ -217,19 +213,6 @@ fn carry_out(rec: &mut [u8])
     }
 }
 
-// 1 wrong size, 2 unsound, or 0.
-fn record_refusal(rec: &[u8]) -> u8
-    ensures { λ r. ⌜ r ≡ recordRefusal (now (rec .entry)) ⌝ }
-{
-    if rec.len() != SIZE {
-        return WRONG_SIZE;
-    }
-    if !soundness::is_sound(rec) {
-        return UNSOUND;
-    }
-    0
-}
-
 fn has_pending(rec: &[u8]) -> bool
     requires { ⌜ length (now rec) ≡ size ⌝ }
     ensures { λ r. ⌜ r ≡ somePending seats width (meaning (now (rec .entry)) .pending) ⌝ }
@@ -241,7 +224,7 @@ fn has_pending(rec: &[u8]) -> bool
 fn turn_refusal(rec: &[u8]) -> u8
     ensures { λ r. ⌜ r ≡ madeRefusal (now (rec .entry)) turning ⌝ }
 {
-    let n = record_refusal(rec);
+    let n = soundness::record_refusal(rec);
     if n != 0 {
         return n;
     }
