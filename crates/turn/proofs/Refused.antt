@@ -7,7 +7,7 @@ use mathlib.Core.List.{List}
 use native.Mathlib.Omega.{arith}
 use lib.Dec.{eqb, ltb}
 use lib.ListN.{length, getD}
-use borrow.Author.Tests.{eq-eqb, ne-eqb, ltb-true, eqb-true, not-false}
+use borrow.Author.Tests.{eq-eqb, ltb-true, eqb-true, not-false}
 use Rattle.memory.specs.Bytes.{AreBytes, zeros}
 use Rattle.memory.specs.Bits.{bitSet}
 use Rattle.memory.specs.Loops.{all}
@@ -50,19 +50,7 @@ module _ (l : List ℕ) where
       ∙ sym (any-same messages (λ i. meaning l .pending (messageAt seats width i)) (bitSet l pendingFrom) (λ i h. meaning-bit l i h))
       ∙ ap (λ (n : ℕ). any n (λ i. meaning l .pending (messageAt seats width i))) messages-count
 
-  -- the record's two rows
-  pub wrong-size : (length l ≡ size → ⊥) → 1 ≡ recordRefusal l
-  unfolding recordRefusal first
-  wrong-size h = rw (ne-eqb (length l) size h)
-
-  pub not-sound : length l ≡ size → sound l ≡ false → 2 ≡ recordRefusal l
-  unfolding recordRefusal first
-  not-sound h s = rw (eq-eqb (length l) size h, s)
-
-  pub fine : length l ≡ size → sound l ≡ true → 0 ≡ recordRefusal l
-  unfolding recordRefusal first
-  fine h s = rw (eq-eqb (length l) size h, s)
-
+  -- the record is not refused
   module _ (z : recordRefusal l ≡ 0) where
     pub right-size : length l ≡ size
     unfolding recordRefusal

@@ -1,6 +1,6 @@
 // Turn (document 01, "Calls"): into phase clearing, or out of it.
 ghost use mathlib.Core.Path.{_≡_};
-ghost use Prim.Native.Nat.{ℕ, _+_, _*_, _-_, _<_};
+ghost use Prim.Native.Nat.{_+_, _*_, _-_, _<_};
 ghost use lib.ListN.{length, getD};
 ghost use Rattle.graph.specs.Vector.{width};
 ghost use Rattle.protocol.specs.Message.{going};
@@ -20,7 +20,6 @@ use record::NONE;
 use record::PENDING;
 use record::SEATS;
 use record::SIZE;
-use soundness::record_refusal;
 
 // The width of a vector, one less than the levels.
 const WIDTH: usize = LEVELS - 1;
@@ -35,7 +34,7 @@ const FREE: u8 = 0;
 
 const STAYING: u8 = 1;
 
-// The refusal of a turn.
+// The refusal of a turn while messages are pending.
 const MESSAGES_LEFT: u8 = 11;
 
 // The sides.
@@ -225,7 +224,7 @@ fn has_pending(rec: &[u8]) -> bool
 fn turn_refusal(rec: &[u8]) -> u8
     ensures { λ r. ⌜ r ≡ madeRefusal (now (rec .entry)) turning ⌝ }
 {
-    let n = record_refusal(rec);
+    let n = soundness::record_refusal(rec);
     if n != 0 {
         return n;
     }
