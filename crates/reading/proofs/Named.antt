@@ -25,7 +25,8 @@ named-zero-side : (f : Side → Msg) (a s : ℕ) → ifZero a (ifBit s (some (f 
 unfolding ifZero ifBit
 named-zero-side f zero zero = refl
 named-zero-side f zero (suc zero) = refl
-named-zero-side f zero (suc (suc s)) = rw (ne-eqb (suc (suc s)) 0 (λ e. omega arith), ne-eqb (suc (suc s)) 1 (λ e. omega arith), le-ltb (suc (suc s)) 2 (omega arith))
+named-zero-side f zero (suc (suc s)) =
+    rw (ne-eqb (suc (suc s)) 0 (λ e. omega arith), ne-eqb (suc (suc s)) 1 (λ e. omega arith), le-ltb (suc (suc s)) 2 (omega arith))
 named-zero-side f (suc a) s = rw (ne-eqb (suc a) 0 (λ e. omega arith))
 
 -- a number that is a bit and one that is a side
@@ -35,11 +36,14 @@ named-bit-side : (t a l s : ℕ)
 unfolding ifBit
 named-bit-side t zero l zero = refl
 named-bit-side t zero l (suc zero) = refl
-named-bit-side t zero l (suc (suc s)) = rw (ne-eqb (suc (suc s)) 0 (λ e. omega arith), ne-eqb (suc (suc s)) 1 (λ e. omega arith), le-ltb (suc (suc s)) 2 (omega arith))
+named-bit-side t zero l (suc (suc s)) =
+    rw (ne-eqb (suc (suc s)) 0 (λ e. omega arith), ne-eqb (suc (suc s)) 1 (λ e. omega arith), le-ltb (suc (suc s)) 2 (omega arith))
 named-bit-side t (suc zero) l zero = refl
 named-bit-side t (suc zero) l (suc zero) = refl
-named-bit-side t (suc zero) l (suc (suc s)) = rw (ne-eqb (suc (suc s)) 0 (λ e. omega arith), ne-eqb (suc (suc s)) 1 (λ e. omega arith), le-ltb (suc (suc s)) 2 (omega arith))
-named-bit-side t (suc (suc a)) l s = rw (ne-eqb (suc (suc a)) 0 (λ e. omega arith), ne-eqb (suc (suc a)) 1 (λ e. omega arith), le-ltb (suc (suc a)) 2 (omega arith))
+named-bit-side t (suc zero) l (suc (suc s)) =
+    rw (ne-eqb (suc (suc s)) 0 (λ e. omega arith), ne-eqb (suc (suc s)) 1 (λ e. omega arith), le-ltb (suc (suc s)) 2 (omega arith))
+named-bit-side t (suc (suc a)) l s =
+    rw (ne-eqb (suc (suc a)) 0 (λ e. omega arith), ne-eqb (suc (suc a)) 1 (λ e. omega arith), le-ltb (suc (suc a)) 2 (omega arith))
 
 -- the seven kinds, and the rest
 module _ {k : ℕ} (t a l s : ℕ) where

@@ -79,7 +79,8 @@ none-place-requires c κs =
 
 returns : tie.Need-returns
 unfolding exists
-returns c = rw (named-meet _ _ _ _ (c .before .before .before .match .keys1), named-place, ← c .before .before .pair-fits .ensures, c .before .if1 .taken) (c .meet-place .ensures .0)
+returns c =
+    rw (named-meet _ _ _ _ (c .before .before .before .match .keys1), named-place, ← c .before .before .pair-fits .ensures, c .before .if1 .taken) (c .meet-place .ensures .0)
 
 returns-2 : tie.Need-returns-2
 unfolding exists
@@ -87,7 +88,8 @@ returns-2 c = rw (named-meet _ _ _ _ (c .before .before .match .keys1), named-pl
 
 returns-3 : tie.Need-returns-3
 unfolding exists
-returns-3 c = rw (named-probe _ _ _ _ (c .before .before .before .match .keys2), named-place, ← c .before .before .pair-fits2 .ensures, c .before .if2 .taken) (c .probe-place .ensures .0)
+returns-3 c =
+    rw (named-probe _ _ _ _ (c .before .before .before .match .keys2), named-place, ← c .before .before .pair-fits2 .ensures, c .before .if2 .taken) (c .probe-place .ensures .0)
 
 returns-4 : tie.Need-returns-4
 unfolding exists
@@ -95,7 +97,8 @@ returns-4 c = rw (named-probe _ _ _ _ (c .before .before .match .keys2), named-p
 
 returns-5 : tie.Need-returns-5
 unfolding exists
-returns-5 c = rw (named-pull _ _ _ _ (c .before .before .before .match .keys3), named-place, and-assoc, ← c .before .before .pull-fits .ensures, c .before .if3 .taken) (c .pull-place .ensures .0)
+returns-5 c =
+    rw (named-pull _ _ _ _ (c .before .before .before .match .keys3), named-place, and-assoc, ← c .before .before .pull-fits .ensures, c .before .if3 .taken) (c .pull-place .ensures .0)
 
 returns-6 : tie.Need-returns-6
 unfolding exists
@@ -103,7 +106,8 @@ returns-6 c = rw (named-pull _ _ _ _ (c .before .before .match .keys3), named-pl
 
 returns-7 : tie.Need-returns-7
 unfolding exists
-returns-7 c = rw (named-going _ _ _ _ (c .before .before .before .match .keys4), named-place, and-assoc, ← c .before .before .side-fits .ensures, c .before .if4 .taken) (c .going-place .ensures .0)
+returns-7 c =
+    rw (named-going _ _ _ _ (c .before .before .before .match .keys4), named-place, and-assoc, ← c .before .before .side-fits .ensures, c .before .if4 .taken) (c .going-place .ensures .0)
 
 returns-8 : tie.Need-returns-8
 unfolding exists
@@ -111,7 +115,8 @@ returns-8 c = rw (named-going _ _ _ _ (c .before .before .match .keys4), named-p
 
 returns-9 : tie.Need-returns-9
 unfolding exists
-returns-9 c = rw (named-seek _ _ _ _ (c .before .before .before .match .keys5), named-place, ← c .before .before .pair-fits3 .ensures, c .before .if5 .taken) (c .seek-place .ensures .0)
+returns-9 c =
+    rw (named-seek _ _ _ _ (c .before .before .before .match .keys5), named-place, ← c .before .before .pair-fits3 .ensures, c .before .if5 .taken) (c .seek-place .ensures .0)
 
 returns-10 : tie.Need-returns-10
 unfolding exists
@@ -119,7 +124,8 @@ returns-10 c = rw (named-seek _ _ _ _ (c .before .before .match .keys5), named-p
 
 returns-11 : tie.Need-returns-11
 unfolding exists
-returns-11 c = rw (named-found _ _ _ _ (c .before .before .before .match .keys6), named-place, ← c .before .before .pair-fits4 .ensures, c .before .if6 .taken) (c .found-place .ensures .0)
+returns-11 c =
+    rw (named-found _ _ _ _ (c .before .before .before .match .keys6), named-place, ← c .before .before .pair-fits4 .ensures, c .before .if6 .taken) (c .found-place .ensures .0)
 
 returns-12 : tie.Need-returns-12
 unfolding exists
@@ -127,7 +133,8 @@ returns-12 c = rw (named-found _ _ _ _ (c .before .before .match .keys6), named-
 
 returns-13 : tie.Need-returns-13
 unfolding exists
-returns-13 c = rw (named-none _ _ _ _ (c .before .before .before .match .keys7), named-place, and-assoc, ← c .before .before .side-fits2 .ensures, c .before .if7 .taken) (c .none-place .ensures .0)
+returns-13 c =
+    rw (named-none _ _ _ _ (c .before .before .before .match .keys7), named-place, and-assoc, ← c .before .before .side-fits2 .ensures, c .before .if7 .taken) (c .none-place .ensures .0)
 
 returns-14 : tie.Need-returns-14
 unfolding exists
