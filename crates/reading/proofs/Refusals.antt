@@ -1,14 +1,13 @@
--- The refusals of the readings: the rows after 1 and 2, and what holds where no row applies. Assumes nothing.
-use Prim.Native.Nat.{ℕ, _<_}
+-- The refusals of the readings, row after row, and what holds where no row applies. Assumes nothing.
+use Prim.Native.Nat.{ℕ, suc, _<_}
 use mathlib.Core.Path.{_≡_, refl, sym, ap, _∙_}
 use mathlib.Core.Logic.{_≢_}
-use mathlib.Core.Bool.{Bool, true, false, not, _||_}
-use mathlib.Core.List.{List, [], _∷_}
+use mathlib.Core.Bool.{Bool, true, false, not, cond, _||_}
+use mathlib.Core.List.{List, [], _∷_, _++_}
 use native.Mathlib.Omega.{arith}
 use lib.Dec.{T, eqb, ltb}
 use lib.ListN.{length}
-use borrow.Author.Tests.{eqb-true, ltb-true, not-false}
-use Rattle.memory.proofs.Cases.{not-not}
+use borrow.Author.Tests.{lt-ltb, eqb-true, ltb-true, not-false}
 use Rattle.graph.proofs.Tests.{true-T}
 use Rattle.protocol.specs.State.{isFree, seated}
 use Rattle.protocol.specs.Table.{Row, row, first}
@@ -17,14 +16,22 @@ use Rattle.record.specs.Layout.{seats, levels, size}
 use Rattle.record.specs.Meaning.{rosterIn}
 use Rattle.record.specs.Sound.{sound}
 use Rattle.record.specs.Reading.{wrongSize, unsound, noSuchSeat, noSuchLevel, emptySeat, recordRefusal, lotRefusal, linkRefusal}
+use Rattle.record.proofs.Reading.{lotRefusal-is, linkRefusal-is}
 
--- a row that applies among the first two is the first of all
-two-first : (a b : Bool) (m n : ℕ) (rs : List Row) → first (row m a ∷ row n b ∷ []) ≢ 0
-    → first (row m a ∷ row n b ∷ []) ≡ first (row m a ∷ row n b ∷ rs)
+-- n is what the first rows gave: a refusal, and the rows after them do not matter
+stops : (b : Bool) (k m p : ℕ) {n : ℕ} → (n ≡ m → n ≡ p) → n ≡ cond b k m → n ≡ cond b k p
+stops true k m p f e = e
+stops false k m p f e = f e
+
+pub first-stops : (rs ss : List Row) {n : ℕ} → n ≡ first rs → n ≢ 0 → n ≡ first (rs ++ ss)
 unfolding first
-two-first true b m n rs h = refl
-two-first false true m n rs h = refl
-two-first false false m n rs h = absurd (h refl)
+first-stops [] ss e h = absurd (h e)
+first-stops (r ∷ rs) ss e h = stops (r .applies) (r .number) (first rs) (first (rs ++ ss)) (λ z. first-stops rs ss z h) e
+
+-- or 0, and the rows after it decide
+pub first-goes : (k : ℕ) (b : Bool) (rs : List Row) {n : ℕ} → n ≡ first (row (suc k) b ∷ []) → n ≡ 0 → first (row (suc k) b ∷ rs) ≡ first rs
+unfolding first
+first-goes k b rs e z = rw (no-row k b [] (sym e ∙ z) .0)
 
 or-false : (a b : Bool) → a || b ≡ false → (a ≡ false) × (b ≡ false)
 or-false true b e = absurd (let z : _≡_ {A = ℕ} 0 1 = cc in omega arith)
@@ -42,12 +49,7 @@ pub record Lot (l : List ℕ) (s : ℕ) : Type 0 where
   pub lot : T (seated (rosterIn l) s)
 
 module _ (l : List ℕ) where
-  -- 1 or 2
-  pub record-refused : (rs : List Row) {n : ℕ} → n ≡ recordRefusal l → n ≢ 0 → n ≡ first (wrongSize l ∷ unsound l ∷ rs)
-  unfolding recordRefusal
-  record-refused rs e h = e ∙ two-first (not (eqb (length l) size)) (not (sound l)) 1 2 rs (λ z. h (e ∙ z))
-
-  -- neither
+  -- neither 1 nor 2
   rows-passed : (rs : List Row) → first (wrongSize l ∷ unsound l ∷ rs) ≡ 0 → Accepted l × (first rs ≡ 0)
   rows-passed rs e =
       let p = no-row 0 (not (eqb (length l) size)) (unsound l ∷ rs) e in
@@ -59,32 +61,42 @@ module _ (l : List ℕ) where
   record-passed e z = rows-passed [] (sym e ∙ z) .0
 
   module _ (s : ℕ) where
-    -- free where it is not seated
-    pub free-is : {r : Bool} → r ≡ seated (rosterIn l) s → isFree (rosterIn l .state s) ≡ not r
-    free-is e = sym (not-not (isFree (rosterIn l .state s))) ∙ ap not (sym e)
+    -- nor 3
+    seat-rows-passed : (rs : List Row) → first (wrongSize l ∷ unsound l ∷ noSuchSeat s ∷ rs) ≡ 0 → Accepted l × (s < seats) × (first rs ≡ 0)
+    seat-rows-passed rs e =
+        let p = rows-passed (noSuchSeat s ∷ rs) e in
+        let q = no-row 2 (not (ltb s seats)) rs (p .1) in
+        (p .0, ltb-true s seats (not-false (ltb s seats) (q .0)), q .1)
 
-    -- neither 3 nor 8
-    seat-passed : (rs : List Row) → first (noSuchSeat s ∷ rs) ≡ 0 → (s < seats) × (first rs ≡ 0)
-    seat-passed rs e = let p = no-row 2 (not (ltb s seats)) rs e in (ltb-true s seats (not-false (ltb s seats) (p .0)), p .1)
+    pub seat-passed : {n : ℕ} → n ≡ first (wrongSize l ∷ unsound l ∷ noSuchSeat s ∷ []) → n ≡ 0 → Accepted l × (s < seats)
+    seat-passed e z = let p = seat-rows-passed [] (sym e ∙ z) in (p .0, p .1)
 
+    pub lot-rest : Accepted l × (s < seats) → lotRefusal l s ≡ first (emptySeat l s ∷ [])
+    unfolding first
+    lot-rest (a, h) = lotRefusal-is l (a .sized) (a .fine) s ∙ rw (lt-ltb s seats h)
+
+    pub link-rest : (k d : ℕ) → Accepted l × (s < seats) → linkRefusal l s k d ≡ first (noSuchLevel k d ∷ emptySeat l s ∷ [])
+    unfolding first
+    link-rest k d (a, h) = linkRefusal-is l (a .sized) (a .fine) s k d ∙ rw (lt-ltb s seats h)
+
+    -- nor 8
     lot-there : first (emptySeat l s ∷ []) ≡ 0 → T (seated (rosterIn l) s)
     lot-there e = true-T (ap not (no-row 7 (isFree (rosterIn l .state s)) [] e .0))
 
     pub lot-passed : {n : ℕ} → n ≡ lotRefusal l s → n ≡ 0 → Lot l s
     unfolding lotRefusal
     lot-passed e z =
-        let p = rows-passed (noSuchSeat s ∷ emptySeat l s ∷ []) (sym e ∙ z) in
-        let q = seat-passed (emptySeat l s ∷ []) (p .1) in
-        record { accepted = p .0; seat = q .0; lot = lot-there (q .1) }
+        let p = seat-rows-passed (emptySeat l s ∷ []) (sym e ∙ z) in
+        record { accepted = p .0; seat = p .1; lot = lot-there (p .2) }
 
+    -- nor 12
     pub link-passed : (k d : ℕ) {n : ℕ} → n ≡ linkRefusal l s k d → n ≡ 0 → Lot l s × (k < levels) × (d < 2)
     unfolding linkRefusal
     link-passed k d e z =
-        let p = rows-passed (noSuchSeat s ∷ noSuchLevel k d ∷ emptySeat l s ∷ []) (sym e ∙ z) in
-        let q = seat-passed (noSuchLevel k d ∷ emptySeat l s ∷ []) (p .1) in
-        let r = no-row 11 (not (ltb k levels) || not (ltb d 2)) (emptySeat l s ∷ []) (q .1) in
+        let p = seat-rows-passed (noSuchLevel k d ∷ emptySeat l s ∷ []) (sym e ∙ z) in
+        let r = no-row 11 (not (ltb k levels) || not (ltb d 2)) (emptySeat l s ∷ []) (p .2) in
         let o = or-false (not (ltb k levels)) (not (ltb d 2)) (r .0) in (
-          record { accepted = p .0; seat = q .0; lot = lot-there (r .1) },
+          record { accepted = p .0; seat = p .1; lot = lot-there (r .1) },
           ltb-true k levels (not-false (ltb k levels) (o .0)),
           ltb-true d 2 (not-false (ltb d 2) (o .1)),
         )

@@ -8,31 +8,23 @@ ghost use Rattle.reading.specs.Answer.{lotAnswered, linkAnswered, messag
 
 mod counts;
 mod opening;
+mod rows;
 
 use counts::seated_lots;
 use opening::fill;
 use opening::no_links;
 use outcome::Answer;
 use places::place_of;
-use record::LEVELS;
 use record::MESSAGES;
 use record::PENDING;
-use record::SEATS;
 use record::SIZE;
-use roster::is_seated;
+use rows::empty_refusal;
+use rows::level_refusal;
+use rows::seat_refusal;
 use soundness::record_refusal;
 
-// The refusals that these calls meet; 2 unsound is the record's.
+// The refusal that open meets.
 const WRONG_SIZE: u8 = 1;
-
-const NO_SUCH_SEAT: u8 = 3;
-
-const EMPTY_SEAT: u8 = 8;
-
-const NO_SUCH_LEVEL: u8 = 12;
-
-// The sides, left and right.
-const SIDES: usize = 2;
 
 // State, number and vector of a lot.
 pub enum LotRead {
@@ -58,46 +50,31 @@ pub enum CountsRead {
     Counted(u8, u8, u32),
 }
 
-// 1, 2, then 3 no such seat, 8 empty seat, or 0.
+// The lot on a seat of a lent record: 1, 2, 3, 8, or 0.
 pub fn lot_refusal(rec: &[u8], seat: u8) -> u8
     ensures { λ r. ⌜ r ≡ lotRefusal (now (rec .entry)) seat ⌝ }
 {
-    let n = record_refusal(rec);
+    let n = seat_refusal(rec, seat);
     if n != 0 {
         return n;
     }
-    let s = seat as usize;
-    if s >= SEATS {
-        return NO_SUCH_SEAT;
-    }
-    if !is_seated(rec, s) {
-        return EMPTY_SEAT;
-    }
-    0
+    empty_refusal(rec, seat as usize)
 }
 
-// 1, 2, then 3 no such seat, 12 no such level or side, 8 empty seat, or 0.
+// A link of such a lot: 1, 2, 3, 12, 8, or 0.
 pub fn link_refusal(rec: &[u8], seat: u8, level: u8, side: u8) -> u8
     ensures { λ r. ⌜ r ≡ linkRefusal (now (rec .entry)) seat level side ⌝ }
 {
-    let n = record_refusal(rec);
+    let n = seat_refusal(rec, seat);
     if n != 0 {
         return n;
     }
-    let s = seat as usize;
-    if s >= SEATS {
-        return NO_SUCH_SEAT;
+    let no_level = level_refusal(level as usize, side as usize);
+    let no_lot = empty_refusal(rec, seat as usize);
+    if no_level != 0 {
+        return no_level;
     }
-    if (level as usize) >= LEVELS {
-        return NO_SUCH_LEVEL;
-    }
-    if (side as usize) >= SIDES {
-        return NO_SUCH_LEVEL;
-    }
-    if !is_seated(rec, s) {
-        return EMPTY_SEAT;
-    }
-    0
+    no_lot
 }
 
 // Writes the empty record in phase open. Refused: 1.

@@ -1,69 +1,54 @@
 -- `reading::link_refusal` meets its contract: each return is the first row that applies. Assumes nothing.
 use borrow.Author.Needs.{needs}
-use borrow.Author.Tests.{lt-ltb, le-ltb}
-use mathlib.Core.Path.{_≡_, _∙_}
+use Prim.Native.Nat.{_<_}
+use mathlib.Core.Path.{sym, _∙_}
+use mathlib.Core.Bool.{not, _||_}
 use mathlib.Core.List.{[], _∷_}
-use Rattle.protocol.specs.Table.{first}
+use lib.Dec.{ltb}
 use Rattle.record.specs.Layout.{seats, levels}
-use Rattle.record.specs.Reading.{linkRefusal, noSuchSeat, noSuchLevel, emptySeat}
-use Rattle.record.proofs.Reading.{linkRefusal-is}
-use Rattle.reading.proofs.Refusals.{Accepted, record-refused, record-passed, free-is}
+use Rattle.record.specs.Reading.{linkRefusal, wrongSize, unsound, noSuchSeat, noSuchLevel, emptySeat}
+use Rattle.reading.proofs.Refusals.{Accepted, first-stops, first-goes, seat-passed, link-rest}
 use Rattle.reading.proofs.link_refusal.Statement.{statement}
 use Rattle.reading.proofs.link_refusal.Tie as tie
 
--- past 1 and 2
-passed : (c : tie.Else1) → Accepted (c .before .before .before .args .rec .now)
-passed c = record-passed _ (c .before .record-refusal .ensures) (c .if1 .left)
+-- past 1, 2 and 3
+passed : (c : tie.Else1) → Accepted (c .before .before .before .args .rec .now) × (c .before .before .before .args .seat < seats)
+passed c = seat-passed _ _ (c .before .seat-refusal .ensures) (c .if1 .left)
 
--- and so the rows that are left
-rows : (c : tie.Else1)
-    → let a = c .before .before .before .args in
-    linkRefusal (a .rec .now) (a .seat) (a .level) (a .side)
-    ≡ first (noSuchSeat (a .seat) ∷ noSuchLevel (a .level) (a .side) ∷ emptySeat (a .rec .now) (a .seat) ∷ [])
-rows c = linkRefusal-is _ (passed c .sized) (passed c .fine) _ _ _
-
--- seat, level and side exist
-exist : (c : tie.Else4)
-    → let a = c .before .before .before .before .before .before .args in
-    linkRefusal (a .rec .now) (a .seat) (a .level) (a .side) ≡ first (emptySeat (a .rec .now) (a .seat) ∷ [])
-unfolding first
-exist c =
-    let b = c .before .before in
-    rw (rows (b .before), lt-ltb _ seats (b .if2 .left), lt-ltb _ levels (c .before .if3 .left), lt-ltb _ 2 (c .if4 .left))
-
-record-refusal-requires : tie.Need-record-refusal-requires
-record-refusal-requires c κs = search needs
+seat-refusal-requires : tie.Need-seat-refusal-requires
+seat-refusal-requires c κs = search needs
 
 returns : tie.Need-returns
 unfolding linkRefusal
-returns c = record-refused _ _ (c .before .record-refusal .ensures) (c .if1 .taken)
+returns c =
+    let a = c .before .before .before .args in
+    let l = a .rec .now in
+    let rest = noSuchLevel (a .level) (a .side) ∷ emptySeat l (a .seat) ∷ [] in
+    first-stops (wrongSize l ∷ unsound l ∷ noSuchSeat (a .seat) ∷ []) rest (c .before .seat-refusal .ensures) (c .if1 .taken)
+
+level-refusal-requires : tie.Need-level-refusal-requires
+level-refusal-requires c κs = search needs
+
+empty-refusal-requires : tie.Need-empty-refusal-requires
+empty-refusal-requires c κs = let p = passed (c .before) in (p .0 .sized, p .1)
 
 returns-2 : tie.Need-returns-2
-unfolding first
-returns-2 c = rw (rows (c .before), le-ltb _ seats (c .if2 .taken))
+returns-2 c =
+    let b = c .before .before .before in
+    let a = b .before .before .before .args in
+    let none = emptySeat (a .rec .now) (a .seat) ∷ [] in
+    first-stops (noSuchLevel (a .level) (a .side) ∷ []) none (c .before .before .level-refusal .ensures) (c .if2 .taken)
+    ∙ sym (link-rest _ _ _ _ (passed b))
 
 returns-3 : tie.Need-returns-3
-unfolding first
-returns-3 c = rw (rows (c .before .before), lt-ltb _ seats (c .before .if2 .left), le-ltb _ levels (c .if3 .taken))
-
-returns-4 : tie.Need-returns-4
-unfolding first
-returns-4 c =
-    let b = c .before .before in
-    rw (rows (b .before), lt-ltb _ seats (b .if2 .left), lt-ltb _ levels (c .before .if3 .left), le-ltb _ 2 (c .if4 .taken))
-
-is-seated-requires : tie.Need-is-seated-requires
-is-seated-requires c κs = (passed (c .before .before .before) .sized, c .before .before .if2 .left)
-
-returns-5 : tie.Need-returns-5
-unfolding first
-returns-5 c = rw (exist (c .before .before), free-is _ _ (c .before .is-seated .ensures) ∙ c .if5 .taken)
-
-returns-6 : tie.Need-returns-6
-unfolding first
-returns-6 c = rw (exist (c .before .before), free-is _ _ (c .before .is-seated .ensures) ∙ c .if5 .left)
+returns-3 c =
+    let b = c .before .before .before in
+    let a = b .before .before .before .args in
+    let none = emptySeat (a .rec .now) (a .seat) ∷ [] in
+    let goes = first-goes 11 (not (ltb (a .level) levels) || not (ltb (a .side) 2)) none (c .before .before .level-refusal .ensures) (c .if2 .left) in
+    c .before .empty-refusal .ensures ∙ sym (link-rest _ _ _ _ (passed b) ∙ goes)
 
 pub link-refusal-spec : {M : Type 1} → statement M
 link-refusal-spec =
     tie.close
-    (tie.spec record-refusal-requires returns returns-2 returns-3 returns-4 is-seated-requires returns-5 returns-6)
+    (tie.spec seat-refusal-requires returns level-refusal-requires empty-refusal-requires returns-2 returns-3)

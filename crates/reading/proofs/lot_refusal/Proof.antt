@@ -1,51 +1,33 @@
 -- `reading::lot_refusal` meets its contract: each return is the first row that applies. Assumes nothing.
 use borrow.Author.Needs.{needs}
-use borrow.Author.Tests.{lt-ltb, le-ltb}
-use mathlib.Core.Path.{_≡_, _∙_}
+use Prim.Native.Nat.{_<_}
+use mathlib.Core.Path.{sym, _∙_}
 use mathlib.Core.List.{[], _∷_}
-use Rattle.protocol.specs.Table.{first}
 use Rattle.record.specs.Layout.{seats}
-use Rattle.record.specs.Reading.{lotRefusal, noSuchSeat, emptySeat}
-use Rattle.record.proofs.Reading.{lotRefusal-is}
-use Rattle.reading.proofs.Refusals.{Accepted, record-refused, record-passed, free-is}
+use Rattle.record.specs.Reading.{lotRefusal, wrongSize, unsound, noSuchSeat, emptySeat}
+use Rattle.reading.proofs.Refusals.{Accepted, first-stops, seat-passed, lot-rest}
 use Rattle.reading.proofs.lot_refusal.Statement.{statement}
 use Rattle.reading.proofs.lot_refusal.Tie as tie
 
--- past 1 and 2
-passed : (c : tie.Else1) → Accepted (c .before .before .before .args .rec .now)
-passed c = record-passed _ (c .before .record-refusal .ensures) (c .if1 .left)
+-- past 1, 2 and 3
+passed : (c : tie.Else1) → Accepted (c .before .before .before .args .rec .now) × (c .before .before .before .args .seat < seats)
+passed c = seat-passed _ _ (c .before .seat-refusal .ensures) (c .if1 .left)
 
--- and so the rows that are left
-rows : (c : tie.Else1)
-    → let a = c .before .before .before .args in
-    lotRefusal (a .rec .now) (a .seat) ≡ first (noSuchSeat (a .seat) ∷ emptySeat (a .rec .now) (a .seat) ∷ [])
-rows c = lotRefusal-is _ (passed c .sized) (passed c .fine) _
-
-record-refusal-requires : tie.Need-record-refusal-requires
-record-refusal-requires c κs = search needs
+seat-refusal-requires : tie.Need-seat-refusal-requires
+seat-refusal-requires c κs = search needs
 
 returns : tie.Need-returns
 unfolding lotRefusal
-returns c = record-refused _ _ (c .before .record-refusal .ensures) (c .if1 .taken)
+returns c =
+    let l = c .before .before .before .args .rec .now in
+    let s = c .before .before .before .args .seat in
+    first-stops (wrongSize l ∷ unsound l ∷ noSuchSeat s ∷ []) (emptySeat l s ∷ []) (c .before .seat-refusal .ensures) (c .if1 .taken)
+
+empty-refusal-requires : tie.Need-empty-refusal-requires
+empty-refusal-requires c κs = let p = passed c in (p .0 .sized, p .1)
 
 returns-2 : tie.Need-returns-2
-unfolding first
-returns-2 c = rw (rows (c .before), le-ltb _ seats (c .if2 .taken))
-
-is-seated-requires : tie.Need-is-seated-requires
-is-seated-requires c κs = (passed (c .before) .sized, c .if2 .left)
-
-returns-3 : tie.Need-returns-3
-unfolding first
-returns-3 c =
-    let b = c .before .before in
-    rw (rows (b .before), lt-ltb _ seats (b .if2 .left), free-is _ _ (c .before .is-seated .ensures) ∙ c .if3 .taken)
-
-returns-4 : tie.Need-returns-4
-unfolding first
-returns-4 c =
-    let b = c .before .before in
-    rw (rows (b .before), lt-ltb _ seats (b .if2 .left), free-is _ _ (c .before .is-seated .ensures) ∙ c .if3 .left)
+returns-2 c = c .empty-refusal .ensures ∙ sym (lot-rest _ _ (passed (c .before)))
 
 pub lot-refusal-spec : {M : Type 1} → statement M
-lot-refusal-spec = tie.close (tie.spec record-refusal-requires returns returns-2 is-seated-requires returns-3 returns-4)
+lot-refusal-spec = tie.close (tie.spec seat-refusal-requires returns empty-refusal-requires returns-2)

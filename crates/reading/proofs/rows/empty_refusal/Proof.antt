@@ -1,0 +1,27 @@
+-- `reading::rows::empty_refusal` meets its contract. Assumes nothing.
+use borrow.Author.Needs.{needs}
+use borrow.Author.Tests.{not-true, not-false}
+use mathlib.Core.Path.{sym, _∙_}
+use Rattle.protocol.specs.State.{isFree}
+use Rattle.protocol.specs.Table.{first}
+use Rattle.record.specs.Meaning.{rosterIn}
+use Rattle.reading.proofs.rows.empty_refusal.Statement.{statement}
+use Rattle.reading.proofs.rows.empty_refusal.Tie as tie
+
+is-seated-requires : tie.Need-is-seated-requires
+is-seated-requires c κs = search needs
+
+returns : tie.Need-returns
+unfolding first
+returns c =
+    let a = c .before .before .before .args in
+    rw (not-true (isFree (rosterIn (a .rec .now) .state (a .s))) (sym (c .before .is-seated .ensures) ∙ c .if1 .taken))
+
+returns-2 : tie.Need-returns-2
+unfolding first
+returns-2 c =
+    let a = c .before .before .before .args in
+    rw (not-false (isFree (rosterIn (a .rec .now) .state (a .s))) (sym (c .before .is-seated .ensures) ∙ c .if1 .left))
+
+pub empty-refusal-spec : {M : Type 1} → statement M
+empty-refusal-spec = tie.close (tie.spec is-seated-requires returns returns-2)

@@ -1,0 +1,59 @@
+// The rows of the table that reading a lot or a link meets: each gives its number, or 0 if it does not apply.
+ghost use mathlib.Core.Path.{_≡_};
+ghost use mathlib.Core.List.{[], _∷_};
+ghost use Prim.Native.Nat.{_<_};
+ghost use lib.ListN.{length};
+ghost use Rattle.protocol.specs.Table.{first};
+ghost use Rattle.record.specs.Layout.{seats, size};
+ghost use Rattle.record.specs.Reading.{wrongSize, unsound, noSuchSeat, noSuchLevel, emptySeat};
+use record::LEVELS;
+use record::SEATS;
+use soundness::lots::is_seated;
+use soundness::record_refusal;
+
+const NO_SUCH_SEAT: u8 = 3;
+
+const EMPTY_SEAT: u8 = 8;
+
+const NO_SUCH_LEVEL: u8 = 12;
+
+// The sides, left and right.
+const SIDES: usize = 2;
+
+// 1 wrong size, 2 unsound, 3 no such seat.
+pub fn seat_refusal(rec: &[u8], seat: u8) -> u8
+    ensures { λ r. ⌜ r ≡ first (wrongSize (now (rec .entry)) ∷ unsound (now (rec .entry)) ∷ noSuchSeat seat ∷ []) ⌝ }
+{
+    let n = record_refusal(rec);
+    if n != 0 {
+        return n;
+    }
+    if (seat as usize) < SEATS {
+        return 0;
+    }
+    NO_SUCH_SEAT
+}
+
+// 12 no such level or side.
+pub fn level_refusal(level: usize, side: usize) -> u8
+    ensures { λ r. ⌜ r ≡ first (noSuchLevel level side ∷ []) ⌝ }
+{
+    if level >= LEVELS {
+        return NO_SUCH_LEVEL;
+    }
+    if side >= SIDES {
+        return NO_SUCH_LEVEL;
+    }
+    0
+}
+
+// 8 empty seat.
+pub fn empty_refusal(rec: &[u8], s: usize) -> u8
+    requires { ⌜ (length (now rec) ≡ size) × (s < seats) ⌝ }
+    ensures { λ r. ⌜ r ≡ first (emptySeat (now (rec .entry)) s ∷ []) ⌝ }
+{
+    if is_seated(rec, s) {
+        return 0;
+    }
+    EMPTY_SEAT
+}
