@@ -1,0 +1,3 @@
+-- Document 01's proved cases.
+pub mod View
+pub mod Seen

@@ -1,0 +1,1 @@
+-- The proved cases have no definitions of their own: proofs/Table.antt states them over those of the crates below.
