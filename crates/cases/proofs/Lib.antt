@@ -1,3 +1,4 @@
 -- Document 01's proved cases.
 pub mod View
 pub mod Seen
+pub mod Answers

@@ -1,0 +1,120 @@
+-- What calls, find and readings answer on the bytes after a list of calls, told by the view after the list. Assumes nothing.
+use Prim.Native.Nat.{ℕ, suc, _^_}
+use mathlib.Core.Path.{_≡_, refl, sym, ap, _∙_, subst}
+use mathlib.Core.Option.{none}
+use mathlib.Core.Bool.{Bool, true, false, not, _&&_}
+use mathlib.Core.List.{List, [], _∷_, _++_}
+use lib.Dec.{T, ltb, ltb→lt, T-not}
+use lib.ListN.{length}
+use borrow.Author.Tests.{eq-eqb, lt-ltb}
+use Rattle.memory.specs.Loops.{oneIf, count}
+use Rattle.graph.specs.Side.{Side}
+use Rattle.graph.specs.Vector.{width}
+use Rattle.graph.proofs.Tests.{and-fst, and-snd, not-T-false}
+use Rattle.protocol.specs.Message.{Name, named, sideNumber, among}
+use Rattle.protocol.specs.Numbering.{somePending}
+use Rattle.protocol.specs.State.{Meaning, isFree, seated}
+use Rattle.protocol.specs.Table.{Call, join, leave, deliver, turn, first, isPending}
+use Rattle.protocol.specs.Sound.{Sound, numberBits}
+use Rattle.protocol.specs.Run.{AllInRange}
+use Rattle.protocol.proofs.Numbering.{pending-none}
+use Rattle.record.specs.Layout.{seats, levels, size}
+use Rattle.record.specs.Meaning.{rosterIn, bytesOf, phaseByte, linkByte}
+use Rattle.record.specs.Reading.{openRefusal, readLot, LinkAnswer, readLink, readMessage, CountAnswer, readCounts}
+use Rattle.record.proofs.Places.{length-bytesOf}
+use Rattle.record.proofs.Form.{meaning-roster}
+use Rattle.record.proofs.Round.{meaning-bytes}
+use Rattle.record.proofs.Sound.{bytes-sound}
+use Rattle.outcome.specs.Made.{Outcome, made}
+use Rattle.outcome.proofs.Bridge.{made-call, refused-same}
+use Rattle.search.specs.Walk.{find}
+use Rattle.find.specs.Find.{findRefusal, findIn}
+use Rattle.runs.specs.Run.{Standing, step, steps, run, lotOf}
+use Rattle.runs.proofs.Readings.{countsOf, read-lot, read-link, read-message, read-counts, count-none}
+use Rattle.cases.proofs.View.{View, meant, viewRefusal, viewCall, view-call}
+use Rattle.cases.proofs.Seen.{seen, seen-sound, seen-bytes}
+
+-- the arguments of the calls fit their types, as a test
+unfoldable pub fits : List Call → Bool
+fits [] = true
+fits (join s n b c ∷ cs) = (ltb n (2 ^ numberBits) && ltb b (2 ^ width)) && fits cs
+fits (leave s ∷ cs) = fits cs
+fits (deliver n ∷ cs) = fits cs
+fits (turn ∷ cs) = fits cs
+
+pub fits-in : (cs : List Call) → T (fits cs) → AllInRange seats width cs
+unfolding fits
+fits-in [] t = tt
+fits-in (join s n b c ∷ cs) t =
+    let u = and-fst (ltb n (2 ^ numberBits) && ltb b (2 ^ width)) _ t in
+    ((ltb→lt n _ (and-fst (ltb n (2 ^ numberBits)) _ u), ltb→lt b _ (and-snd (ltb n (2 ^ numberBits)) _ u)),
+    fits-in cs (and-snd (ltb n (2 ^ numberBits) && ltb b (2 ^ width)) _ t))
+fits-in (leave s ∷ cs) t = (tt, fits-in cs t)
+fits-in (deliver n ∷ cs) t = (tt, fits-in cs t)
+fits-in (turn ∷ cs) t = (tt, fits-in cs t)
+
+-- find on the bytes of a sound meaning
+module _ (M : Meaning) (h : Sound seats width M) where
+  roster-bytes : rosterIn (bytesOf M) ≡ M .roster
+  roster-bytes = sym (meaning-roster (bytesOf M)) ∙ ap (λ (X : Meaning). X .roster) (meaning-bytes h)
+
+  find-bytes : (s x : ℕ) → T (seated (M .roster) s)
+      → findIn (bytesOf M) s x ≡ (let f = find (M .roster .number) (M .link) x seats width s in record { refused = 0; holder = f .holder; hops = f .hops })
+  unfolding findIn findRefusal first
+  find-bytes s x m =
+      let f : isFree (M .roster .state s) ≡ false = not-T-false (T-not (isFree (M .roster .state s)) m) in
+      rw (eq-eqb (length (bytesOf M)) size (length-bytesOf M), bytes-sound h, lt-ltb s seats (h .seats s m), roster-bytes, f, meaning-bytes h)
+
+-- one more call
+steps-more : (cs : List Call) (s : Standing) (c : Call) → steps s (cs ++ c ∷ []) .now ≡ made (steps s cs .now) c .bytes
+unfolding steps step
+steps-more [] s c = refl
+steps-more (d ∷ cs) s c = steps-more cs (step s d) c
+
+module _ (l : List ℕ) (e : openRefusal l ≡ 0) (cs : List Call) (t : T (fits cs)) where
+  abbrev v : View
+  v = seen cs .view
+
+  h : Sound seats width (meant (seen cs .view))
+  h = seen-sound l e cs (fits-in cs t)
+
+  at : {A : Type 0} (f : List ℕ → A) → f (run l cs .now) ≡ f (bytesOf (meant (seen cs .view)))
+  at f = ap f (seen-bytes l e cs (fits-in cs t))
+
+  -- the bytes after one more call
+  pub more-seen : (c : Call) → made (run l cs .now) c .bytes ≡ run l (cs ++ c ∷ []) .now
+  unfolding run
+  more-seen c = sym (steps-more cs _ c)
+
+  pub made-seen : (c : Call) → made (run l cs .now) c ≡ record { refused = viewRefusal v c; bytes = bytesOf (meant (viewCall v c)) }
+  made-seen c = at (λ b. made b c) ∙ made-call (meant v) h c ∙ λ i. record { refused = view-call v h c i .refused; bytes = bytesOf (view-call v h c i .meaning) }
+
+  -- a refused call leaves every byte
+  pub refused-seen : (c : Call) (n : ℕ) → viewRefusal v c ≡ suc n → made (run l cs .now) c ≡ record { refused = suc n; bytes = run l cs .now }
+  refused-seen c n q =
+      let no : made (run l cs .now) c .refused ≡ suc n = ap (λ (o : Outcome). o .refused) (made-seen c) ∙ q in
+      λ i. record { refused = no i; bytes = refused-same (run l cs .now) c n no i }
+
+  pub find-seen : (s x : ℕ) → T (seated (v .roster) s)
+      → findIn (run l cs .now) s x ≡ (let f = find (v .roster .number) (v .link) x seats width s in record { refused = 0; holder = f .holder; hops = f .hops })
+  find-seen s x m = at (λ b. findIn b s x) ∙ find-bytes (meant v) h s x m
+
+  pub lot-seen : (x : ℕ) → T (ltb x seats) → readLot (run l cs .now) x ≡ lotOf (v .roster) x
+  lot-seen x p = at (λ b. readLot b x) ∙ read-lot (meant v) h x (ltb→lt x seats p)
+
+  pub link-seen : (x k : ℕ) (d : Side) → T (seated (v .roster) x) → T (ltb k levels)
+      → readLink (run l cs .now) x k (sideNumber d) ≡ record { refused = 0; seat = linkByte (v .link x k d) }
+  link-seen x k d m p =
+      at (λ b. readLink b x k (sideNumber d))
+      ∙ read-link (meant v) h x k d (h .seats x m) (ltb→lt k levels p) (not-T-false (T-not (isFree (v .roster .state x)) m))
+
+  pub message-seen : (n : Name) → readMessage (run l cs .now) n ≡ record { refused = 0; pending = oneIf (isPending (among (v .pending)) (named n)) }
+  message-seen n = at (λ b. readMessage b n) ∙ read-message (meant v) h n
+
+  -- with nothing pending
+  pub counts-seen : v .pending ≡ [] → readCounts (run l cs .now) ≡ record { refused = 0; lots = count seats (seated (v .roster)); phase = phaseByte (v .roster .phase); pending = 0 }
+  unfolding countsOf among
+  counts-seen q =
+      let none-left : somePending seats width (among (v .pending)) ≡ false = pending-none seats width (among (v .pending)) (λ m x. rw q) in
+      at readCounts ∙ read-counts (meant v) h
+      ∙ ap (λ (n : ℕ). record { refused = 0; lots = count seats (seated (v .roster)); phase = phaseByte (v .roster .phase); pending = n }) (count-none (meant v) h .1 none-left)
