@@ -8,15 +8,15 @@ use lib.Dec.{T, ltb, ltb→lt, T-not}
 use lib.ListN.{length}
 use borrow.Author.Tests.{eq-eqb, lt-ltb}
 use Rattle.memory.specs.Loops.{oneIf, count}
-use Rattle.graph.specs.Side.{Side}
+use Rattle.graph.specs.Side.{Side, left, right}
 use Rattle.graph.specs.Vector.{width}
 use Rattle.graph.proofs.Tests.{and-fst, and-snd, not-T-false}
-use Rattle.protocol.specs.Message.{Name, named, sideNumber, among}
+use Rattle.protocol.specs.Message.{Msg, sideNumber, among}
 use Rattle.protocol.specs.Numbering.{somePending}
-use Rattle.protocol.specs.State.{Meaning, isFree, seated}
+use Rattle.protocol.specs.State.{open-phase, Meaning, isFree, seated}
 use Rattle.protocol.specs.Table.{Call, join, leave, deliver, turn, first, isPending}
 use Rattle.protocol.specs.Sound.{Sound, numberBits}
-use Rattle.protocol.specs.Run.{AllInRange}
+use Rattle.protocol.specs.Run.{logOf, AllInRange}
 use Rattle.protocol.proofs.Numbering.{pending-none}
 use Rattle.record.specs.Layout.{seats, levels, size}
 use Rattle.record.specs.Meaning.{rosterIn, bytesOf, phaseByte, linkByte}
@@ -30,9 +30,11 @@ use Rattle.outcome.proofs.Bridge.{made-call, refused-same}
 use Rattle.search.specs.Walk.{find}
 use Rattle.find.specs.Find.{findRefusal, findIn}
 use Rattle.runs.specs.Run.{Standing, step, steps, run, lotOf}
+use Rattle.runs.specs.Run as runs
 use Rattle.runs.proofs.Readings.{countsOf, read-lot, read-link, read-message, read-counts, count-none}
 use Rattle.cases.proofs.View.{View, meant, viewRefusal, viewCall, view-call}
-use Rattle.cases.proofs.Seen.{seen, seen-sound, seen-bytes}
+use Rattle.cases.specs.Lists.{accepted, Pending, LinksOf, Settles, Lot100}
+use Rattle.cases.proofs.Seen.{seen, seen-sound, seen-bytes, seen-log, seen-order}
 
 -- the arguments of the calls fit their types, as a test
 unfoldable pub fits : List Call → Bool
@@ -65,12 +67,6 @@ module _ (M : Meaning) (h : Sound seats width M) where
       let f : isFree (M .roster .state s) ≡ false = not-T-false (T-not (isFree (M .roster .state s)) m) in
       rw (eq-eqb (length (bytesOf M)) size (length-bytesOf M), bytes-sound h, lt-ltb s seats (h .seats s m), roster-bytes, f, meaning-bytes h)
 
--- one more call
-steps-more : (cs : List Call) (s : Standing) (c : Call) → steps s (cs ++ c ∷ []) .now ≡ made (steps s cs .now) c .bytes
-unfolding steps step
-steps-more [] s c = refl
-steps-more (d ∷ cs) s c = steps-more cs (step s d) c
-
 module _ (l : List ℕ) (e : openRefusal l ≡ 0) (cs : List Call) (t : T (fits cs)) where
   abbrev v : View
   v = seen cs .view
@@ -81,12 +77,7 @@ module _ (l : List ℕ) (e : openRefusal l ≡ 0) (cs : List Call) (t : T (fits 
   at : {A : Type 0} (f : List ℕ → A) → f (run l cs .now) ≡ f (bytesOf (meant (seen cs .view)))
   at f = ap f (seen-bytes l e cs (fits-in cs t))
 
-  -- the bytes after one more call
-  pub more-seen : (c : Call) → made (run l cs .now) c .bytes ≡ run l (cs ++ c ∷ []) .now
-  unfolding run
-  more-seen c = sym (steps-more cs _ c)
-
-  pub made-seen : (c : Call) → made (run l cs .now) c ≡ record { refused = viewRefusal v c; bytes = bytesOf (meant (viewCall v c)) }
+  made-seen : (c : Call) → made (run l cs .now) c ≡ record { refused = viewRefusal v c; bytes = bytesOf (meant (viewCall v c)) }
   made-seen c = at (λ b. made b c) ∙ made-call (meant v) h c ∙ λ i. record { refused = view-call v h c i .refused; bytes = bytesOf (view-call v h c i .meaning) }
 
   -- a refused call leaves every byte
@@ -102,19 +93,39 @@ module _ (l : List ℕ) (e : openRefusal l ≡ 0) (cs : List Call) (t : T (fits 
   pub lot-seen : (x : ℕ) → T (ltb x seats) → readLot (run l cs .now) x ≡ lotOf (v .roster) x
   lot-seen x p = at (λ b. readLot b x) ∙ read-lot (meant v) h x (ltb→lt x seats p)
 
-  pub link-seen : (x k : ℕ) (d : Side) → T (seated (v .roster) x) → T (ltb k levels)
+  link-seen : (x k : ℕ) (d : Side) → T (seated (v .roster) x) → T (ltb k levels)
       → readLink (run l cs .now) x k (sideNumber d) ≡ record { refused = 0; seat = linkByte (v .link x k d) }
   link-seen x k d m p =
       at (λ b. readLink b x k (sideNumber d))
       ∙ read-link (meant v) h x k d (h .seats x m) (ltb→lt k levels p) (not-T-false (T-not (isFree (v .roster .state x)) m))
 
-  pub message-seen : (n : Name) → readMessage (run l cs .now) n ≡ record { refused = 0; pending = oneIf (isPending (among (v .pending)) (named n)) }
-  message-seen n = at (λ b. readMessage b n) ∙ read-message (meant v) h n
+  -- both links of a lot
+  pub links-seen : (x k : ℕ) → T (seated (v .roster) x) → T (ltb k levels)
+      → LinksOf (run l cs .now) x k (linkByte (v .link x k left)) (linkByte (v .link x k right))
+  links-seen x k m p = (link-seen x k left m p, link-seen x k right m p)
 
-  -- with nothing pending
-  pub counts-seen : v .pending ≡ [] → readCounts (run l cs .now) ≡ record { refused = 0; lots = count seats (seated (v .roster)); phase = phaseByte (v .roster .phase); pending = 0 }
+  pending-seen : Pending (run l cs .now) (v .pending)
+  pending-seen n = at (λ b. readMessage b n) ∙ read-message (meant v) h n
+
+  log-seen : accepted (seen cs .log) ≡ true → accepted (logOf (runs.meant (run l cs .history))) ≡ true
+  log-seen a = ap accepted (seen-log l e cs (fits-in cs t)) ∙ a
+
+  pub lot100-seen : (right-link : ℕ) (ms : List Msg) → accepted (seen cs .log) ≡ true → T (seated (v .roster) 0)
+      → linkByte (v .link 0 0 left) ≡ 255 → linkByte (v .link 0 0 right) ≡ right-link → v .pending ≡ ms → Lot100 l cs right-link ms
+  lot100-seen y ms a m p q w = record {
+    log = log-seen a;
+    links = subst (λ (x : ℕ). LinksOf (run l cs .now) 0 0 x y) p (subst (LinksOf (run l cs .now) 0 0 (linkByte (v .link 0 0 left))) q (links-seen 0 0 m tt));
+    pending = subst (Pending (run l cs .now)) w pending-seen;
+  }
+
+  pub settles-seen : (n : ℕ) → accepted (seen cs .log) ≡ true → T (seen cs .ordered) → v .pending ≡ [] → v .roster .phase ≡ open-phase
+      → count seats (seated (v .roster)) ≡ n → Settles l cs n
   unfolding countsOf among
-  counts-seen q =
+  settles-seen n a o q p c =
       let none-left : somePending seats width (among (v .pending)) ≡ false = pending-none seats width (among (v .pending)) (λ m x. rw q) in
-      at readCounts ∙ read-counts (meant v) h
-      ∙ ap (λ (n : ℕ). record { refused = 0; lots = count seats (seated (v .roster)); phase = phaseByte (v .roster .phase); pending = n }) (count-none (meant v) h .1 none-left)
+      let none-counted = count-none (meant v) h .1 none-left in
+      record {
+        log = log-seen a;
+        order = seen-order l e cs (fits-in cs t) o;
+        counts = at readCounts ∙ read-counts (meant v) h ∙ λ i. record { refused = 0; lots = c i; phase = phaseByte (p i); pending = none-counted i };
+      }

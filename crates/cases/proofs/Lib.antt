@@ -2,3 +2,5 @@
 pub mod View
 pub mod Seen
 pub mod Answers
+pub mod Sole
+pub mod Table

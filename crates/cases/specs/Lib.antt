@@ -1,1 +1,2 @@
--- The proved cases have no definitions of their own: proofs/Table.antt states them over those of the crates below.
+-- The lists of calls of document 01's proved cases; proofs/Table.antt states the cases over the definitions of the crates below.
+pub mod Lists
