@@ -1,26 +1,25 @@
 -- What calls, find and readings answer on the bytes after a list of calls, told by the view after the list. Assumes nothing.
 use Prim.Native.Nat.{ℕ, suc, _^_}
-use mathlib.Core.Path.{_≡_, refl, sym, ap, _∙_, subst}
-use mathlib.Core.Option.{none}
-use mathlib.Core.Bool.{Bool, true, false, not, _&&_}
-use mathlib.Core.List.{List, [], _∷_, _++_}
+use mathlib.Core.Path.{_≡_, sym, ap, _∙_, subst}
+use mathlib.Core.Bool.{Bool, true, false, _&&_}
+use mathlib.Core.List.{List, [], _∷_}
 use lib.Dec.{T, ltb, ltb→lt, T-not}
 use lib.ListN.{length}
 use borrow.Author.Tests.{eq-eqb, lt-ltb}
-use Rattle.memory.specs.Loops.{oneIf, count}
+use Rattle.memory.specs.Loops.{count}
 use Rattle.graph.specs.Side.{Side, left, right}
 use Rattle.graph.specs.Vector.{width}
 use Rattle.graph.proofs.Tests.{and-fst, and-snd, not-T-false}
 use Rattle.protocol.specs.Message.{Msg, sideNumber, among}
 use Rattle.protocol.specs.Numbering.{somePending}
 use Rattle.protocol.specs.State.{open-phase, Meaning, isFree, seated}
-use Rattle.protocol.specs.Table.{Call, join, leave, deliver, turn, first, isPending}
+use Rattle.protocol.specs.Table.{Call, join, leave, deliver, turn, first}
 use Rattle.protocol.specs.Sound.{Sound, numberBits}
 use Rattle.protocol.specs.Run.{logOf, AllInRange}
 use Rattle.protocol.proofs.Numbering.{pending-none}
 use Rattle.record.specs.Layout.{seats, levels, size}
 use Rattle.record.specs.Meaning.{rosterIn, bytesOf, phaseByte, linkByte}
-use Rattle.record.specs.Reading.{openRefusal, readLot, LinkAnswer, readLink, readMessage, CountAnswer, readCounts}
+use Rattle.record.specs.Reading.{openRefusal, readLot, readLink, readMessage, readCounts}
 use Rattle.record.proofs.Places.{length-bytesOf}
 use Rattle.record.proofs.Form.{meaning-roster}
 use Rattle.record.proofs.Round.{meaning-bytes}
@@ -29,7 +28,7 @@ use Rattle.outcome.specs.Made.{Outcome, made}
 use Rattle.outcome.proofs.Bridge.{made-call, refused-same}
 use Rattle.search.specs.Walk.{find}
 use Rattle.find.specs.Find.{findRefusal, findIn}
-use Rattle.runs.specs.Run.{Standing, step, steps, run, lotOf}
+use Rattle.runs.specs.Run.{run, lotOf}
 use Rattle.runs.specs.Run as runs
 use Rattle.runs.proofs.Readings.{countsOf, read-lot, read-link, read-message, read-counts, count-none}
 use Rattle.cases.proofs.View.{View, meant, viewRefusal, viewCall, view-call}
@@ -78,7 +77,9 @@ module _ (l : List ℕ) (e : openRefusal l ≡ 0) (cs : List Call) (t : T (fits 
   at f = ap f (seen-bytes l e cs (fits-in cs t))
 
   made-seen : (c : Call) → made (run l cs .now) c ≡ record { refused = viewRefusal v c; bytes = bytesOf (meant (viewCall v c)) }
-  made-seen c = at (λ b. made b c) ∙ made-call (meant v) h c ∙ λ i. record { refused = view-call v h c i .refused; bytes = bytesOf (view-call v h c i .meaning) }
+  made-seen c =
+      at (λ b. made b c) ∙ made-call (meant v) h c
+      ∙ λ i. record { refused = view-call v h c i .refused; bytes = bytesOf (view-call v h c i .meaning) }
 
   -- a refused call leaves every byte
   pub refused-seen : (c : Call) (n : ℕ) → viewRefusal v c ≡ suc n → made (run l cs .now) c ≡ record { refused = suc n; bytes = run l cs .now }

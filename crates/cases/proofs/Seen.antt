@@ -38,10 +38,13 @@ least (m ∷ l) (some n) = leb (place seats width n) (place seats width m) && le
 least-among : (l : List Msg) (n : Msg) → T (least l (some n)) → (m : Msg) → T (among l m) → place seats width n ≤ place seats width m
 unfolding least among
 least-among [] n t m u = absurd u
-least-among (k ∷ l) n t m u = by (or-cases (sameMsg k m) (among l m) u) (λ w. least-among l n (and-snd (leb (place seats width n) (place seats width k)) _ t) m w)
+least-among (k ∷ l) n t m u =
+    by (or-cases (sameMsg k m) (among l m) u) (λ w. least-among l n (and-snd (leb (place seats width n) (place seats width k)) _ t) m w)
   where
     by : T (sameMsg k m) ⊎ T (among l m) → (T (among l m) → place seats width n ≤ place seats width m) → place seats width n ≤ place seats width m
-    by (inl w) ih = subst (λ (j : Msg). place seats width n ≤ place seats width j) (same-eq k m w) (leb→le _ _ (and-fst (leb (place seats width n) (place seats width k)) _ t))
+    by (inl w) ih =
+        let q = leb→le _ _ (and-fst (leb (place seats width n) (place seats width k)) _ t) in
+        subst (λ (j : Msg). place seats width n ≤ place seats width j) (same-eq k m w) q
     by (inr w) ih = ih w
 
 least-smallest : (l : List Msg) (o : Option Msg) → T (least l o) → Smallest (among l) o
@@ -73,7 +76,8 @@ record Shows (t : protocol.Standing) (s : Seen) : Type 0 where
   log : logOf (t .history) ≡ s .log
   order : T (s .ordered) → InOrder (t .history)
 
-shows-steps : (cs : List Call) (t : protocol.Standing) (s : Seen) → AllInRange seats width cs → Shows t s → Shows (protocol.steps seats width t cs) (look s cs)
+shows-steps : (cs : List Call) (t : protocol.Standing) (s : Seen) → AllInRange seats width cs → Shows t s
+    → Shows (protocol.steps seats width t cs) (look s cs)
 unfolding look protocol.steps protocol.step logOf
 shows-steps [] t s r h = h
 shows-steps (c ∷ cs) t s r h = shows-steps cs _ _ (r .1) (record {
@@ -81,7 +85,8 @@ shows-steps (c ∷ cs) t s r h = shows-steps cs _ _ (r .1) (record {
   now = ap (λ (o : Outcome). o .meaning) both;
   log = λ i. record { made = c; refused = both i .refused } ∷ h .log i;
   order = λ u. (
-    subst (λ (M : Meaning). Smallest (M .pending) (takes c)) (sym (h .now)) (least-smallest (s .view .pending) (takes c) (and-fst (least (s .view .pending) (takes c)) _ u)),
+    subst (λ (M : Meaning). Smallest (M .pending) (takes c)) (sym (h .now))
+        (least-smallest (s .view .pending) (takes c) (and-fst (least (s .view .pending) (takes c)) _ u)),
     h .order (and-snd (least (s .view .pending) (takes c)) _ u));
 })
   where

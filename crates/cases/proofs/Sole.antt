@@ -1,9 +1,9 @@
 -- When a sole lot has left, the view's meaning is that of an opened record. Assumes nothing.
 use Prim.Native.Nat.{ℕ}
 use mathlib.Core.Path.{_≡_, refl}
-use mathlib.Core.Option.{Option, none}
+use mathlib.Core.Option.{none}
 use mathlib.Core.Bool.{Bool, true, false, cond}
-use mathlib.Core.List.{[], _∷_, _++_}
+use mathlib.Core.List.{[], _∷_}
 use lib.Dec.{eqb}
 use Rattle.protocol.specs.Message.{among}
 use Rattle.protocol.specs.Numbering.{any}
@@ -35,8 +35,8 @@ gone-link true r = refl
 gone-link false r = refl
 
 pub sole-gone : meant (seen lCalls .view) ≡ opened
-unfolding lCalls seen look without viewRefusal viewAfter viewCall nobody opened refusal rows first any rosterAfter afterTurn freed at sends turnSends farewells farewell
-    each takes isTaken linksAfter turnLinks unlinked unlessRefused toLink among
+unfolding lCalls seen look without viewRefusal viewAfter viewCall nobody opened refusal rows first any rosterAfter afterTurn freed at
+    sends turnSends farewells farewell each takes isTaken linksAfter turnLinks unlinked unlessRefused toLink among
 sole-gone = λ i. record {
   roster = record {
     phase = open-phase;

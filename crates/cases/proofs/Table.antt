@@ -68,7 +68,9 @@ pub record Cases (l : List ℕ) : Type 0 where
   pub j-done : Lot100 l (jCalls ++ deliver (name 1 0 2 0 0) ∷ []) 1 (meet 1 2 0 ∷ [])
   -- (k) Q, leave 1, turn, deliver all, turn:
   pub k : Settles l kCalls 2
-  pub k-lots : (readLot (run l kCalls .now) 0 ≡ lot 0 1 100 0) × (readLot (run l kCalls .now) 1 ≡ lot 8 0 0 0) × (readLot (run l kCalls .now) 2 ≡ lot 0 1 300 64)
+  pub k-lots : (readLot (run l kCalls .now) 0 ≡ lot 0 1 100 0)
+      × (readLot (run l kCalls .now) 1 ≡ lot 8 0 0 0)
+      × (readLot (run l kCalls .now) 2 ≡ lot 0 1 300 64)
   -- both level 0 and level 1 read 100 300
   pub k-level-0 : LinksOf (run l kCalls .now) 0 0 255 2 × LinksOf (run l kCalls .now) 2 0 0 255
   pub k-level-1 : LinksOf (run l kCalls .now) 0 1 255 2 × LinksOf (run l kCalls .now) 2 1 0 255
@@ -77,9 +79,11 @@ pub record Cases (l : List ℕ) : Type 0 where
   pub sole-bytes : run l lCalls .now ≡ bytesOf opened
 
 pub cases : (l : List ℕ) → openRefusal l ≡ 0 → Cases l
-unfolding qCalls iCalls jCalls kCalls lCalls fits accepted seen look least without viewRefusal viewAfter viewCall find path walk stepAt along holderAt lotOf count
-    nobody refusal rows first any place isPending rosterAfter afterTurn freed at sends turnSends deliverySends farewells farewell each takes isTaken linksAfter deliveryLinks turnLinks applied unlinked
-    unlessRefused rule effect setting meeting probing pulling parting passing seeking toLink onSide sideOf bit equalBits shared named ifZero ifBit sameMsg among
+unfolding qCalls iCalls jCalls kCalls lCalls fits accepted seen look least without viewRefusal viewAfter viewCall
+    find path walk stepAt along holderAt lotOf count nobody refusal rows first any place isPending unlessRefused
+    rosterAfter afterTurn freed at sends turnSends deliverySends farewells farewell each takes isTaken
+    linksAfter deliveryLinks turnLinks applied unlinked rule effect setting meeting probing pulling parting passing seeking toLink
+    onSide sideOf bit equalBits shared named ifZero ifBit sameMsg among
 cases l o = record {
   a = (refl, refl, refl);
   q = settles-seen l o qCalls tt 3 refl tt refl refl refl;

@@ -1,8 +1,8 @@
 -- A small view of a meaning, in which the pending messages are a short list, so that the worked cases evaluate; a call on a view is the
 -- call on its meaning. Assumes nothing.
 use Prim.Native.Nat.{ℕ, zero, suc}
-use mathlib.Core.Path.{_≡_, refl, sym, ap, _∙_, fun-ext, subst}
-use mathlib.Core.Option.{Option, none}
+use mathlib.Core.Path.{_≡_, refl, sym, ap, _∙_, fun-ext}
+use mathlib.Core.Option.{Option}
 use mathlib.Core.Bool.{Bool, true, false, not, cond, _&&_, _||_}
 use mathlib.Core.List.{List, [], _∷_, _++_}
 use lib.Dec.{T}
@@ -13,7 +13,7 @@ use Rattle.protocol.specs.Message.{Msg, sameMsg, among}
 use Rattle.protocol.specs.Numbering.{exists, somePending}
 use Rattle.protocol.specs.State.{Roster, Meaning}
 use Rattle.protocol.specs.Table.{Call, join, leave, deliver, turn, row, first, rows, refusal}
-use Rattle.protocol.specs.Calls.{rosterAfter, linksAfter, sends, takes, isTaken, pendingAfter, unlessRefused, Outcome, accept, call}
+use Rattle.protocol.specs.Calls.{rosterAfter, linksAfter, sends, takes, isTaken, pendingAfter, unlessRefused, accept, call}
 use Rattle.protocol.specs.Sound.{Sound}
 use Rattle.protocol.proofs.Message.{same-eq, same-self}
 use Rattle.protocol.proofs.Numbering.{none-pending, pending-none}
