@@ -2,3 +2,4 @@
 pub mod Same
 pub mod Readings
 pub mod Theorem
+pub mod Right

@@ -4,11 +4,12 @@ ghost use mathlib.Core.Path.{_≡_};
 ghost use mathlib.Core.Bool.{_&&_};
 ghost use lib.ListN.{length};
 ghost use Rattle.record.specs.Layout.{size};
+ghost use Rattle.record.specs.Reading.{recordRefusal};
 ghost use Rattle.record.specs.Sound.{numbersDiffer, linksFit, messagesFit, sound};
 
 mod entries;
 mod links;
-mod lots;
+pub mod lots;
 mod messages;
 
 use entries::numbers_differ;
@@ -18,6 +19,12 @@ use entries::states_fit;
 use entries::unused_fit;
 use links::links_fit;
 use messages::messages_fit;
+use record::SIZE;
+
+// The first refusals of the table.
+const WRONG_SIZE: u8 = 1;
+
+const UNSOUND: u8 = 2;
 
 // The clauses on seated lots. Their numbers are read once.
 fn lots_fit(rec: &[u8]) -> bool
@@ -34,4 +41,17 @@ pub fn is_sound(rec: &[u8]) -> bool
     ensures { λ r. ⌜ r ≡ sound (now (rec .entry)) ⌝ }
 {
     phase_fits(rec) && (states_fit(rec) && (unused_fit(rec) && lots_fit(rec)))
+}
+
+// The record's own refusal, in front of every call but open: 1 wrong size, 2 unsound, or 0.
+pub fn record_refusal(rec: &[u8]) -> u8
+    ensures { λ r. ⌜ r ≡ recordRefusal (now (rec .entry)) ⌝ }
+{
+    if rec.len() != SIZE {
+        return WRONG_SIZE;
+    }
+    if !is_sound(rec) {
+        return UNSOUND;
+    }
+    0
 }

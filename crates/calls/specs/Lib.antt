@@ -1,0 +1,1 @@
+-- The calls' contracts cite outcome's specs alone.

@@ -1,0 +1,32 @@
+-- `delivery::places::probe_place` meets its contract. Assumes nothing.
+use mathlib.Core.Path.{refl}
+use native.Mathlib.Omega.{arith}
+use Rattle.protocol.specs.Numbering.{place}
+use borrow.Author.Needs.{needs}
+use Rattle.delivery.proofs.places.probe_place.Statement.{statement}
+use Rattle.delivery.proofs.places.probe_place.Tie as tie
+use Rattle.delivery.proofs.places.probe_place.Reads as reads
+use Rattle.delivery.proofs.places.probe_place.Lts as lts
+
+mul-result : tie.Need-mul-result
+mul-result c = search needs
+
+add-result : tie.Need-add-result
+add-result c = search needs
+
+mul-result-2 : tie.Need-mul-result-2
+mul-result-2 c = search needs
+
+add-result-2 : tie.Need-add-result-2
+add-result-2 c = search needs
+
+add-result-3 : tie.Need-add-result-3
+add-result-3 c = search needs
+
+returns : tie.Need-returns
+unfolding place
+returns c = (refl, omega arith)
+
+pub probe-place-spec : {M : Type 1} → statement M
+probe-place-spec =
+    tie.close (tie.spec mul-result add-result mul-result-2 add-result-2 add-result-3 returns)

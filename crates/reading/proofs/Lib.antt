@@ -1,0 +1,4 @@
+-- Why open and the readings answer what their definitions say.
+pub mod Filled
+pub mod Refusals
+pub mod Values

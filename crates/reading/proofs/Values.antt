@@ -1,0 +1,73 @@
+-- What the readings of an accepted record give, by its bytes; and a refused reading as its answer. Assumes nothing.
+use Prim.Native.Nat.{ℕ, zero, suc, _+_, _*_, _<_}
+use mathlib.Core.Path.{_≡_, refl, ap, _∙_}
+use mathlib.Core.Logic.{_≢_, inl, inr, ⊎-elim}
+use mathlib.Core.List.{List}
+use lib.ListN.{getD}
+use borrow.Author.Tests.{ne-eqb}
+use Rattle.memory.specs.Bytes.{numberAt}
+use Rattle.memory.specs.Bits.{bitSet}
+use Rattle.memory.specs.Loops.{count}
+use Rattle.protocol.specs.State.{seated}
+use Rattle.record.specs.Layout.{seats, levels, messages, phaseAt, entryAt, stateAt, numberFrom, vectorAt, linkAt, pendingFrom}
+use Rattle.record.specs.Meaning.{meaning, rosterIn, linkByte}
+use Rattle.record.specs.Reading.{sideOfNumber}
+use Rattle.record.specs.Reading.{recordRefusal, lotRefusal, linkRefusal, readLot, readLink, readCounts}
+use Rattle.record.proofs.Places.{sideNumber-side}
+use Rattle.record.proofs.Values.{phaseByte-phaseOf, stateByte-stateOf, linkByte-linkOf}
+use Rattle.record.proofs.Form.{meaning-roster, meaning-state, meaning-number, meaning-vector, meaning-link}
+use Rattle.record.proofs.Clauses.{Fits, sound-fits}
+use Rattle.record.proofs.Reading.{record-accepted, lot-read, link-read}
+use Rattle.reading.specs.declared.LotRead.the-variants as lot
+use Rattle.reading.specs.declared.LinkRead.the-variants as link
+use Rattle.reading.specs.declared.CountsRead.the-variants as counts
+use Rattle.reading.specs.Answer.{lotOf, lotAnswered, linkOf, linkAnswered, countsOf, countsAnswered}
+use Rattle.reading.proofs.Refusals.{Accepted, Lot}
+
+module _ (l : List ℕ) where
+  fits : Accepted l → Fits l
+  fits a = sound-fits l .0 (a .fine)
+
+  -- a lot
+  pub lot-refused : (s n : ℕ) → n ≡ lotRefusal l s → n ≢ 0 → lot.Refused n ≡ lotAnswered (readLot l s)
+  unfolding readLot lotAnswered lotOf
+  lot-refused s zero e h = absurd (h refl)
+  lot-refused s (suc n) e h = rw (← e, ne-eqb (suc n) 0 h)
+
+  pub lot-values : (s : ℕ) → Lot l s
+      → lot.Seated (getD l (stateAt s) 0) (numberAt l (numberFrom s) 8) (getD l (vectorAt s) 0) ≡ lotAnswered (readLot l s)
+  unfolding lotAnswered lotOf
+  lot-values s a =
+      let h = a .seat in
+      let read = lot-read l (a .accepted .sized) (a .accepted .fine) s h (rw (meaning-roster l) (a .lot)) in
+      let state = stateByte-stateOf (getD l (stateAt s) 0) (fits (a .accepted) .states s h) in
+      rw (read, meaning-state l s h, state, meaning-number l s h, meaning-vector l s h)
+
+  -- a link
+  pub link-refused : (s k d n : ℕ) → n ≡ linkRefusal l s k d → n ≢ 0 → link.Refused n ≡ linkAnswered (readLink l s k d)
+  unfolding readLink linkAnswered linkOf
+  link-refused s k d zero e h = absurd (h refl)
+  link-refused s k d (suc n) e h = rw (← e, ne-eqb (suc n) 0 h)
+
+  pub link-values : (s k d : ℕ) → Lot l s → k < levels → d < 2
+      → link.Link (getD l (entryAt s + 10 + 2 * k + d) 0) ≡ linkAnswered (readLink l s k d)
+  unfolding linkAnswered linkOf
+  link-values s k d a g q =
+      let h = a .seat in
+      let side = sideOfNumber d in
+      let read = link-read l (a .accepted .sized) (a .accepted .fine) s h (rw (meaning-roster l) (a .lot)) k side g in
+      let byte = linkByte-linkOf (getD l (linkAt s k side) 0) (⊎-elim (λ e. inl e) (λ f. inr (f .0)) (fits (a .accepted) .links s k side h g)) in
+      let value : linkByte (meaning l .link s k side) ≡ getD l (entryAt s + 10 + 2 * k + d) 0
+      = ap linkByte (meaning-link l s k side h g) ∙ byte ∙ ap (λ (n : ℕ). getD l (entryAt s + 10 + 2 * k + n) 0) (sideNumber-side d q) in
+      rw (← value, rw (sideNumber-side d q) at read)
+
+  -- the counts
+  pub counts-refused : (n : ℕ) → n ≡ recordRefusal l → n ≢ 0 → counts.Refused n ≡ countsAnswered (readCounts l)
+  unfolding readCounts countsAnswered countsOf
+  counts-refused zero e h = absurd (h refl)
+  counts-refused (suc n) e h = rw (← e, ne-eqb (suc n) 0 h)
+
+  pub counts-values : Accepted l
+      → counts.Counted (count seats (seated (rosterIn l))) (getD l phaseAt 0) (count messages (bitSet l pendingFrom)) ≡ countsAnswered (readCounts l)
+  unfolding readCounts countsAnswered countsOf rosterIn
+  counts-values a = rw (record-accepted l (a .sized) (a .fine), phaseByte-phaseOf (getD l phaseAt 0) (fits a .phase))

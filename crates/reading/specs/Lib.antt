@@ -1,0 +1,3 @@
+-- The answers of the readings, and what the inner functions of open promise.
+pub mod Answer
+pub mod Filled

@@ -1,0 +1,265 @@
+// Turn (document 01, "Calls"): into phase clearing, or out of it.
+ghost use mathlib.Core.Path.{_≡_};
+ghost use Prim.Native.Nat.{ℕ, _+_, _*_, _-_, _<_};
+ghost use lib.ListN.{length, getD};
+ghost use Rattle.graph.specs.Vector.{width};
+ghost use Rattle.protocol.specs.Message.{going};
+ghost use Rattle.protocol.specs.Numbering.{any, place, somePending};
+ghost use Rattle.protocol.specs.Table.{turn as turning};
+ghost use Rattle.protocol.specs.State.{leaves};
+ghost use Rattle.protocol.specs.Calls.{farewell, farewells, accept};
+ghost use Rattle.record.specs.Layout.{seats, levels, size, entryAt};
+ghost use Rattle.record.specs.Meaning.{rosterIn, meaning};
+ghost use Rattle.record.specs.Reading.{sideOfNumber, recordRefusal};
+ghost use Rattle.outcome.specs.Made.{madeRefusal, made};
+ghost use Rattle.outcome.specs.Answer.{told, answered};
+ghost use Rattle.turn.specs.Steps.{Step, same, saying, lotFarewells, farewellsFrom, linkGoes, linkPlace, relinked, freedTo, begun, ended};
+use outcome::Answer;
+use record::LEVELS;
+use record::NONE;
+use record::PENDING;
+use record::SEATS;
+use record::SIZE;
+
+// The width of a vector, one less than the levels.
+const WIDTH: usize = LEVELS - 1;
+
+// The phases.
+const OPEN: u8 = 0;
+
+const CLEARING: u8 = 1;
+
+// The states up to staying; above it is leaving.
+const FREE: u8 = 0;
+
+const STAYING: u8 = 1;
+
+// The refusals of a turn.
+const WRONG_SIZE: u8 = 1;
+
+const UNSOUND: u8 = 2;
+
+const MESSAGES_LEFT: u8 = 11;
+
+// The sides.
+const LEFT: usize = 0;
+
+const RIGHT: usize = 1;
+
+// Where the places of GOING start: after MEET, PROBE and PULL.
+const GOING: usize = SEATS * SEATS * LEVELS + SEATS * SEATS * WIDTH + SEATS * 2 * WIDTH * 2;
+
+fn is_leaving(rec: &[u8], s: usize) -> bool
+    requires { ⌜ (length (now rec) ≡ size) × (s < seats) ⌝ }
+    ensures { λ r. ⌜ r ≡ leaves (rosterIn (now (rec .entry))) s ⌝ }
+{
+    record::state(rec, s) > STAYING
+}
+
+fn has_leaver(rec: &[u8]) -> bool
+    requires { ⌜ length (now rec) ≡ size ⌝ }
+    ensures { λ r. ⌜ r ≡ any seats (leaves (rosterIn (now (rec .entry)))) ⌝ }
+{
+    for s in 0..SEATS {
+        if is_leaving(rec, s) {
+            return true;
+        }
+    }
+    false
+}
+
+// The link of seat s at level k on side d as a number.
+fn link(rec: &[u8], s: usize, k: usize, d: usize) -> usize
+    requires { ⌜ (length (now rec) ≡ size) × (s < seats) × (k < levels) × (d < 2) ⌝ }
+    ensures { λ r. ⌜ r ≡ getD (now (rec .entry)) (entryAt s + 10 + 2 * k + d) 0 ⌝ }
+{
+    record::link(rec, s, k, d) as usize
+}
+
+// The place of GOING to a lot, with the side where the leaver sits.
+fn going_place(to: usize, k: usize, d: usize) -> usize
+    requires { ⌜ (to < seats) × (k < levels) × (d < 2) ⌝ }
+    ensures { λ r. ⌜ r ≡ place seats width (going to k (sideOfNumber d)) ⌝ }
+{
+    GOING + (to * LEVELS + k) * 2 + d
+}
+
+// Sends GOING from y to its link at level k on side d, if there is one, with the side on which the receiver has y.
+fn tell(rec: &mut [u8], y: usize, k: usize, d: usize)
+    requires { ⌜ (length (now rec) ≡ size) × (y < seats) × (k < levels) × (d < 2) ⌝ }
+    ensures { λ _. ⌜ Step same (λ M. saying M (farewell (M .link) y k (sideOfNumber d))) (now (rec .entry)) (now (rec .exit)) ⌝ }
+{
+    let to = link(rec, y, k, d);
+    if to < SEATS {
+        record::send(rec, going_place(to, k, 1 - d));
+    }
+}
+
+fn tell_links(rec: &mut [u8], y: usize)
+    requires { ⌜ (length (now rec) ≡ size) × (y < seats) ⌝ }
+    ensures { λ _. ⌜ Step same (λ M. saying M (lotFarewells (M .link) y)) (now (rec .entry)) (now (rec .exit)) ⌝ }
+{
+    for k in 0..LEVELS {
+        tell(rec, y, k, LEFT);
+        tell(rec, y, k, RIGHT);
+    }
+}
+
+fn tell_if_leaving(rec: &mut [u8], y: usize)
+    requires { ⌜ (length (now rec) ≡ size) × (y < seats) ⌝ }
+    ensures { λ _. ⌜ Step same (λ M. saying M (farewellsFrom M y)) (now (rec .entry)) (now (rec .exit)) ⌝ }
+{
+    if is_leaving(rec, y) {
+        tell_links(rec, y);
+    }
+}
+
+// Every leaver sends GOING to each of its links.
+fn tell_all(rec: &mut [u8])
+    requires { ⌜ length (now rec) ≡ size ⌝ }
+    ensures { λ _. ⌜ Step same (λ M. saying M (farewells seats width (M .roster) (M .link))) (now (rec .entry)) (now (rec .exit)) ⌝ }
+{
+    for y in 0..SEATS {
+        tell_if_leaving(rec, y);
+    }
+}
+
+// Whether a link from x that is y becomes none: it names a seat, and one of the two is freed.
+fn parts(rec: &[u8], x: usize, y: usize) -> bool
+    requires { ⌜ (length (now rec) ≡ size) × (x < seats) ⌝ }
+    ensures { λ r. ⌜ r ≡ linkGoes (now (rec .entry)) x y ⌝ }
+{
+    y < SEATS && (is_leaving(rec, x) || is_leaving(rec, y))
+}
+
+// Makes the link of x at level k on side d none if x or the lot that it names leaves.
+fn unlink(rec: &mut [u8], x: usize, k: usize, d: usize)
+    requires { ⌜ (length (now rec) ≡ size) × (x < seats) × (k < levels) × (d < 2) ⌝ }
+    ensures { λ _. ⌜ Step (relinked (linkPlace x k d)) (relinked (linkPlace x k d + 1)) (now (rec .entry)) (now (rec .exit)) ⌝ }
+{
+    let y = link(rec, x, k, d);
+    if parts(rec, x, y) {
+        record::set_link(rec, x, k, d, NONE);
+    }
+}
+
+fn unlink_lot(rec: &mut [u8], x: usize)
+    requires { ⌜ (length (now rec) ≡ size) × (x < seats) ⌝ }
+    ensures { λ _. ⌜ Step (relinked (linkPlace x 0 0)) (relinked (linkPlace (x + 1) 0 0)) (now (rec .entry)) (now (rec .exit)) ⌝ }
+{
+    for k in 0..LEVELS {
+        unlink(rec, x, k, LEFT);
+        unlink(rec, x, k, RIGHT);
+    }
+}
+
+// Makes the links of leavers, and all links to leavers, none.
+fn unlink_all(rec: &mut [u8])
+    requires { ⌜ length (now rec) ≡ size ⌝ }
+    ensures { λ _. ⌜ Step same (relinked (linkPlace seats 0 0)) (now (rec .entry)) (now (rec .exit)) ⌝ }
+{
+    for x in 0..SEATS {
+        unlink_lot(rec, x);
+    }
+}
+
+// Frees seat s if its lot leaves; its links are none already.
+fn free_seat(rec: &mut [u8], s: usize)
+    requires { ⌜ (length (now rec) ≡ size) × (s < seats) ⌝ }
+    ensures { λ _. ⌜ Step (freedTo s) (freedTo (s + 1)) (now (rec .entry)) (now (rec .exit)) ⌝ }
+{
+    if is_leaving(rec, s) {
+        record::set_state(rec, s, FREE);
+        record::set_number(rec, s, 0);
+        record::set_vector(rec, s, 0);
+    }
+}
+
+fn free_all(rec: &mut [u8])
+    requires { ⌜ length (now rec) ≡ size ⌝ }
+    ensures { λ _. ⌜ Step same (freedTo seats) (now (rec .entry)) (now (rec .exit)) ⌝ }
+{
+    for s in 0..SEATS {
+        free_seat(rec, s);
+    }
+}
+
+// Into phase clearing: GOING to the links of the leavers.
+fn begin_clearing(rec: &mut [u8])
+    requires { ⌜ length (now rec) ≡ size ⌝ }
+    ensures { λ _. ⌜ Step same begun (now (rec .entry)) (now (rec .exit)) ⌝ }
+{
+    tell_all(rec);
+    record::set_phase(rec, CLEARING);
+}
+
+// Out of it: the leavers' seats become free. Links are tested while the leavers still sit.
+fn end_clearing(rec: &mut [u8])
+    requires { ⌜ length (now rec) ≡ size ⌝ }
+    ensures { λ _. ⌜ Step same ended (now (rec .entry)) (now (rec .exit)) ⌝ }
+{
+    unlink_all(rec);
+    free_all(rec);
+    record::set_phase(rec, OPEN);
+}
+
+// What an accepted turn does.
+fn carry_out(rec: &mut [u8])
+    requires { ⌜ length (now rec) ≡ size ⌝ }
+    ensures { λ _. ⌜ Step same (λ M. accept seats width M turning) (now (rec .entry)) (now (rec .exit)) ⌝ }
+{
+    if record::phase(rec) != OPEN {
+        end_clearing(rec);
+        return;
+    }
+    if has_leaver(rec) {
+        begin_clearing(rec);
+    }
+}
+
+// 1 wrong size, 2 unsound, or 0.
+fn record_refusal(rec: &[u8]) -> u8
+    ensures { λ r. ⌜ r ≡ recordRefusal (now (rec .entry)) ⌝ }
+{
+    if rec.len() != SIZE {
+        return WRONG_SIZE;
+    }
+    if !soundness::is_sound(rec) {
+        return UNSOUND;
+    }
+    0
+}
+
+fn has_pending(rec: &[u8]) -> bool
+    requires { ⌜ length (now rec) ≡ size ⌝ }
+    ensures { λ r. ⌜ r ≡ somePending seats width (meaning (now (rec .entry)) .pending) ⌝ }
+{
+    !memory::zero_range(rec, PENDING, SIZE - PENDING)
+}
+
+// The refusal number of a turn, 0 if it is accepted.
+fn turn_refusal(rec: &[u8]) -> u8
+    ensures { λ r. ⌜ r ≡ madeRefusal (now (rec .entry)) turning ⌝ }
+{
+    let n = record_refusal(rec);
+    if n != 0 {
+        return n;
+    }
+    if has_pending(rec) {
+        return MESSAGES_LEFT;
+    }
+    0
+}
+
+// In phase open with leavers: phase clearing, and every leaver sends GOING to each of its links; without leavers nothing changes. In phase
+// clearing: the leavers' seats become free, a link to one becomes none, phase open. Refused by 1, 2, 11, in this order.
+pub fn turn(rec: &mut [u8]) -> Answer
+    ensures { λ r. ⌜ told r (now (rec .exit)) ≡ answered (made (now (rec .entry)) turning) ⌝ }
+{
+    let n = turn_refusal(rec);
+    if n != 0 {
+        return outcome::answer_of(n);
+    }
+    carry_out(rec);
+    Answer::Done
+}
