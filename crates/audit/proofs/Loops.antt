@@ -7,7 +7,7 @@ use native.Mathlib.Numerals.{add-one}
 use Rattle.memory.specs.Loops.{all}
 use Rattle.search.specs.Check.{every}
 use Rattle.search.proofs.Count.{count}
-use Rattle.soundness.proofs.Tests.{all-stop, all-go, all-end}
+use Rattle.roster.proofs.Tests.{all-stop, all-go, all-end}
 
 -- `every` is `all`
 every-all : (n : ℕ) (p : ℕ → Bool) → every n p ≡ all n p

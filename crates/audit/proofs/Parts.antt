@@ -18,7 +18,7 @@ use Rattle.record.specs.Meaning.{linkOf, rosterIn, meaning}
 use Rattle.record.specs.Reading.{sideOfNumber}
 use Rattle.search.specs.Check.{sameLink}
 use Rattle.search.proofs.LocalCheck.{backOf, leftmost, follow, upOn}
-use Rattle.soundness.proofs.Roster.{clearing-byte, seated-byte, stays-byte}
+use Rattle.roster.proofs.Bytes.{clearing-byte, seated-byte, stays-byte}
 use Rattle.audit.proofs.Read.{linkOf-some, linkOf-none, link-read, link-back}
 
 -- two links by their bytes

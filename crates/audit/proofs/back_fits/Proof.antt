@@ -2,7 +2,7 @@
 use Prim.Native.Nat.{ℕ}
 use mathlib.Core.Path.{ap}
 use lib.Dec.{eqb}
-use Rattle.soundness.proofs.Tests.{and-stop, and-go}
+use Rattle.roster.proofs.Tests.{and-stop, and-go}
 use Rattle.audit.proofs.Parts.{back-none, back-some}
 use borrow.Author.Needs.{needs}
 use Rattle.audit.proofs.back_fits.Statement.{statement}

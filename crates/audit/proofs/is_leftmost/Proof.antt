@@ -3,7 +3,7 @@ use Prim.Native.Nat.{ℕ}
 use mathlib.Core.Path.{ap}
 use lib.Dec.{leb}
 use Rattle.record.specs.Layout.{seats}
-use Rattle.soundness.proofs.Tests.{and-stop, and-go}
+use Rattle.roster.proofs.Tests.{and-stop, and-go}
 use Rattle.audit.proofs.Parts.{leftmost-byte}
 use borrow.Author.Needs.{needs}
 use Rattle.audit.proofs.is_leftmost.Statement.{statement}

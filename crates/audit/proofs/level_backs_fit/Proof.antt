@@ -1,6 +1,6 @@
 -- `audit::level_backs_fit` meets its contract. Assumes nothing.
 use Rattle.search.proofs.LocalCheck.{backAt}
-use Rattle.soundness.proofs.Tests.{and-stop, and-go}
+use Rattle.roster.proofs.Tests.{and-stop, and-go}
 use borrow.Author.Needs.{needs}
 use Rattle.audit.proofs.level_backs_fit.Statement.{statement}
 use Rattle.audit.proofs.level_backs_fit.Tie as tie

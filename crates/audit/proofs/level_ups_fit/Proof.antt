@@ -1,6 +1,6 @@
 -- `audit::level_ups_fit` meets its contract. Assumes nothing.
 use Rattle.search.proofs.LocalCheck.{upAt}
-use Rattle.soundness.proofs.Tests.{and-stop, and-go}
+use Rattle.roster.proofs.Tests.{and-stop, and-go}
 use borrow.Author.Needs.{needs}
 use Rattle.audit.proofs.level_ups_fit.Statement.{statement}
 use Rattle.audit.proofs.level_ups_fit.Tie as tie

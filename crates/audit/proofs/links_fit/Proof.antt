@@ -6,7 +6,7 @@ use Rattle.graph.specs.Vector.{width}
 use Rattle.protocol.specs.State.{members}
 use Rattle.record.specs.Layout.{seats}
 use Rattle.record.specs.Meaning.{rosterIn, meaning}
-use Rattle.soundness.proofs.Tests.{and-stop, and-go}
+use Rattle.roster.proofs.Tests.{and-stop, and-go}
 use Rattle.audit.proofs.Whole.{local-parts}
 use borrow.Author.Needs.{needs}
 use Rattle.audit.proofs.links_fit.Statement.{statement}

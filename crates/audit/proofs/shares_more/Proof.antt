@@ -1,5 +1,5 @@
 -- `audit::shares_more` meets its contract. Assumes nothing.
-use Rattle.soundness.proofs.Roster.{vector-byte}
+use Rattle.roster.proofs.Bytes.{vector-byte}
 use borrow.Author.Needs.{needs}
 use Rattle.audit.proofs.shares_more.Statement.{statement}
 use Rattle.audit.proofs.shares_more.Tie as tie
