@@ -38,7 +38,8 @@ module _ (l : List ℕ) where
   links x k d = meaning l .link x k (sideOfNumber d)
 
   -- a member, by the bytes of state and phase
-  pub member-byte : (s : ℕ) → s < seats → let b = getD l (stateAt s) 0 in member (rosterIn l) s ≡ eqb b 1 || (not (eqb b 0) && eqb (getD l phaseAt 0) 0)
+  pub member-byte : (s : ℕ) → s < seats
+      → let b = getD l (stateAt s) 0 in member (rosterIn l) s ≡ eqb b 1 || (not (eqb b 0) && eqb (getD l phaseAt 0) 0)
   unfolding member
   member-byte s h = rw (clearing-byte l, stays-byte l s h, seated-byte l s h) (by (getD l (stateAt s) 0) (eqb (getD l phaseAt 0) 0))
     where

@@ -16,8 +16,8 @@ ghost use Rattle.search.proofs.Count.{count};
 ghost use Rattle.search.proofs.LocalCheck.{backOf, backAt, leftmost, upOn, upAt, localCheck};
 ghost use Rattle.audit.specs.Check.{checkIn};
 ghost use Rattle.audit.specs.Answer.{answered};
-
-use record::{LEVELS, SEATS};
+use record::LEVELS;
+use record::SEATS;
 
 // What the check answers: a refusal's number, or whether the links are right.
 pub enum Verdict {
@@ -38,7 +38,8 @@ fn is_member(rec: &[u8], s: usize) -> bool
 // Whether the link of x at level k on side d is none, or a member whose link back is x.
 fn back_fits(rec: &[u8], x: usize, k: usize, d: usize) -> bool
     requires { ⌜ (length (now rec) ≡ size) × (x < seats) × (k < levels) × (d < 2) ⌝ }
-    ensures { λ r. ⌜ (let l = now (rec .entry) in r ≡ backOf (members (rosterIn l)) (meaning l .link) x k (sideOfNumber d) (meaning l .link x k (sideOfNumber d))) ⌝ }
+    ensures { λ r. ⌜ (let l = now (rec .entry) in
+        r ≡ backOf (members (rosterIn l)) (meaning l .link) x k (sideOfNumber d) (meaning l .link x k (sideOfNumber d))) ⌝ }
 {
     let y = record::link(rec, x, k, d) as usize;
     if y >= SEATS {
@@ -58,7 +59,8 @@ fn level_backs_fit(rec: &[u8], x: usize, k: usize) -> bool
 // All links of x, if it is a member.
 fn lot_backs_fit(rec: &[u8], x: usize) -> bool
     requires { ⌜ (length (now rec) ≡ size) × (x < seats) ⌝ }
-    ensures { λ r. ⌜ (let l = now (rec .entry) in r ≡ not (member (rosterIn l) x) || every levels (backAt (members (rosterIn l)) (meaning l .link) x)) ⌝ }
+    ensures { λ r. ⌜ (let l = now (rec .entry) in
+        r ≡ not (member (rosterIn l) x) || every levels (backAt (members (rosterIn l)) (meaning l .link) x)) ⌝ }
 {
     if !is_member(rec, x) {
         return true;
@@ -74,7 +76,8 @@ fn lot_backs_fit(rec: &[u8], x: usize) -> bool
 // Constraints 3 and 4: every link of a member names a member and has its link back.
 fn backs_fit(rec: &[u8]) -> bool
     requires { ⌜ length (now rec) ≡ size ⌝ }
-    ensures { λ r. ⌜ (let l = now (rec .entry) in r ≡ every seats (λ x. not (member (rosterIn l) x) || every levels (backAt (members (rosterIn l)) (meaning l .link) x))) ⌝ }
+    ensures { λ r. ⌜ (let l = now (rec .entry) in
+        r ≡ every seats (λ x. not (member (rosterIn l) x) || every levels (backAt (members (rosterIn l)) (meaning l .link) x))) ⌝ }
 {
     for x in 0..SEATS {
         if !lot_backs_fit(rec, x) {
@@ -122,7 +125,8 @@ fn level_ups_fit(rec: &[u8], x: usize, k: usize) -> bool
 // All links of x above level 0, if it is a member.
 fn lot_ups_fit(rec: &[u8], x: usize) -> bool
     requires { ⌜ (length (now rec) ≡ size) × (x < seats) ⌝ }
-    ensures { λ r. ⌜ (let l = now (rec .entry) in r ≡ not (member (rosterIn l) x) || every width (upAt seats width (members (rosterIn l)) (meaning l .link) x)) ⌝ }
+    ensures { λ r. ⌜ (let l = now (rec .entry) in
+        r ≡ not (member (rosterIn l) x) || every width (upAt seats width (members (rosterIn l)) (meaning l .link) x)) ⌝ }
 {
     if !is_member(rec, x) {
         return true;
@@ -138,7 +142,8 @@ fn lot_ups_fit(rec: &[u8], x: usize) -> bool
 // Constraints 5 and 6: each level of a member's links follows from the one below.
 fn ups_fit(rec: &[u8]) -> bool
     requires { ⌜ length (now rec) ≡ size ⌝ }
-    ensures { λ r. ⌜ (let l = now (rec .entry) in r ≡ every seats (λ x. not (member (rosterIn l) x) || every width (upAt seats width (members (rosterIn l)) (meaning l .link) x))) ⌝ }
+    ensures { λ r. ⌜ (let l = now (rec .entry) in
+        r ≡ every seats (λ x. not (member (rosterIn l) x) || every width (upAt seats width (members (rosterIn l)) (meaning l .link) x))) ⌝ }
 {
     for x in 0..SEATS {
         if !lot_ups_fit(rec, x) {

@@ -15,9 +15,8 @@ cast-y : tie.Need-cast-y
 cast-y c = search needs
 
 returns : tie.Need-returns
-returns c = 
-    let s = c .before .before .before .args in
-    back-none (s .rec .now) (s .x) (s .k) (s .d) (c .before .link .result) (search needs) (search needs) (search needs) (c .before .link .ensures) (c .if1 .taken)
+returns c =
+    back-none _ _ _ _ _ (search needs) (search needs) (search needs) (c .before .link .ensures) (c .if1 .taken)
 
 is-member-requires : tie.Need-is-member-requires
 is-member-requires c κs = search needs
@@ -32,17 +31,19 @@ cast-result : tie.Need-cast-result
 cast-result c = search needs
 
 returns-2 : tie.Need-returns-2
-returns-2 c = 
-    let s = c .before .before .before .before .before .before .args in
-    let r = c .before .before .before .before .link in
-    rw (back-some (s .rec .now) (s .x) (s .k) (s .d) (r .result) (search needs) (search needs) (search needs) (r .ensures) (c .before .before .before .if1 .left))
+returns-2 c =
+    let b = c .before .before .before in
+    let s = b .before .before .before .args in
+    let r = b .before .link in
+    rw (back-some (s .rec .now) (s .x) (s .k) (s .d) (r .result) (search needs) (search needs) (search needs) (r .ensures) (b .if1 .left))
     (and-go (c .before .before .is-member .ensures) (c .before .if2 .taken) (ap (λ (z : ℕ). eqb z (s .x)) (c .link2 .ensures)))
 
 returns-3 : tie.Need-returns-3
-returns-3 c = 
-    let s = c .before .before .before .before .before .args in
-    let r = c .before .before .before .link in
-    rw (back-some (s .rec .now) (s .x) (s .k) (s .d) (r .result) (search needs) (search needs) (search needs) (r .ensures) (c .before .before .if1 .left))
+returns-3 c =
+    let b = c .before .before in
+    let s = b .before .before .before .args in
+    let r = b .before .link in
+    rw (back-some (s .rec .now) (s .x) (s .k) (s .d) (r .result) (search needs) (search needs) (search needs) (r .ensures) (b .if1 .left))
     (and-stop _ (c .before .is-member .ensures) (c .if2 .left))
 
 pub back-fits-spec : {M : Type 1} → statement M

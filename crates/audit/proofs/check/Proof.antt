@@ -13,7 +13,8 @@ tested : (c : tie.After-links-fit) → verdictOf 0 (c .links-fit .result) ≡ an
 tested c =
     let s = c .before .before .before in
     let r = c .before .before .record-refusal in
-    answer (s .before .args .rec .now) (r .result) (r .ensures) (λ j. omega (arith, s .shared-slice-known .given j)) (c .before .if1 .left) (c .links-fit .ensures)
+    answer (s .before .args .rec .now) (r .result) (r .ensures) (λ j. omega (arith, s .shared-slice-known .given j))
+    (c .before .if1 .left) (c .links-fit .ensures)
 
 record-refusal-requires : tie.Need-record-refusal-requires
 record-refusal-requires c κs = search needs

@@ -35,14 +35,15 @@ loop-less : tie.Need-loop-less Inv-loop μ-loop
 loop-less c = search needs
 
 loop-again : tie.Need-loop-again Inv-loop μ-loop
-loop-again c = 
-    let p = leftmost (members (rosterIn (c .before .before .before .before .before .args .rec .now))) (meaning (c .before .before .before .before .before .args .rec .now) .link) in
+loop-again c =
+    let l = c .before .before .before .before .before .args .rec .now in
+    let p = leftmost (members (rosterIn l)) (meaning l .link) in
     let x = c .before .before .before .loop .x in
     let e = c .before .is-leftmost .ensures in
     ⊎-elim (λ w. omega (arith, count-pass x p e (w .0 .taken))) (λ w. omega (arith, count-skip x p e (w .0 .left))) (c .if1 .came)
 
 returns : tie.Need-returns Inv-loop μ-loop
-returns c = 
+returns c =
     let o = c .before .loop in
     let l = c .before .before .before .args .rec .now in
     let e : o .x ≡ seats = omega arith in

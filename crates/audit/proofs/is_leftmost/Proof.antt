@@ -19,13 +19,13 @@ cast-result : tie.Need-cast-result
 cast-result c = search needs
 
 returns : tie.Need-returns
-returns c = 
+returns c =
     let s = c .before .before .before .before .args in
     rw (leftmost-byte (s .rec .now) (s .x) (search needs))
     (and-go (c .before .before .is-member .ensures) (c .before .if1 .taken) (ap (λ (y : ℕ). leb seats y) (c .link .ensures)))
 
 returns-2 : tie.Need-returns-2
-returns-2 c = 
+returns-2 c =
     let s = c .before .before .before .args in
     rw (leftmost-byte (s .rec .now) (s .x) (search needs)) (and-stop _ (c .before .is-member .ensures) (c .if1 .left))
 

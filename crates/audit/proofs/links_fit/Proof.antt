@@ -22,7 +22,7 @@ count-leftmost-requires : tie.Need-count-leftmost-requires
 count-leftmost-requires c κs = search needs
 
 returns : tie.Need-returns
-returns c = 
+returns c =
     let l = c .before .before .before .before .before .before .args .rec .now in
     let b = c .before .before .before in
     rw (local-parts seats width (members (rosterIn l)) (meaning l .link))
@@ -30,14 +30,14 @@ returns c =
     (and-go (c .before .before .ups-fit .ensures) (c .before .if2 .taken) (ap (λ (n : ℕ). leb n 1) (c .count-leftmost .ensures))))
 
 returns-2 : tie.Need-returns-2
-returns-2 c = 
+returns-2 c =
     let l = c .before .before .before .before .before .args .rec .now in
     let b = c .before .before in
     rw (local-parts seats width (members (rosterIn l)) (meaning l .link))
     (and-go (b .before .backs-fit .ensures) (b .if1 .taken) (and-stop _ (c .before .ups-fit .ensures) (c .if2 .left)))
 
 returns-3 : tie.Need-returns-3
-returns-3 c = 
+returns-3 c =
     let l = c .before .before .before .args .rec .now in
     rw (local-parts seats width (members (rosterIn l)) (meaning l .link)) (and-stop _ (c .before .backs-fit .ensures) (c .if1 .left))
 

@@ -31,9 +31,10 @@ level-backs-fit-requires : tie.Need-level-backs-fit-requires Inv-loop μ-loop
 level-backs-fit-requires c κs = search needs
 
 returns-2 : tie.Need-returns-2 Inv-loop μ-loop
-returns-2 c = 
+returns-2 c =
     let m = c .before .before .before .before in
-    when-in (m .before .is-member .ensures) (m .if1 .left) (every-stop _ _ _ (c .before .before .loop-test .taken) (c .before .level-backs-fit .ensures) (c .if2 .taken))
+    when-in (m .before .is-member .ensures) (m .if1 .left)
+    (every-stop _ _ _ (c .before .before .loop-test .taken) (c .before .level-backs-fit .ensures) (c .if2 .taken))
 
 add-k : tie.Need-add-k Inv-loop μ-loop
 add-k c = search needs
@@ -45,7 +46,7 @@ loop-again : tie.Need-loop-again Inv-loop μ-loop
 loop-again c = (search needs, every-go _ _ (c .before .before .before .loop .inv .1) (c .before .level-backs-fit .ensures) (c .if2 .left))
 
 returns-3 : tie.Need-returns-3 Inv-loop μ-loop
-returns-3 c = 
+returns-3 c =
     let m = c .before .before in
     when-in (m .before .is-member .ensures) (m .if1 .left) (every-end _ _ _ (c .before .loop .inv .0) (c .loop-test .left) (c .before .loop .inv .1))
 

@@ -17,7 +17,7 @@ cast-result : tie.Need-cast-result
 cast-result c = search needs
 
 returns : tie.Need-returns
-returns c = 
+returns c =
     let s = c .before .before .before .before .args in
     rw (c .share .ensures, c .before .vector2 .ensures, c .before .before .vector .ensures)
     (rw (vector-byte (s .rec .now) (s .x) (search needs), vector-byte (s .rec .now) (s .y) (search needs)))

@@ -14,7 +14,7 @@ use Rattle.audit.proofs.up_fits.Statement.{statement}
 use Rattle.audit.proofs.up_fits.Tie as tie
 
 abbrev Inv-loop : tie.InvT-loop
-Inv-loop rec x k d up y₀ i₀ y i = 
+Inv-loop rec x k d up y₀ i₀ y i =
     (i ≤ seats) × (upOn seats width (members (rosterIn rec)) (meaning rec .link) x k (sideOfNumber d) ≡ UpFrom rec x k d up (seats - i) y)
 
 abbrev μ-loop : tie.MeasureT-loop
@@ -36,7 +36,7 @@ cast-y : tie.Need-cast-y Inv-loop μ-loop
 cast-y c = search needs
 
 loop-holds : tie.Need-loop-holds Inv-loop μ-loop
-loop-holds c = 
+loop-holds c =
     (search needs, up-start _ _ _ _ _ _ (search needs) (search needs) (search needs) (c .before .link .ensures) (c .link2 .ensures))
 
 returns : tie.Need-returns Inv-loop μ-loop
@@ -46,7 +46,7 @@ shares-more-requires : tie.Need-shares-more-requires Inv-loop μ-loop
 shares-more-requires c κs = search needs
 
 returns-2 : tie.Need-returns-2 Inv-loop μ-loop
-returns-2 c = 
+returns-2 c =
     let b = c .before .before .before .before in
     let e : seats - b .loop .i ≡ suc (seats - (b .loop .i + 1)) = omega arith in
     up-here _ _ _ _ _ _ _ (search needs) (sym (c .before .shares-more .ensures) ∙ c .if2 .taken) ∙ sym (rw e at (b .loop .inv .1))
@@ -64,14 +64,14 @@ loop-less : tie.Need-loop-less Inv-loop μ-loop
 loop-less c = search needs
 
 loop-again : tie.Need-loop-again Inv-loop μ-loop
-loop-again c = 
+loop-again c =
     let b = c .before .before .before .before .before in
     let e : seats - b .loop .i ≡ suc (seats - (b .loop .i + 1)) = omega arith in
     let more = sym (c .before .before .shares-more .ensures) ∙ c .before .if2 .left in
     (search needs, (rw e at (b .loop .inv .1)) ∙ up-next _ _ _ _ _ _ _ _ (search needs) (search needs) (search needs) more (c .link3 .ensures))
 
 returns-3 : tie.Need-returns-3 Inv-loop μ-loop
-returns-3 c = 
+returns-3 c =
     let o = c .before .loop in
     let e : seats - o .i ≡ 0 = omega arith in
     up-end _ _ _ _ _ _ ∙ sym (rw e at (o .inv .1))

@@ -14,7 +14,8 @@ use Rattle.audit.proofs.ups_fit.Statement.{statement}
 use Rattle.audit.proofs.ups_fit.Tie as tie
 
 abbrev Inv-loop : tie.InvT-loop
-Inv-loop rec x₀ x = (x ≤ seats) × (every x (λ i. not (member (rosterIn rec) i) || every width (upAt seats width (members (rosterIn rec)) (meaning rec .link) i)) ≡ true)
+Inv-loop rec x₀ x =
+    (x ≤ seats) × (every x (λ i. not (member (rosterIn rec) i) || every width (upAt seats width (members (rosterIn rec)) (meaning rec .link) i)) ≡ true)
 
 abbrev μ-loop : tie.MeasureT-loop
 μ-loop rec x₀ x = seats - x
