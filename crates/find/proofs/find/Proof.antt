@@ -43,7 +43,7 @@ returns c = let b = c .before .before .before in
 search-requires : tie.Need-search-requires
 search-requires c κs = let b = c .before .before .before in
     let l = b .args .rec .now in
-    let p = lot-passed l (b .args .seat) (sym (c .before .lot-refusal .ensures) ∙ c .if1 .left) in
+    let p = lot-passed l (b .args .seat) (c .before .lot-refusal .ensures) (c .if1 .left) in
     (sound-fit l (p .accepted .sized) (λ j. omega (arith, c .before .before .shared-slice-known .given j)) (p .accepted .fine), p .lot)
 
 returns-2 : tie.Need-returns-2
