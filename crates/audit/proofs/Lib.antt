@@ -1,1 +1,6 @@
--- The check on the bytes.
+-- The check on the bytes: what its parts read, that looking only at neighbours is enough on sound bytes, and what the answer says.
+pub mod Read
+pub mod Loops
+pub mod Parts
+pub mod Whole
+pub mod Facts

@@ -17,13 +17,12 @@ ghost use Rattle.record.specs.Layout.{seats, levels, size, stateAt, numberFrom,
 ghost use Rattle.record.specs.Meaning.{rosterIn, meaning, bytesOf};
 ghost use Rattle.outcome.specs.Made.{madeRefusal, made};
 ghost use Rattle.outcome.specs.Answer.{told, answered};
-
 use outcome::Answer;
 use record::LEVELS;
 use record::NONE;
 use record::SEATS;
-use soundness::lots::is_clearing;
-use soundness::lots::is_seated;
+use roster::is_clearing;
+use roster::is_seated;
 use soundness::record_refusal;
 
 // The states of a seated lot.

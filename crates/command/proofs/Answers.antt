@@ -23,7 +23,8 @@ byte-no-more l byte.Wrong g k = refl
 byte-no-more l (byte.Last n) g k = refl
 byte-no-more l (byte.More n at) g k = ⊎-elim (λ e. absurd (omega arith)) (λ e. absurd (omega arith)) k
 
-pub byte-no-last : (l : List ℕ) (r : Byte) (g : ℕ → Option Command) → OneOf (0 ∷ 2 ∷ []) (tagOf bytes.the-type r) → ends (byteRead l r) g ≡ none
+pub byte-no-last : (l : List ℕ) (r : Byte) (g : ℕ → Option Command)
+    → OneOf (0 ∷ 2 ∷ []) (tagOf bytes.the-type r) → ends (byteRead l r) g ≡ none
 byte-no-last l byte.Wrong g k = refl
 byte-no-last l (byte.Last n) g k = ⊎-elim (λ e. absurd (omega arith)) (λ e. absurd (omega arith)) k
 byte-no-last l (byte.More n at) g k = refl
@@ -34,7 +35,8 @@ number-no-more l number.Wrong g k = refl
 number-no-more l (number.Last n) g k = refl
 number-no-more l (number.More n at) g k = ⊎-elim (λ e. absurd (omega arith)) (λ e. absurd (omega arith)) k
 
-pub number-no-last : (l : List ℕ) (r : Number) (g : ℕ → Option Command) → OneOf (0 ∷ 2 ∷ []) (tagOf numbers.the-type r) → ends (numberRead l r) g ≡ none
+pub number-no-last : (l : List ℕ) (r : Number) (g : ℕ → Option Command)
+    → OneOf (0 ∷ 2 ∷ []) (tagOf numbers.the-type r) → ends (numberRead l r) g ≡ none
 number-no-last l number.Wrong g k = refl
 number-no-last l (number.Last n) g k = ⊎-elim (λ e. absurd (omega arith)) (λ e. absurd (omega arith)) k
 number-no-last l (number.More n at) g k = refl

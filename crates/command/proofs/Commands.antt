@@ -1,18 +1,10 @@
--- The command of a letter and the fields after it, as it is read field by field; and which lines have a letter. Assumes nothing.
-use Prim.Native.Nat.{ℕ, _+_, _<_}
-use mathlib.Core.Path.{_≡_, refl, sym, ap, _∙_}
-use mathlib.Core.Bool.{Bool, true, false, cond}
+-- The command of a letter and the fields after it, read field by field. Assumes nothing.
+use Prim.Native.Nat.{ℕ}
+use mathlib.Core.Path.{_≡_, refl}
 use mathlib.Core.Option.{Option, none, some}
 use mathlib.Core.List.{List, [], _∷_}
-use mathlib.Core.Logic.{⊎-elim}
-use native.Mathlib.Omega.{arith}
-use lib.Dec.{eqb}
-use lib.ListN.{length, getD, drop}
-use borrow.Author.Tests.{eq-eqb, ne-eqb}
-use Rattle.command.specs.Command.{Command, join, leave, deliver, find, fields, byteField, numberField, given, isLetter, when, commandOf, parsed}
+use Rattle.command.specs.Command.{Command, join, leave, deliver, find, byteField, numberField, given, commandOf}
 use Rattle.command.specs.Reading.{Read, wrong, last, more, readAs, read}
-use Rattle.command.proofs.Cases.{eq-or-ne}
-use Rattle.command.proofs.Fields.{first, rest, fields-first, first-space, first-byte, rest-space, rest-byte}
 
 -- a number that other fields must follow, and one that none may follow
 abbrev pub next : Read → (ℕ → List (List ℕ) → Option Command) → Option Command

@@ -2,15 +2,15 @@
 use Prim.Native.Nat.{ℕ, zero, suc, _+_, _-_, _*_, _/_, _%_, _^_, _≤_, _<_}
 use mathlib.Core.Path.{_≡_, refl, sym, ap, _∙_}
 use mathlib.Core.Bool.{Bool, true, false, cond}
-use mathlib.Core.Option.{Option, none, some, Option·none-ne-some}
+use mathlib.Core.Option.{none, some, Option·none-ne-some}
 use mathlib.Core.List.{List, [], _∷_, _++_, append-assoc, append-nil}
 use mathlib.Core.Logic.{_⊎_, ⊎-elim, inl, inr}
 use native.Mathlib.Omega.{arith}
 use native.Mathlib.Nat.{pow-suc}
-use lib.Dec.{eqb, ltb, leb}
+use lib.Dec.{eqb, leb}
 use lib.ListN.{length, length-append}
 use borrow.Author.Tests.{lt-ltb, le-ltb, leb-true, eqb-false}
-use Rattle.command.specs.Command.{isDigit, digitsFrom, decimal, fitting}
+use Rattle.command.specs.Command.{isDigit, digitsFrom, decimal}
 use Rattle.command.specs.Text.{shownIn, shown}
 use Rattle.command.proofs.Cases.{lt-or-ge, eq-or-ne, and-left, and-right}
 use Rattle.command.proofs.Reading.{digits-digit, decimal-digits}

@@ -1,7 +1,7 @@
 -- Fields and lines: joining the fields of a line gives the line again, and fields without a space come back from the line that they are
 -- joined to. Assumes nothing.
 use Prim.Native.Nat.{ℕ}
-use mathlib.Core.Path.{_≡_, refl, sym, ap, _∙_}
+use mathlib.Core.Path.{_≡_, refl, ap, _∙_}
 use mathlib.Core.List.{List, [], _∷_, _++_, append-nil}
 use mathlib.Core.Logic.{⊎-elim}
 use Rattle.command.specs.Command.{fields}

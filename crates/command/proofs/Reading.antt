@@ -1,12 +1,12 @@
 -- Reading the first field of a line as a number: what each byte tells. Assumes nothing.
 use Prim.Native.Nat.{ℕ, _+_, _-_, _*_, _^_, _≤_, _<_}
-use mathlib.Core.Path.{_≡_, refl, sym, ap, _∙_}
+use mathlib.Core.Path.{_≡_, refl, sym, _∙_}
 use mathlib.Core.Bool.{Bool, true, false, cond}
 use mathlib.Core.Option.{Option, none, some}
 use mathlib.Core.List.{List, [], _∷_, cons≢nil}
-use mathlib.Core.Logic.{_⊎_, ⊎-elim, inl, inr}
+use mathlib.Core.Logic.{⊎-elim}
 use native.Mathlib.Omega.{arith}
-use lib.Dec.{eqb, ltb, leb}
+use lib.Dec.{ltb}
 use borrow.Author.Tests.{eq-eqb, ne-eqb, le-leb, lt-leb, lt-ltb, le-ltb}
 use Rattle.command.specs.Command.{fields, isDigit, digitsFrom, decimal, fitting, byteField, numberField}
 use Rattle.command.specs.Reading.{Read, wrong, last, more, readAs, read, digitsField}
@@ -112,7 +112,10 @@ narrow (more n after) = cond (ltb n 256) (more n after) wrong
 fitting-byte : (o : Option ℕ) (after : List (List ℕ)) → readAs (fitting 8 o) after ≡ narrow (readAs (fitting 64 o) after)
 unfolding fitting
 fitting-byte none after = refl
-fitting-byte (some n) after = ⊎-elim (λ h. rw (lt-ltb n 256 h, lt-ltb n (2 ^ 64) (omega arith)) (small after h)) (λ h. rw (le-ltb n 256 h) (big after (ltb n (2 ^ 64)) h)) (lt-or-ge n 256)
+fitting-byte (some n) after = ⊎-elim
+    (λ h. rw (lt-ltb n 256 h, lt-ltb n (2 ^ 64) (omega arith)) (small after h))
+    (λ h. rw (le-ltb n 256 h) (big after (ltb n (2 ^ 64)) h))
+    (lt-or-ge n 256)
   where
     small : (after : List (List ℕ)) → n < 256 → readAs (some n) after ≡ narrow (readAs (some n) after)
     small [] h = rw (lt-ltb n 256 h)

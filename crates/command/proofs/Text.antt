@@ -4,14 +4,15 @@ use Prim.Native.Nat.{ℕ, suc, _+_, _^_, _≤_, _<_}
 use mathlib.Core.Path.{_≡_, refl, sym, ap, subst, _∙_}
 use mathlib.Core.Bool.{Bool, true, false, cond}
 use mathlib.Core.Option.{Option, none, some, Option·none-ne-some, Option·some-injective}
-use mathlib.Core.List.{List, [], _∷_, _++_, map}
-use mathlib.Core.Logic.{⊎-elim}
+use mathlib.Core.List.{List, [], _∷_, map}
+use mathlib.Core.Logic.{_↔_, ⊎-elim}
 use native.Mathlib.Omega.{arith}
 use lib.Dec.{eqb, ltb}
 use lib.ListN.{length, take, length-append}
 use lib.Seq.{length-take-le, take-all}
 use borrow.Author.Tests.{lt-ltb, ltb-true, eqb-true}
-use Rattle.command.specs.Command.{Command, join, leave, deliver, turn, settle, find, print, fields, decimal, fitting, byteField, numberField, given, isLetter, when, commandOf, parsed}
+use Rattle.command.specs.Command.{Command, join, leave, deliver, turn, settle, find, print}
+use Rattle.command.specs.Command.{fields, decimal, fitting, given, isLetter, when, commandOf, parsed}
 use Rattle.command.specs.Text.{shown, spaced, joined, letterOf, numbersOf, fieldsOf, text, fits}
 use Rattle.command.proofs.Cases.{lt-or-ge}
 use Rattle.command.proofs.Decimal.{Plain, decimal-shown, shown-decimal, plain-shown, shown-length}
@@ -120,6 +121,10 @@ spelt (x ∷ a ∷ b ∷ d ∷ f ∷ g ∷ h ∷ l) c e = absurd (Option·none-n
 pub text-parsed : (l : List ℕ) (c : Command) → parsed l ≡ some c → (text c ≡ l) × fits c
 unfolding parsed text
 text-parsed l c e = let s = spelt (fields l) c e in (ap joined (s .0) ∙ joined-fields l, s .1)
+
+-- both ways at once
+pub line-command : (l : List ℕ) (c : Command) → (parsed l ≡ some c) ↔ ((text c ≡ l) × fits c)
+line-command l c = (text-parsed l c, λ h. rw (← h .0) (parsed-text c (h .1)))
 
 -- the longest text is `J 255 18446744073709551615 255 255`
 spaced-length : (f : List ℕ) (fs : List (List ℕ)) → length (spaced (f ∷ fs)) ≡ suc (length f + length (spaced fs))

@@ -1,6 +1,6 @@
 -- The lines that `lots` reads (document 01, "The program"): decimal numbers without leading zeros, one space between. A line of another
 -- form, or with a number too wide, is no command. Assumes nothing.
-use Prim.Native.Nat.{ℕ, zero, suc, _+_, _-_, _*_, _^_}
+use Prim.Native.Nat.{ℕ, _+_, _-_, _*_, _^_}
 use mathlib.Core.Option.{Option, none, some}
 use mathlib.Core.Bool.{Bool, true, false, cond, _&&_}
 use mathlib.Core.List.{List, [], _∷_}
@@ -76,8 +76,13 @@ commandOf (c ∷ []) = cond (isLetter 84 c) (some turn) (cond (isLetter 65 c) (s
 commandOf (c ∷ a ∷ []) = when (isLetter 76 c) (given (byteField a) (λ s. some (leave s)))
 commandOf (c ∷ a ∷ b ∷ []) = when (isLetter 70 c) (given (byteField a) (λ s. given (numberField b) (λ n. some (find s n))))
 commandOf (c ∷ a ∷ b ∷ d ∷ []) = none
-commandOf (c ∷ a ∷ b ∷ d ∷ e ∷ []) = when (isLetter 74 c) (given (byteField a) (λ s. given (numberField b) (λ n. given (byteField d) (λ v. given (byteField e) (λ w. some (join s n v w))))))
-commandOf (c ∷ a ∷ b ∷ d ∷ e ∷ f ∷ []) = when (isLetter 68 c) (given (byteField a) (λ k. given (byteField b) (λ t. given (byteField d) (λ x. given (byteField e) (λ l. given (byteField f) (λ s. some (deliver k t x l s)))))))
+commandOf (c ∷ a ∷ b ∷ d ∷ e ∷ []) =
+    when (isLetter 74 c)
+    (given (byteField a) (λ s. given (numberField b) (λ n. given (byteField d) (λ v. given (byteField e) (λ w. some (join s n v w))))))
+commandOf (c ∷ a ∷ b ∷ d ∷ e ∷ f ∷ []) =
+    when (isLetter 68 c)
+    (given (byteField a) (λ k. given (byteField b) (λ t. given (byteField d) (λ x.
+    given (byteField e) (λ l. given (byteField f) (λ s. some (deliver k t x l s)))))))
 commandOf (c ∷ a ∷ b ∷ d ∷ e ∷ f ∷ g ∷ l) = none
 
 -- the command of a line, without its newline

@@ -1,7 +1,7 @@
 -- The text of a command: its letter and its numbers in decimal, with one space between. `proofs/Text.antt` shows that a line is a command
 -- exactly if it is that command's text. Assumes nothing.
 use Prim.Native.Nat.{ℕ, zero, suc, _+_, _/_, _%_, _^_, _<_}
-use mathlib.Core.Bool.{Bool, true, false}
+use mathlib.Core.Bool.{true, false}
 use mathlib.Core.List.{List, [], _∷_, _++_, map}
 use lib.Dec.{ltb}
 use Rattle.command.specs.Command.{Command, join, leave, deliver, turn, settle, find, print}

@@ -3,7 +3,6 @@
 ghost use mathlib.Core.Path.{_≡_};
 ghost use mathlib.Core.List.{[], _∷_};
 ghost use lib.ListN.{drop};
-ghost use Prim.Native.Nat.{ℕ, _<_};
 ghost use Rattle.command.specs.Command.{parsed, commandOf, fields, byteField, numberField};
 ghost use Rattle.command.specs.Told.{told};
 ghost use Rattle.command.specs.Reading.{read, digitsField, numberRead, byteRead};
@@ -19,9 +18,7 @@ const BASE: u64 = 10;
 // Where the first number stands: after the letter and a space.
 const FIRST: usize = 2;
 
-// The largest numbers of 64 bits and of 8.
-const NUMBER_MAX: u64 = 18446744073709551615;
-
+// The largest number of 8 bits.
 const BYTE_MAX: u64 = 255;
 
 // A command with its numbers in the order of the line, or no command.
@@ -57,7 +54,7 @@ fn wide(x: u8) -> u64
     x as u64
 }
 
-// The digits of the field that starts at `at`. A number of more than 64 bits is wrong.
+// The digits of the field that starts at `at`, none or with zeros in front too. A number of more than 64 bits is wrong.
 fn digits_at(line: &[u8], at: usize) -> Number
     ensures { λ r. ⌜ numberRead (now (line .entry)) r ≡ read (digitsField 0) (fields (drop at (now (line .entry)))) ⌝ }
 {
@@ -75,7 +72,7 @@ fn digits_at(line: &[u8], at: usize) -> Number
             return Number::Wrong;
         }
         let d = wide(b - ZERO);
-        if n > (NUMBER_MAX - d) / BASE {
+        if n > (u64::MAX - d) / BASE {
             return Number::Wrong;
         }
         n = n * BASE + d;
@@ -199,8 +196,8 @@ fn alone(letter: u8) -> Parsed
     }
 }
 
-// The command that a line is, or `Bad`: a line of another form, or with a number too wide. So is an empty line, one with two spaces or a space
-// at either end, and any longer than 34 bytes (`long-bad`). `J 0 100 0 255` is `Join(0, 100, 0, 255)`.
+// The command that a line is: `J 0 100 0 255` is `Join(0, 100, 0, 255)`. A line of another form, or with a number too wide, is `Bad`: an empty
+// line too, one with two spaces together or with a space at an end, and any line of more than 34 bytes (proofs/Text.antt, `long-bad`).
 pub fn parse(line: &[u8]) -> Parsed
     ensures { λ r. ⌜ told r ≡ parsed (now (line .entry)) ⌝ }
 {

@@ -1,3 +1,4 @@
 -- The search on the bytes.
 pub mod Read
 pub mod Steps
+pub mod Fits

@@ -1,13 +1,11 @@
 -- Numbers and links of the meaning, from what code reads. Assumes nothing.
 use Prim.Native.Nat.{ℕ, _+_, _*_, _≤_, _<_}
-use mathlib.Core.Path.{_≡_, refl, sym, ap, _∙_}
+use mathlib.Core.Path.{_≡_, sym, ap, _∙_}
 use mathlib.Core.Option.{none, some}
 use mathlib.Core.List.{List}
-use lib.Dec.{ltb}
 use lib.ListN.{getD}
 use borrow.Author.Tests.{lt-ltb, le-ltb}
 use Rattle.memory.specs.Bytes.{numberAt}
-use Rattle.protocol.specs.Message.{sideNumber}
 use Rattle.record.specs.Layout.{seats, levels, entryAt, numberFrom}
 use Rattle.record.specs.Meaning.{linkOf, rosterIn, meaning}
 use Rattle.record.specs.Reading.{sideOfNumber}

@@ -1,11 +1,11 @@
 -- The walk step by step, as the code takes it. Assumes nothing.
-use Prim.Native.Nat.{ℕ, suc, _+_, _-_, _*_, _^_, _≤_, _<_}
-use mathlib.Core.Path.{_≡_, refl, sym, _∙_, ap, subst}
-use mathlib.Core.Bool.{Bool, true, false}
+use Prim.Native.Nat.{ℕ, suc, _+_, _-_, _^_, _≤_, _<_}
+use mathlib.Core.Path.{_≡_, refl, _∙_, ap, subst}
+use mathlib.Core.Bool.{true, false}
 use mathlib.Core.Option.{Option, none, some}
 use mathlib.Core.List.{List, [], _∷_}
 use native.Mathlib.Omega.{arith}
-use lib.Dec.{T, ltb, eqb}
+use lib.Dec.{T}
 use lib.ListN.{length}
 use borrow.Author.Tests.{lt-ltb, le-ltb, eq-eqb, ne-eqb}
 use Rattle.memory.specs.Bytes.{AreBytes}
@@ -15,16 +15,16 @@ use Rattle.graph.specs.Graph.{Links}
 use Rattle.graph.specs.Vector.{width}
 use Rattle.protocol.specs.Message.{sideNumber}
 use Rattle.protocol.specs.State.{seated}
-use Rattle.record.specs.Layout.{seats, levels, numberFrom}
+use Rattle.record.specs.Layout.{seats, numberFrom}
 use Rattle.record.specs.Meaning.{rosterIn, meaning}
 use Rattle.record.specs.Reading.{sideOfNumber}
 use Rattle.record.proofs.Places.{side-sideNumber}
-use Rattle.search.specs.Walk.{Step, stop, move, drop, along, stepAt, lastOf, holderAt, find}
+use Rattle.search.specs.Walk.{stop, move, drop, along, stepAt, holderAt, find}
 use Rattle.search.proofs.Count.{count-bound}
 use Rattle.search.proofs.Search.{Search, found, moves, drops, ends, gap, move-nearer, search-find}
 use Rattle.search.proofs.Hops.{search-seated, search-hops}
 use Rattle.find.specs.declared.Walk.{Walk}
-use Rattle.find.specs.Steps.{asStep, Fit, far, remains, Ready, Walked}
+use Rattle.find.specs.Steps.{asStep, Fit, remains, Ready, Walked}
 
 -- along a link y that does not lie beyond x, one that does, and none
 module _ (number : ℕ → ℕ) (L : Links) (x y : ℕ) (d : Side) {o : Option ℕ} where

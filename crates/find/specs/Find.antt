@@ -1,15 +1,14 @@
--- Find on the bytes (document 01, "Find"): the refusal number or 0, the holder and the hops of the search on the meaning; a refused
--- answer has none and 0. Assumes nothing.
+-- Find on the bytes (document 01, "Find"): the refusal number, which is that of reading the lot on the start seat (1, 2, 3, 8), or 0; the
+-- holder and the hops of the search on the meaning. A refused answer has none and 0. Assumes nothing.
 use Prim.Native.Nat.{ℕ}
 use mathlib.Core.Bool.{cond}
 use mathlib.Core.Option.{Option, none}
-use mathlib.Core.List.{List, [], _∷_}
+use mathlib.Core.List.{List}
 use lib.Dec.{eqb}
 use Rattle.graph.specs.Vector.{width}
-use Rattle.protocol.specs.Table.{first}
 use Rattle.record.specs.Layout.{seats}
 use Rattle.record.specs.Meaning.{rosterIn, meaning}
-use Rattle.record.specs.Reading.{wrongSize, unsound, noSuchSeat, emptySeat}
+use Rattle.record.specs.Reading.{lotRefusal}
 use Rattle.search.specs.Walk.{find}
 
 pub record FindAnswer : Type 0 where
@@ -17,12 +16,9 @@ pub record FindAnswer : Type 0 where
   pub holder : Option ℕ
   pub hops : ℕ
 
-unfoldable pub findRefusal : List ℕ → (s : ℕ) → ℕ
-findRefusal l s = first (wrongSize l ∷ unsound l ∷ noSuchSeat s ∷ emptySeat l s ∷ [])
-
 -- the search for x from the lot on seat s
 unfoldable pub findIn : List ℕ → (s x : ℕ) → FindAnswer
 findIn l s x =
-    let n = findRefusal l s in
+    let n = lotRefusal l s in
     let f = find (rosterIn l .number) (meaning l .link) x seats width s in
     cond (eqb n 0) (record { refused = 0; holder = f .holder; hops = f .hops }) (record { refused = n; holder = none; hops = 0 })

@@ -12,7 +12,8 @@ ghost use Rattle.record.specs.Layout.{seats, levels, size};
 ghost use Rattle.record.specs.Meaning.{rosterIn, meaning};
 ghost use Rattle.record.specs.Reading.{sideOfNumber};
 ghost use Rattle.search.specs.Walk.{along as alongOf, stepAt, drop, holderAt, find as findOf};
-ghost use Rattle.find.specs.Answer.{heldOf};
+ghost use Rattle.find.specs.Find.{findIn};
+ghost use Rattle.find.specs.Answer.{heldOf, answered};
 ghost use Rattle.find.specs.Steps.{asStep, Fit, Ready, Walked};
 
 pub enum Found {
@@ -144,4 +145,15 @@ fn search(rec: &[u8], s: usize, x: u64) -> Found
     };
     let e = w.advance(rec, x);
     held(rec, e.seat, e.hops, x)
+}
+
+// The lot that a scanned number belongs to, searched from the lot on a seat. Refused: 1, 2, 3, 8.
+pub fn find(rec: &[u8], seat: u8, number: u64) -> Found
+    ensures { λ r. ⌜ r ≡ answered (findIn (now (rec .entry)) seat number) ⌝ }
+{
+    let n = reading::lot_refusal(rec, seat);
+    if n != 0 {
+        return Found::Refused(n);
+    }
+    search(rec, seat as usize, number)
 }

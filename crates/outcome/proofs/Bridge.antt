@@ -45,7 +45,7 @@ made-call M s c =
     ap (λ (X : Meaning). record { refused = madeRefusal (bytesOf M) c; bytes = unlessRefused (madeRefusal (bytesOf M) c) (bytesOf M) (bytesOf (accept seats width X c)) }) (meaning-bytes s)
     ∙ ap (λ (n : ℕ). record { refused = n; bytes = unlessRefused n (bytesOf M) (bytesOf (accept seats width M c)) }) (made-refusal M s c)
     ∙ ap (λ (l : List ℕ). record { refused = refusal seats width (M .roster) (M .pending) c; bytes = l })
-        (bytes-unless (refusal seats width (M .roster) (M .pending) c) M (accept seats width M c))
+    (bytes-unless (refusal seats width (M .roster) (M .pending) c) M (accept seats width M c))
 
 -- refused: every byte as before
 pub refused-same : (l : List ℕ) (c : Call) (n : ℕ) → made l c .refused ≡ suc n → made l c .bytes ≡ l

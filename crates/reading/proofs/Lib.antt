@@ -1,6 +1,5 @@
 -- Why open and the readings answer what their definitions say.
 pub mod Filled
-pub mod Named
 pub mod Placed
 pub mod Refusals
 pub mod Values

@@ -17,7 +17,7 @@ use Rattle.record.specs.Layout.{seats, messages, pendingFrom}
 use Rattle.record.specs.Meaning.{meaning}
 use Rattle.record.proofs.Places.{place-within}
 use Rattle.record.proofs.Form.{meaning-pending, exists-pending}
-use Rattle.reading.specs.Places.{placeOf}
+use Rattle.places.specs.Places.{placeOf}
 
 -- a message that exists has its place, and one that does not has none
 placed : (m : Msg) → T (exists seats width m) → placeOf (some m) ≡ place seats width m

@@ -6,7 +6,7 @@ ghost use Rattle.protocol.specs.State.{seated};
 ghost use Rattle.record.specs.Layout.{seats, size};
 ghost use Rattle.record.specs.Meaning.{rosterIn};
 use record::SEATS;
-use soundness::lots::is_seated;
+use roster::is_seated;
 
 pub fn seated_lots(rec: &[u8]) -> u8
     requires { ⌜ length (now rec) ≡ size ⌝ }

@@ -8,7 +8,6 @@ ghost use Rattle.reading.specs.Answer.{lotAnswered, linkAnswered, messag
 
 mod counts;
 mod opening;
-mod places;
 mod rows;
 
 use counts::seated_lots;

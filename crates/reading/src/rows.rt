@@ -8,7 +8,7 @@ ghost use Rattle.record.specs.Layout.{seats, size};
 ghost use Rattle.record.specs.Reading.{wrongSize, unsound, noSuchSeat, noSuchLevel, emptySeat};
 use record::LEVELS;
 use record::SEATS;
-use soundness::lots::is_seated;
+use roster::is_seated;
 use soundness::record_refusal;
 
 const NO_SUCH_SEAT: u8 = 3;

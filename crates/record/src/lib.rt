@@ -32,10 +32,21 @@ pub const VECTOR_AT: usize = 9;
 
 pub const LINKS_AT: usize = 10;
 
+// The values of the phase and of a state: phaseByte and stateByte of specs/Meaning.antt.
+pub const OPEN: u8 = 0;
+
+pub const CLEARING: u8 = 1;
+
+pub const FREE: u8 = 0;
+
+pub const STAYING: u8 = 1;
+
+pub const LEAVING: u8 = 2;
+
 // The byte of a link that is none.
 pub const NONE: u8 = 255;
 
-// The phase: 0 open, 1 clearing.
+// The phase: OPEN or CLEARING.
 pub fn phase(rec: &[u8]) -> u8
     requires { ⌜ length (now rec) ≡ size ⌝ }
     ensures { λ r. ⌜ r ≡ getD (now (rec .entry)) phaseAt 0 ⌝ }
@@ -50,7 +61,7 @@ pub fn set_phase(rec: &mut [u8], v: u8)
     rec[PHASE] = v;
 }
 
-// The state of seat s: 0 free, 1 staying, 2 leaving.
+// The state of seat s: FREE, STAYING or LEAVING.
 pub fn state(rec: &[u8], s: usize) -> u8
     requires { ⌜ (length (now rec) ≡ size) × (s < seats) ⌝ }
     ensures { λ r. ⌜ r ≡ getD (now (rec .entry)) (stateAt s) 0 ⌝ }

@@ -81,7 +81,8 @@ module _ (M : Meaning) (h : Sound seats width M) where
   pub count-none : (countsOf M .pending ≡ 0) ↔ (somePending seats width (M .pending) ≡ false)
   unfolding countsOf somePending
   count-none = (
-      λ e. none-any _ _ (λ i l t. let g : i < messages = rw messages-count l in
-          false-T (sym (read-bit M i g) ∙ count-zero messages (λ i. bitSet (bytesOf M) pendingFrom i) .0 e i g) t),
-      λ e. count-zero messages (λ i. bitSet (bytesOf M) pendingFrom i) .1
-          (λ i l. read-bit M i l ∙ not-T-false (λ t. any-none _ _ e i (rw (← messages-count) l) t)))
+    λ e. none-any _ _ (λ i l t. let g : i < messages = rw messages-count l in
+        false-T (sym (read-bit M i g) ∙ count-zero messages (λ i. bitSet (bytesOf M) pendingFrom i) .0 e i g) t),
+    λ e. count-zero messages (λ i. bitSet (bytesOf M) pendingFrom i) .1
+        (λ i l. read-bit M i l ∙ not-T-false (λ t. any-none _ _ e i (rw (← messages-count) l) t)),
+  )

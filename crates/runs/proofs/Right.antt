@@ -20,7 +20,7 @@ use Rattle.protocol.proofs.Theorem as protocol-theorem
 use Rattle.protocol.proofs.Measure as measure
 use Rattle.record.specs.Layout.{seats, size}
 use Rattle.record.specs.Meaning.{rosterIn, bytesOf}
-use Rattle.record.specs.Reading.{openRefusal, recordRefusal}
+use Rattle.record.specs.Reading.{openRefusal, recordRefusal, lotRefusal}
 use Rattle.record.proofs.Places.{length-bytesOf}
 use Rattle.record.proofs.Form.{meaning-roster}
 use Rattle.record.proofs.Round.{meaning-bytes}
@@ -29,7 +29,7 @@ use Rattle.search.specs.Walk.{find}
 use Rattle.search.specs.Check.{check}
 use Rattle.search.proofs.Holder.{RightHolder, find-holder}
 use Rattle.search.proofs.Check.{check-graph}
-use Rattle.find.specs.Find.{FindAnswer, findRefusal, findIn}
+use Rattle.find.specs.Find.{FindAnswer, findIn}
 use Rattle.audit.specs.Check.{checkIn}
 use Rattle.runs.specs.Run.{run, meant, roster}
 use Rattle.runs.proofs.Same.{Same, run-same}
@@ -46,7 +46,7 @@ module _ (M : Meaning) (h : Sound seats width M) where
 
   find-bytes : (s x : ℕ) → T (seated (M .roster) s)
       → findIn (bytesOf M) s x ≡ (let f = find (M .roster .number) (M .link) x seats width s in record { refused = 0; holder = f .holder; hops = f .hops })
-  unfolding findIn findRefusal first
+  unfolding findIn lotRefusal first
   find-bytes s x m =
       let f : isFree (M .roster .state s) ≡ false = not-T-false (T-not (isFree (M .roster .state s)) m) in
       rw (eq-eqb (length (bytesOf M)) size (length-bytesOf M), bytes-sound h, lt-ltb s seats (h .seats s m), roster-bytes, f, meaning-bytes h)
@@ -83,7 +83,8 @@ module _ (l : List ℕ) (e : openRefusal l ≡ 0) (cs : List Call) (r : AllInRan
       let n : T (seated (M .roster) s) = subst (λ (r : Roster). T (seated r s)) (sym who) m in
       let a = ap (λ (b : List ℕ). findIn b s x) (both .now) ∙ find-bytes M (both .fine) s x n in
       let o : member (M .roster) ≡ seated (M .roster) = seated-members (M .roster) (ap (λ (r : Roster). r .phase) who ∙ p) in
-      let g = find-holder (members-laws (both .fine)) right (λ y z u v. refl) x s (rw o n) in
-      (ap (λ (f : FindAnswer). f .refused) a,
-      subst (λ (r : Roster). RightHolder (seated r) (r .number) x (findIn (run l cs .now) s x .holder)) who
-      (rw (ap (λ (f : FindAnswer). f .holder) a) (subst (λ (t : ℕ → Bool). RightHolder t (M .roster .number) x (find (M .roster .number) (M .link) x seats width s .holder)) o g)))
+      let g = find-holder (members-laws (both .fine)) right (λ y z u v. refl) x s (rw o n) in (
+        ap (λ (f : FindAnswer). f .refused) a,
+        subst (λ (r : Roster). RightHolder (seated r) (r .number) x (findIn (run l cs .now) s x .holder)) who
+            (rw (ap (λ (f : FindAnswer). f .holder) a) (subst (λ (t : ℕ → Bool). RightHolder t (M .roster .number) x (find (M .roster .number) (M .link) x seats width s .holder)) o g)),
+      )

@@ -55,7 +55,8 @@ carried s t h D = record {
       ∙ ap (λ (p : Msg → Bool). record { refused = 0; pending = oneIf (isPending p (named n)) }) (fun-ext (D .messages) ∙ ap (pendingOf seats width) (sym (h .history)));
   none-left = (
     λ e. subst (Settled seats width) (sym (h .history)) (D .none-left .0 (count-none M (h .fine) .0 (sym left ∙ e))),
-    λ q. left ∙ count-none M (h .fine) .1 (D .none-left .1 (subst (Settled seats width) (h .history) q)));
+    λ q. left ∙ count-none M (h .fine) .1 (D .none-left .1 (subst (Settled seats width) (h .history) q)),
+  );
   links = λ q x k d m p.
       let here : T (seated (t .now .roster) x) = member-seated (t .now .roster) x (subst (λ (r : Roster). T (member r x)) (sym who) m) in
       at (λ l. readLink l x k (sideNumber d)) ∙ read-link M (h .fine) x k d (h .fine .seats x here) p (not-T-false (T-not (isFree (t .now .roster .state x)) here))
@@ -82,7 +83,7 @@ carried s t h D = record {
         → t .now .link x k d ≡ graph seats width (members (rosterOf seats width (logOf (meant (s .history))))) x k d
     linked q x k d m p =
         subst (λ (es : List protocol.Event). Settled seats width es → IsGraph seats width (members (rosterOf seats width (logOf es))) (t .now .link)) (sym (h .history)) (D .graph) q
-            .link x k d m (omega arith)
+        .link x k d m (omega arith)
 
 pub every-list : (l : List ℕ) → openRefusal l ≡ 0 → (cs : List Call) → AllInRange seats width cs → Demand3 bound (run l cs)
 every-list l e cs r = carried (run l cs) (protocol.run seats width cs) (run-same l (open-sized l e) cs r) (protocol-theorem.every-list seats width cs r)

@@ -33,5 +33,6 @@ module _ (l : List ℕ) (x y : ℕ) where
   pub differ-first : seated (rosterIn l) x ≡ false → true ≡ differ l x y
   differ-first f = rw f
 
-  pub differ-second : seated (rosterIn l) x ≡ true → rosterIn l .number x ≡ rosterIn l .number y → not (seated (rosterIn l) y) ≡ differ l x y
+  pub differ-second : seated (rosterIn l) x ≡ true → rosterIn l .number x ≡ rosterIn l .number y
+      → not (seated (rosterIn l) y) ≡ differ l x y
   differ-second t e = rw (t, eq-eqb _ _ e, and-true (seated (rosterIn l) y))

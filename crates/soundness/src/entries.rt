@@ -9,16 +9,21 @@ ghost use Rattle.record.specs.Layout.{seats, levels, size};
 ghost use Rattle.record.specs.Meaning.{rosterIn};
 ghost use Rattle.record.specs.Sound.{phaseFits, statesFit, asOpened, unusedFit, numbersDiffer};
 ghost use Rattle.soundness.specs.Parts.{HasNumbers, unlinked, differ};
-use super::lots::is_seated;
 use record::LEVELS;
 use record::NONE;
 use record::SEATS;
+use roster::is_seated;
+
+// How many phases and states there are.
+const PHASES: u8 = 2;
+
+const STATES: u8 = 3;
 
 pub fn phase_fits(rec: &[u8]) -> bool
     requires { ⌜ length (now rec) ≡ size ⌝ }
     ensures { λ r. ⌜ r ≡ phaseFits (now (rec .entry)) ⌝ }
 {
-    record::phase(rec) < 2
+    record::phase(rec) < PHASES
 }
 
 pub fn states_fit(rec: &[u8]) -> bool
@@ -26,7 +31,7 @@ pub fn states_fit(rec: &[u8]) -> bool
     ensures { λ r. ⌜ r ≡ statesFit (now (rec .entry)) ⌝ }
 {
     for s in 0..SEATS {
-        if 3 <= record::state(rec, s) {
+        if STATES <= record::state(rec, s) {
             return false;
         }
     }
@@ -107,7 +112,7 @@ fn pair_differs(rec: &[u8], numbers: &[u64; SEATS], x: usize, y: usize) -> bool
     !is_seated(rec, y)
 }
 
-// Whether no seated lot below x has the number of x, a seated lot.
+// Whether x is free, or no seated lot below x has its number.
 fn number_differs(rec: &[u8], numbers: &[u64; SEATS], x: usize) -> bool
     requires { ⌜ (length (now rec) ≡ size) × HasNumbers (now rec) (now numbers) × (x < seats) ⌝ }
     ensures { λ r. ⌜ r ≡ all x (differ (now (rec .entry)) x) ⌝ }

@@ -1,5 +1,5 @@
-// Whether bytes of a record's size are a sound record (document 01, "Sound"): a function for each clause of record's specs/Sound.antt, in
-// the order of the clauses. Any bytes are read without fault.
+// Whether bytes of a record's size are a sound record (document 01, "Sound"): a function for each clause of record's specs/Sound.antt, the
+// clause of the messages in postbox. Any bytes are read without fault.
 ghost use mathlib.Core.Path.{_≡_};
 ghost use mathlib.Core.Bool.{_&&_};
 ghost use lib.ListN.{length};
@@ -9,16 +9,7 @@ ghost use Rattle.record.specs.Sound.{numbersDiffer, linksFit, messagesFit, soun
 
 mod entries;
 mod links;
-pub mod lots;
-mod messages;
 
-use entries::numbers_differ;
-use entries::numbers_of;
-use entries::phase_fits;
-use entries::states_fit;
-use entries::unused_fit;
-use links::links_fit;
-use messages::messages_fit;
 use record::SIZE;
 
 // The first refusals of the table.
@@ -31,8 +22,9 @@ fn lots_fit(rec: &[u8]) -> bool
     requires { ⌜ length (now rec) ≡ size ⌝ }
     ensures { λ r. ⌜ r ≡ numbersDiffer (now (rec .entry)) && (linksFit (now (rec .entry)) && messagesFit (now (rec .entry))) ⌝ }
 {
-    let numbers = numbers_of(rec);
-    numbers_differ(rec, &numbers) && (links_fit(rec, &numbers) && messages_fit(rec))
+    let numbers = entries::numbers_of(rec);
+    entries::numbers_differ(rec, &numbers)
+        && (links::links_fit(rec, &numbers) && postbox::messages_fit(rec))
 }
 
 // Whether the record is sound: the test in front of every call but open.
@@ -40,7 +32,8 @@ pub fn is_sound(rec: &[u8]) -> bool
     requires { ⌜ length (now rec) ≡ size ⌝ }
     ensures { λ r. ⌜ r ≡ sound (now (rec .entry)) ⌝ }
 {
-    phase_fits(rec) && (states_fit(rec) && (unused_fit(rec) && lots_fit(rec)))
+    entries::phase_fits(rec)
+        && (entries::states_fit(rec) && (entries::unused_fit(rec) && lots_fit(rec)))
 }
 
 // The record's own refusal, in front of every call but open: 1 wrong size, 2 unsound, or 0.

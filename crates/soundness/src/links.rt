@@ -12,10 +12,10 @@ ghost use Rattle.record.specs.Meaning.{rosterIn};
 ghost use Rattle.record.specs.Reading.{sideOfNumber};
 ghost use Rattle.record.specs.Sound.{linkFits, linksFit};
 ghost use Rattle.soundness.specs.Parts.{HasNumbers};
-use super::lots::pair_fits;
 use record::LEVELS;
 use record::NONE;
 use record::SEATS;
+use roster::pair_fits;
 
 // Whether number b lies on side d of number a.
 fn on_side(d: usize, a: u64, b: u64) -> bool

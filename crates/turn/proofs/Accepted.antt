@@ -1,11 +1,10 @@
 -- The steps together are what an accepted turn does. Assumes nothing.
-use Prim.Native.Nat.{ℕ, zero, suc, _<_}
+use Prim.Native.Nat.{ℕ, zero, suc}
 use mathlib.Core.Path.{_≡_, refl, sym, ap, _∙_}
 use mathlib.Core.Option.{none}
-use mathlib.Core.Bool.{Bool, true, false, cond, _||_}
-use mathlib.Core.List.{List, [], _++_}
+use mathlib.Core.Bool.{Bool, true, false, _||_}
+use mathlib.Core.List.{List, []}
 use native.Mathlib.Omega.{arith}
-use lib.Dec.{ltb}
 use lib.ListN.{getD}
 use borrow.Author.Tests.{lt-ltb}
 use Rattle.graph.specs.Vector.{width}
@@ -19,7 +18,7 @@ use Rattle.record.specs.Layout.{seats, phaseAt}
 use Rattle.record.specs.Meaning.{phaseByte, bytesOf}
 use Rattle.record.proofs.Round.{read-phase}
 use Rattle.record.proofs.Pending.{after-nothing}
-use Rattle.record.proofs.Frame.{Same, bytes-same}
+use Rattle.record.proofs.Frame.{bytes-same}
 use Rattle.turn.specs.Steps.{farewellsFrom, linkPlace, relinked, freedTo, begun, ended}
 
 -- with no leaver there is nothing to send

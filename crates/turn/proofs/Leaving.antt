@@ -1,6 +1,6 @@
 -- Which lots leave, as the bytes of a meaning say it. Assumes nothing.
 use Prim.Native.Nat.{ℕ, zero, suc, _+_, _<_}
-use mathlib.Core.Path.{_≡_, refl, sym, ap, _∙_}
+use mathlib.Core.Path.{_≡_, refl, ap, _∙_}
 use mathlib.Core.Logic.{⊎-elim}
 use mathlib.Core.Bool.{Bool, true, false, _&&_, _||_}
 use mathlib.Core.List.{List}
@@ -12,7 +12,6 @@ use borrow.Author.Tests.{lt-ltb, le-ltb, ne-eqb}
 use Rattle.memory.proofs.Cases.{lt-or-ge}
 use Rattle.graph.proofs.Tests.{T-true, true-T}
 use Rattle.protocol.proofs.Any.{any-in}
-use Rattle.protocol.specs.Rules.{SeatState}
 use Rattle.protocol.specs.Numbering.{any}
 use Rattle.protocol.specs.State.{Meaning, isLeaving, leaves}
 use Rattle.turn.specs.Steps.{linkGoes}

@@ -2,21 +2,20 @@
 use Prim.Native.Nat.{ℕ, zero, suc, _<_}
 use mathlib.Core.Path.{_≡_, refl, sym, ap, _∙_}
 use mathlib.Core.Bool.{Bool, true, false, not, cond, _&&_, _||_}
-use mathlib.Core.Option.{Option, none, some}
-use mathlib.Core.List.{List, [], _∷_}
+use mathlib.Core.Option.{none, some}
+use mathlib.Core.List.{List}
 use native.Mathlib.Omega.{arith}
 use lib.Dec.{eqb, ltb}
 use lib.ListN.{length, getD}
-use borrow.Author.Tests.{eq-eqb, ne-eqb, ltb-true, eqb-true, not-false}
+use borrow.Author.Tests.{eq-eqb, ltb-true, eqb-true, not-false}
 use Rattle.memory.specs.Bytes.{AreBytes, zeros}
 use Rattle.memory.specs.Bits.{bitSet}
 use Rattle.memory.specs.Loops.{all}
 use Rattle.memory.proofs.Zeros.{zeros-bits}
-use Rattle.graph.specs.Side.{Side}
 use Rattle.graph.specs.Vector.{width}
 use Rattle.graph.proofs.Tests.{some-inj, none-some}
 use Rattle.protocol.specs.Numbering.{any, messageAt, somePending}
-use Rattle.protocol.specs.Table.{first, row, rows, turn}
+use Rattle.protocol.specs.Table.{first, rows, turn}
 use Rattle.protocol.proofs.Calls.{no-row}
 use Rattle.record.specs.Layout.{seats, levels, messages, linkAt, pendingFrom, pendingSize, size}
 use Rattle.record.specs.Meaning.{linkOf, meaning}
@@ -51,19 +50,7 @@ module _ (l : List ℕ) where
       ∙ sym (any-same messages (λ i. meaning l .pending (messageAt seats width i)) (bitSet l pendingFrom) (λ i h. meaning-bit l i h))
       ∙ ap (λ (n : ℕ). any n (λ i. meaning l .pending (messageAt seats width i))) messages-count
 
-  -- the record's two rows
-  pub wrong-size : (length l ≡ size → ⊥) → 1 ≡ recordRefusal l
-  unfolding recordRefusal first
-  wrong-size h = rw (ne-eqb (length l) size h)
-
-  pub not-sound : length l ≡ size → sound l ≡ false → 2 ≡ recordRefusal l
-  unfolding recordRefusal first
-  not-sound h s = rw (eq-eqb (length l) size h, s)
-
-  pub fine : length l ≡ size → sound l ≡ true → 0 ≡ recordRefusal l
-  unfolding recordRefusal first
-  fine h s = rw (eq-eqb (length l) size h, s)
-
+  -- the record is not refused
   module _ (z : recordRefusal l ≡ 0) where
     pub right-size : length l ≡ size
     unfolding recordRefusal

@@ -6,7 +6,7 @@ use mathlib.Core.Bool.{true, false}
 use mathlib.Core.List.{List, [], _++_, append-assoc}
 use native.Mathlib.Omega.{arith}
 use native.Mathlib.Numerals.{add-one}
-use lib.Dec.{T, ltb}
+use lib.Dec.{T}
 use lib.ListN.{getD}
 use borrow.Author.Tests.{lt-ltb}
 use Rattle.memory.specs.Bits.{setBit}
@@ -17,7 +17,7 @@ use Rattle.protocol.specs.Message.{Msg, going}
 use Rattle.protocol.specs.Numbering.{exists, place}
 use Rattle.protocol.specs.Rules.{toLink}
 use Rattle.protocol.specs.State.{Meaning, leaves}
-use Rattle.protocol.specs.Calls.{each, farewell, pendingAfter}
+use Rattle.protocol.specs.Calls.{each, farewell}
 use Rattle.record.specs.Layout.{seats, levels, messages, entryAt, linkAt, pendingFrom}
 use Rattle.record.specs.Meaning.{linkByte, rosterIn, bytesOf}
 use Rattle.record.specs.Reading.{sideOfNumber}

@@ -1,12 +1,12 @@
 -- The refusal number of a changing call from its two parts, the record's and the table's; and what the call answers and leaves.
 -- Assumes nothing.
 use Prim.Native.Nat.{ℕ, zero, suc}
-use mathlib.Core.Path.{_≡_, refl, sym, _∙_}
+use mathlib.Core.Path.{_≡_, refl}
 use mathlib.Core.Logic.{_≢_}
 use mathlib.Core.Bool.{Bool, true, false}
 use mathlib.Core.List.{List, [], _∷_}
 use Rattle.graph.specs.Vector.{width}
-use Rattle.protocol.specs.Table.{Row, row, first, Call, rows, refusal}
+use Rattle.protocol.specs.Table.{Row, row, first, Call}
 use Rattle.protocol.specs.Calls.{accept, unlessRefused}
 use Rattle.record.specs.Layout.{seats}
 use Rattle.record.specs.Meaning.{meaning, bytesOf}

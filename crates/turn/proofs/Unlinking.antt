@@ -1,14 +1,15 @@
 -- Links changed one after the other, as a turn in clearing changes them. Assumes nothing.
-use Prim.Native.Nat.{ℕ, zero, suc, _+_, _*_, _/_, _<_, _≤_}
+use Prim.Native.Nat.{ℕ, zero, suc, _+_, _*_, _/_, _<_}
 use mathlib.Core.Path.{_≡_, refl, sym, ap, _∙_}
 use mathlib.Core.Logic.{_⊎_, inl, inr, ⊎-elim}
 use mathlib.Core.Option.{Option, none, some}
 use mathlib.Core.Bool.{Bool, true, false, cond, _&&_, _||_}
 use mathlib.Core.List.{List}
 use native.Mathlib.Omega.{arith}
-use lib.Dec.{eqb, ltb}
+use lib.Dec.{ltb}
 use lib.ListN.{getD, set}
-use borrow.Author.Tests.{lt-ltb, le-ltb, eq-eqb}
+use lib.Seq.{set-getD}
+use borrow.Author.Tests.{lt-ltb, le-ltb}
 use Rattle.memory.proofs.Cases.{lt-or-ge, eq-or-ne}
 use Rattle.graph.specs.Side.{Side, left, right}
 use Rattle.graph.proofs.Tests.{none-some}
@@ -24,7 +25,7 @@ use Rattle.record.proofs.Places.{side-sideNumber}
 use Rattle.record.specs.Reading.{sideOfNumber}
 use Rattle.record.proofs.Round.{read-link}
 use Rattle.record.proofs.Frame.{agree-links, bytes-same}
-use Rattle.record.proofs.Update.{withLink, bytes-withLink}
+use Rattle.record.proofs.Update.{bytes-withLink}
 use Rattle.turn.proofs.Leaving.{goes-bytes}
 use Rattle.turn.specs.Steps.{Linked, linkGoes, linkPlace, relinked}
 
@@ -76,104 +77,94 @@ turn-kept r x (some y) f e = by (leaves r x) (leaves r y) (rw (lt-ltb y seats (f
     by false true q = absurd (let z : _≡_ {A = ℕ} 0 1 = cc in omega arith)
     by false false q = refl
 
+-- before and after the link of x at level k on side d is changed
+abbrev old : Meaning → (x k : ℕ) → Side → Meaning
+old M x k d = relinked (linkPlace x k (sideNumber d)) M
+
+abbrev new : Meaning → (x k : ℕ) → Side → Meaning
+new M x k d = relinked (linkPlace x k (sideNumber d) + 1) M
+
 module _ (M : Meaning) (x k : ℕ) (d : Side) (h : x < seats) (g : k < levels) where
-  -- the link at the next place is not changed yet
-  link-next : relinked (linkPlace x k (sideNumber d)) M .link x k d ≡ M .link x k d
+  old-link : old M x k d .link x k d ≡ M .link x k d
   unfolding relinked
-  link-next = rw (le-ltb (linkPlace x k (sideNumber d)) (linkPlace x k (sideNumber d)) (omega arith))
+  old-link = rw (le-ltb (linkPlace x k (sideNumber d)) (linkPlace x k (sideNumber d)) (omega arith))
 
-  byte-next : getD (bytesOf (relinked (linkPlace x k (sideNumber d)) M)) (linkAt x k d) 0 ≡ linkByte (M .link x k d)
-  byte-next = read-link (relinked (linkPlace x k (sideNumber d)) M) x k d h g ∙ ap linkByte link-next
+  old-byte : getD (bytesOf (old M x k d)) (linkAt x k d) 0 ≡ linkByte (M .link x k d)
+  old-byte = read-link (old M x k d) x k d h g ∙ ap linkByte old-link
 
-  -- it is changed
+  -- one byte is set
   relink : (o : Option ℕ) → turnLinks clearing (M .roster) (M .link) x k d ≡ o
-      → bytesOf (relinked (linkPlace x k (sideNumber d) + 1) M) ≡ bytesOf (withLink (relinked (linkPlace x k (sideNumber d)) M) x k d o)
+      → bytesOf (new M x k d) ≡ set (bytesOf (old M x k d)) (linkAt x k d) (linkByte o)
   unfolding relinked
-  relink o e = bytes-same (agree-links refl refl (λ y j s p q _. by y j s q (eq-or-ne (linkPlace y j (sideNumber s)) n)))
+  relink o e =
+      bytes-same (agree-links refl refl (λ y j s p q _. by y j s q (eq-or-ne (linkPlace y j (sideNumber s)) n)))
+      ∙ bytes-withLink (old M x k d) x k d o h g
     where
       n : ℕ
       n = linkPlace x k (sideNumber d)
 
-      here : relinked (n + 1) M .link x k d ≡ applied x (put k d o) (relinked n M .link) x k d
-      here = rw (lt-ltb n (n + 1) (omega arith)) (e ∙ sym (applied-at x k d o (relinked n M .link)))
+      here : new M x k d .link x k d ≡ applied x (put k d o) (old M x k d .link) x k d
+      here = rw (lt-ltb n (n + 1) (omega arith)) (e ∙ sym (applied-at x k d o (old M x k d .link)))
 
       by : (y j : ℕ) (s : Side) → j < levels → (linkPlace y j (sideNumber s) ≡ n) ⊎ (linkPlace y j (sideNumber s) ≡ n → ⊥)
-          → relinked (n + 1) M .link y j s ≡ applied x (put k d o) (relinked n M .link) y j s
+          → new M x k d .link y j s ≡ applied x (put k d o) (old M x k d .link) y j s
       by y j s q (inl f) =
           let i = place-once x k y j d s g q f in
           let a = i .0 in
           let b = i .1 in
           let c = i .2 in
           rw (a, b, c) here
-      by y j s q (inr f) =
-          rw (lt-more (linkPlace y j (sideNumber s)) n f) (sym (⊎-elim
+      by y j s q (inr f) = rw (lt-more (linkPlace y j (sideNumber s)) n f) (sym (⊎-elim
           (λ w. w)
-          (λ w. let a = w .1 in let c = w .2 in let b : j ≡ k = cc in let c : s ≡ d = cc in absurd (f (rw (a, b, c))))
-          (applied-frame x (put k d o) (relinked n M .link) y j s)))
-
-  -- it stays
-  stay : turnLinks clearing (M .roster) (M .link) x k d ≡ M .link x k d
-      → bytesOf (relinked (linkPlace x k (sideNumber d) + 1) M) ≡ bytesOf (relinked (linkPlace x k (sideNumber d)) M)
-  unfolding relinked
-  stay e = bytes-same (agree-links refl refl (λ y j s p q _. by y j s q (eq-or-ne (linkPlace y j (sideNumber s)) n)))
-    where
-      n : ℕ
-      n = linkPlace x k (sideNumber d)
-
-      here : relinked (n + 1) M .link x k d ≡ relinked n M .link x k d
-      here = rw (lt-ltb n (n + 1) (omega arith), le-ltb n n (omega arith)) e
-
-      by : (y j : ℕ) (s : Side) → j < levels → (linkPlace y j (sideNumber s) ≡ n) ⊎ (linkPlace y j (sideNumber s) ≡ n → ⊥)
-          → relinked (n + 1) M .link y j s ≡ relinked n M .link y j s
-      by y j s q (inl f) =
-          let i = place-once x k y j d s g q f in
-          let a = i .0 in
-          let b = i .1 in
-          let c = i .2 in
-          rw (a, b, c) here
-      by y j s q (inr f) = rw (lt-more (linkPlace y j (sideNumber s)) n f)
+          (λ w.
+          let a = w .1 in
+          let z = w .2 in
+          let b : j ≡ k = cc in
+          let c : s ≡ d = cc in
+          absurd (f (rw (a, b, c))))
+          (applied-frame x (put k d o) (old M x k d .link) y j s)))
 
   -- the test of the code is the turn's
-  goes : (b : ℕ) → b ≡ getD (bytesOf (relinked (linkPlace x k (sideNumber d)) M)) (linkAt x k d) 0
-      → linkGoes (bytesOf (relinked (linkPlace x k (sideNumber d)) M)) x b ≡ (ltb (linkByte (M .link x k d)) seats && (leaves (M .roster) x || leaves (M .roster) (linkByte (M .link x k d))))
+  goes : (b : ℕ) → b ≡ getD (bytesOf (old M x k d)) (linkAt x k d) 0 → let y = linkByte (M .link x k d) in
+      linkGoes (bytesOf (old M x k d)) x b ≡ (ltb y seats && (leaves (M .roster) x || leaves (M .roster) y))
   unfolding relinked
   goes b e =
-      goes-bytes (relinked (linkPlace x k (sideNumber d)) M) x b h
-      ∙ ap (λ (v : ℕ). ltb v seats && (leaves (M .roster) x || leaves (M .roster) v)) (e ∙ byte-next)
+      goes-bytes (old M x k d) x b h ∙ ap (λ (v : ℕ). ltb v seats && (leaves (M .roster) x || leaves (M .roster) v)) (e ∙ old-byte)
 
-  unlink-none : (b : ℕ) → b ≡ getD (bytesOf (relinked (linkPlace x k (sideNumber d)) M)) (linkAt x k d) 0 → linkGoes (bytesOf (relinked (linkPlace x k (sideNumber d)) M)) x b ≡ true
-      → bytesOf (relinked (linkPlace x k (sideNumber d) + 1) M) ≡ set (bytesOf (relinked (linkPlace x k (sideNumber d)) M)) (linkAt x k d) noLink
+  -- the link becomes none, or stays
+  to-none : (b : ℕ) → b ≡ getD (bytesOf (old M x k d)) (linkAt x k d) 0 → linkGoes (bytesOf (old M x k d)) x b ≡ true
+      → bytesOf (new M x k d) ≡ set (bytesOf (old M x k d)) (linkAt x k d) noLink
   unfolding turnLinks
-  unlink-none b e t =
-      relink none (turn-none (M .roster) x (M .link x k d) (sym (goes b e) ∙ t))
-      ∙ bytes-withLink (relinked (linkPlace x k (sideNumber d)) M) x k d none h g
+  to-none b e t = relink none (turn-none (M .roster) x (M .link x k d) (sym (goes b e) ∙ t))
 
-  unlink-kept : Linked M → (b : ℕ) → b ≡ getD (bytesOf (relinked (linkPlace x k (sideNumber d)) M)) (linkAt x k d) 0 → linkGoes (bytesOf (relinked (linkPlace x k (sideNumber d)) M)) x b ≡ false
-      → bytesOf (relinked (linkPlace x k (sideNumber d) + 1) M) ≡ bytesOf (relinked (linkPlace x k (sideNumber d)) M)
+  to-same : Linked M → (b : ℕ) → b ≡ getD (bytesOf (old M x k d)) (linkAt x k d) 0 → linkGoes (bytesOf (old M x k d)) x b ≡ false
+      → bytesOf (new M x k d) ≡ bytesOf (old M x k d)
   unfolding turnLinks
-  unlink-kept c b e t = stay (turn-kept (M .roster) x (M .link x k d) (λ y q. c x k y d q) (sym (goes b e) ∙ t))
+  to-same c b e t =
+      relink (M .link x k d) (turn-kept (M .roster) x (M .link x k d) (λ y q. c x k y d q) (sym (goes b e) ∙ t))
+      ∙ ap (set (bytesOf (old M x k d)) (linkAt x k d)) (sym old-byte)
+      ∙ set-getD (bytesOf (old M x k d)) (linkAt x k d) 0
 
 -- the same from the bytes, the side as a number
 module _ (M : Meaning) (c : Linked M) (x k : ℕ) (h : x < seats) (g : k < levels) {l : List ℕ} where
-  cut : (d : Side) → l ≡ bytesOf (relinked (linkPlace x k (sideNumber d)) M) → (b : ℕ) → b ≡ getD l (linkAt x k d) 0 → linkGoes l x b ≡ true
-      → set l (linkAt x k d) noLink ≡ bytesOf (relinked (linkPlace x k (sideNumber d) + 1) M)
+  cut : (d : Side) → l ≡ bytesOf (old M x k d) → (b : ℕ) → b ≡ getD l (linkAt x k d) 0 → linkGoes l x b ≡ true
+      → set l (linkAt x k d) noLink ≡ bytesOf (new M x k d)
   cut d e b f t =
       ap (λ (m : List ℕ). set m (linkAt x k d) noLink) e
-      ∙ sym (unlink-none M x k d h g b (f ∙ ap (λ (m : List ℕ). getD m (linkAt x k d) 0) e) (sym (ap (λ (m : List ℕ). linkGoes m x b) e) ∙ t))
+      ∙ sym (to-none M x k d h g b (f ∙ ap (λ (m : List ℕ). getD m (linkAt x k d) 0) e) (sym (ap (λ (m : List ℕ). linkGoes m x b) e) ∙ t))
 
-  uncut : (d : Side) → l ≡ bytesOf (relinked (linkPlace x k (sideNumber d)) M) → (b : ℕ) → b ≡ getD l (linkAt x k d) 0 → linkGoes l x b ≡ false
-      → l ≡ bytesOf (relinked (linkPlace x k (sideNumber d) + 1) M)
+  uncut : (d : Side) → l ≡ bytesOf (old M x k d) → (b : ℕ) → b ≡ getD l (linkAt x k d) 0 → linkGoes l x b ≡ false → l ≡ bytesOf (new M x k d)
   uncut d e b f t =
-      e ∙ sym (unlink-kept M x k d h g c b (f ∙ ap (λ (m : List ℕ). getD m (linkAt x k d) 0) e) (sym (ap (λ (m : List ℕ). linkGoes m x b) e) ∙ t))
+      e ∙ sym (to-same M x k d h g c b (f ∙ ap (λ (m : List ℕ). getD m (linkAt x k d) 0) e) (sym (ap (λ (m : List ℕ). linkGoes m x b) e) ∙ t))
 
-  pub cut-link : (d b : ℕ) → d < 2 → l ≡ bytesOf (relinked (linkPlace x k d) M) → b ≡ getD l (entryAt x + 10 + 2 * k + d) 0 → linkGoes l x b ≡ true
-      → set l (entryAt x + 10 + 2 * k + d) noLink ≡ bytesOf (relinked (linkPlace x k d + 1) M)
+  pub cut-link : (d b : ℕ) → d < 2 → l ≡ bytesOf (relinked (linkPlace x k d) M) → b ≡ getD l (entryAt x + 10 + 2 * k + d) 0
+      → linkGoes l x b ≡ true → set l (entryAt x + 10 + 2 * k + d) noLink ≡ bytesOf (relinked (linkPlace x k d + 1) M)
   cut-link zero b q e f t = cut left e b f t
   cut-link (suc zero) b q e f t = cut right e b f t
   cut-link (suc (suc d)) b q e f t = absurd (omega arith)
 
-  pub uncut-link : (d b : ℕ) → d < 2 → l ≡ bytesOf (relinked (linkPlace x k d) M) → b ≡ getD l (entryAt x + 10 + 2 * k + d) 0 → linkGoes l x b ≡ false
-      → l ≡ bytesOf (relinked (linkPlace x k d + 1) M)
+  pub uncut-link : (d b : ℕ) → d < 2 → l ≡ bytesOf (relinked (linkPlace x k d) M) → b ≡ getD l (entryAt x + 10 + 2 * k + d) 0
+      → linkGoes l x b ≡ false → l ≡ bytesOf (relinked (linkPlace x k d + 1) M)
   uncut-link zero b q e f t = uncut left e b f t
   uncut-link (suc zero) b q e f t = uncut right e b f t
   uncut-link (suc (suc d)) b q e f t = absurd (omega arith)

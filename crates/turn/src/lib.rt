@@ -1,6 +1,6 @@
 // Turn (document 01, "Calls"): into phase clearing, or out of it.
 ghost use mathlib.Core.Path.{_≡_};
-ghost use Prim.Native.Nat.{ℕ, _+_, _*_, _-_, _<_};
+ghost use Prim.Native.Nat.{_+_, _*_, _-_, _<_};
 ghost use lib.ListN.{length, getD};
 ghost use Rattle.graph.specs.Vector.{width};
 ghost use Rattle.protocol.specs.Message.{going};
@@ -8,37 +8,42 @@ ghost use Rattle.protocol.specs.Numbering.{any, place, somePending};
 ghost use Rattle.protocol.specs.Table.{turn as turning};
 ghost use Rattle.protocol.specs.State.{leaves};
 ghost use Rattle.protocol.specs.Calls.{farewell, farewells, accept};
-ghost use Rattle.record.specs.Layout.{seats, levels, size};
+ghost use Rattle.record.specs.Layout.{seats, levels, size, entryAt};
 ghost use Rattle.record.specs.Meaning.{rosterIn, meaning};
-ghost use Rattle.record.specs.Reading.{sideOfNumber, recordRefusal};
+ghost use Rattle.record.specs.Reading.{sideOfNumber};
 ghost use Rattle.outcome.specs.Made.{madeRefusal, made};
 ghost use Rattle.outcome.specs.Answer.{told, answered};
 ghost use Rattle.turn.specs.Steps.{Step, same, saying, lotFarewells, farewellsFrom, linkGoes, linkPlace, relinked, freedTo, begun, ended};
-
 use outcome::Answer;
-use record::{LEVELS, NONE, PENDING, SEATS, SIZE};
+use record::LEVELS;
+use record::NONE;
+use record::PENDING;
+use record::SEATS;
+use record::SIZE;
 
+// The width of a vector, one less than the levels.
+const WIDTH: usize = LEVELS - 1;
+
+// The phases.
 const OPEN: u8 = 0;
 
 const CLEARING: u8 = 1;
 
+// The states up to staying; above it is leaving.
 const FREE: u8 = 0;
 
 const STAYING: u8 = 1;
 
-// The refusals of a turn.
-const WRONG_SIZE: u8 = 1;
-
-const UNSOUND: u8 = 2;
-
+// The refusal of a turn while messages are pending.
 const MESSAGES_LEFT: u8 = 11;
 
+// The sides.
 const LEFT: usize = 0;
 
 const RIGHT: usize = 1;
 
 // Where the places of GOING start: after MEET, PROBE and PULL.
-const GOING: usize = SEATS * SEATS * LEVELS + SEATS * SEATS * (LEVELS - 1) + SEATS * 2 * (LEVELS - 1) * 2;
+const GOING: usize = SEATS * SEATS * LEVELS + SEATS * SEATS * WIDTH + SEATS * 2 * WIDTH * 2;
 
 fn is_leaving(rec: &[u8], s: usize) -> bool
     requires { ⌜ (length (now rec) ≡ size) × (s < seats) ⌝ }
@@ -62,7 +67,7 @@ fn has_leaver(rec: &[u8]) -> bool
 // The link of seat s at level k on side d as a number.
 fn link(rec: &[u8], s: usize, k: usize, d: usize) -> usize
     requires { ⌜ (length (now rec) ≡ size) × (s < seats) × (k < levels) × (d < 2) ⌝ }
-    ensures { λ r. ⌜ r ≡ getD (now (rec .entry)) (1 + 28 * s + 10 + 2 * k + d) 0 ⌝ }
+    ensures { λ r. ⌜ r ≡ getD (now (rec .entry)) (entryAt s + 10 + 2 * k + d) 0 ⌝ }
 {
     record::link(rec, s, k, d) as usize
 }
@@ -184,7 +189,7 @@ fn begin_clearing(rec: &mut [u8])
     record::set_phase(rec, CLEARING);
 }
 
-// Out of it: the leavers' seats become free.
+// Out of it: the leavers' seats become free. Links are tested while the leavers still sit.
 fn end_clearing(rec: &mut [u8])
     requires { ⌜ length (now rec) ≡ size ⌝ }
     ensures { λ _. ⌜ Step same ended (now (rec .entry)) (now (rec .exit)) ⌝ }
@@ -208,19 +213,6 @@ fn carry_out(rec: &mut [u8])
     }
 }
 
-// 1 wrong size, 2 unsound, or 0.
-fn record_refusal(rec: &[u8]) -> u8
-    ensures { λ r. ⌜ r ≡ recordRefusal (now (rec .entry)) ⌝ }
-{
-    if rec.len() != SIZE {
-        return WRONG_SIZE;
-    }
-    if !soundness::is_sound(rec) {
-        return UNSOUND;
-    }
-    0
-}
-
 fn has_pending(rec: &[u8]) -> bool
     requires { ⌜ length (now rec) ≡ size ⌝ }
     ensures { λ r. ⌜ r ≡ somePending seats width (meaning (now (rec .entry)) .pending) ⌝ }
@@ -232,7 +224,7 @@ fn has_pending(rec: &[u8]) -> bool
 fn turn_refusal(rec: &[u8]) -> u8
     ensures { λ r. ⌜ r ≡ madeRefusal (now (rec .entry)) turning ⌝ }
 {
-    let n = record_refusal(rec);
+    let n = soundness::record_refusal(rec);
     if n != 0 {
         return n;
     }

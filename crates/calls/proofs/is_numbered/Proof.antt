@@ -3,8 +3,8 @@ use Prim.Native.Nat.{ℕ}
 use mathlib.Core.Path.{sym, ap, _∙_}
 use lib.Dec.{eqb}
 use borrow.Author.Needs.{needs}
-use Rattle.soundness.proofs.Roster.{number-bytes}
-use Rattle.soundness.proofs.Tests.{and-stop, and-go}
+use Rattle.roster.proofs.Bytes.{number-bytes}
+use Rattle.roster.proofs.Tests.{and-stop, and-go}
 use Rattle.calls.proofs.is_numbered.Statement.{statement}
 use Rattle.calls.proofs.is_numbered.Tie as tie
 

@@ -1,5 +1,4 @@
 -- `command::alone` meets its contract: each arm has its letter, or none of them. Assumes nothing.
-use mathlib.Core.Path.{_≡_, refl}
 use borrow.Author.Tests.{ne-eqb}
 use Rattle.command.specs.Command.{commandOf}
 use Rattle.command.proofs.alone.Statement.{statement}

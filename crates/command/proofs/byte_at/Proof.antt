@@ -1,5 +1,4 @@
 -- `command::byte_at` meets its contract: a byte is a number below 256. Assumes nothing.
-use mathlib.Core.Path.{_≡_, sym, _∙_}
 use native.Mathlib.Omega.{arith}
 use borrow.Author.Tests.{lt-ltb, le-ltb}
 use borrow.Author.Needs.{needs}
@@ -22,7 +21,7 @@ enum-known-n c = search needs
 returns : tie.Need-returns
 returns c =
     let b = c .before .before in
-    rw (read-narrow, ← b .before .before .number-at .ensures, b .n .given .1, le-ltb (b .n .given .0 .0) 256 (c .if1 .taken))
+    rw (read-narrow, ← b .before .before .number-at .ensures, b .n .given .1, le-ltb (b .n .given .0 .0) 256 (omega arith))
 
 cast-t9 : tie.Need-cast-t9
 cast-t9 c = search needs
@@ -33,7 +32,7 @@ enum-known-n-2 c = search needs
 returns-2 : tie.Need-returns-2
 returns-2 c =
     let b = c .before .before in
-    rw (read-narrow, ← b .before .before .number-at .ensures, b .n2 .given .1, le-ltb (b .n2 .given .0 .0) 256 (c .if2 .taken))
+    rw (read-narrow, ← b .before .before .number-at .ensures, b .n2 .given .1, le-ltb (b .n2 .given .0 .0) 256 (omega arith))
 
 cast-t11 : tie.Need-cast-t11
 cast-t11 c = search needs

@@ -1,5 +1,4 @@
--- `command::deliver` meets its contract. a1, a2, .. are the places after each read, v1, v2, .. those where its number is known. Assumes nothing.
-use mathlib.Core.Path.{_≡_}
+-- `command::deliver` meets its contract. a1, a2, .. are the places after each read. Assumes nothing.
 use borrow.Author.Needs.{needs}
 use Rattle.command.proofs.Commands.{deliver-reads}
 use Rattle.command.proofs.Answers.{byte-no-last, byte-no-more}
@@ -33,12 +32,11 @@ enum-known-to c = search needs
 returns-2 : tie.Need-returns-2
 returns-2 c =
     let a2 = c .before in
-    let v1 = a2 .before .before in
-    let a1 = v1 .before .before in
+    let a1 = a2 .before .before .before .before in
     rw (
       deliver-reads,
       ← a1 .byte-at .ensures,
-      v1 .kind .given .1,
+      a2 .before .before .kind .given .1,
       ← a2 .byte-at2 .ensures,
       byte-no-more (a1 .before .before .args .line .now) (a2 .byte-at2 .result) _ (c .match2 .keys2),
     )
@@ -52,16 +50,14 @@ enum-known-about c = search needs
 returns-3 : tie.Need-returns-3
 returns-3 c =
     let a3 = c .before in
-    let v2 = a3 .before .before in
-    let a2 = v2 .before .before in
-    let v1 = a2 .before .before in
-    let a1 = v1 .before .before in
+    let a2 = a3 .before .before .before .before in
+    let a1 = a2 .before .before .before .before in
     rw (
       deliver-reads,
       ← a1 .byte-at .ensures,
-      v1 .kind .given .1,
+      a2 .before .before .kind .given .1,
       ← a2 .byte-at2 .ensures,
-      v2 .to .given .1,
+      a3 .before .before .to .given .1,
       ← a3 .byte-at3 .ensures,
       byte-no-more (a1 .before .before .args .line .now) (a3 .byte-at3 .result) _ (c .match3 .keys2),
     )
@@ -75,20 +71,17 @@ enum-known-level c = search needs
 returns-4 : tie.Need-returns-4
 returns-4 c =
     let a4 = c .before in
-    let v3 = a4 .before .before in
-    let a3 = v3 .before .before in
-    let v2 = a3 .before .before in
-    let a2 = v2 .before .before in
-    let v1 = a2 .before .before in
-    let a1 = v1 .before .before in
+    let a3 = a4 .before .before .before .before in
+    let a2 = a3 .before .before .before .before in
+    let a1 = a2 .before .before .before .before in
     rw (
       deliver-reads,
       ← a1 .byte-at .ensures,
-      v1 .kind .given .1,
+      a2 .before .before .kind .given .1,
       ← a2 .byte-at2 .ensures,
-      v2 .to .given .1,
+      a3 .before .before .to .given .1,
       ← a3 .byte-at3 .ensures,
-      v3 .about .given .1,
+      a4 .before .before .about .given .1,
       ← a4 .byte-at4 .ensures,
       byte-no-more (a1 .before .before .args .line .now) (a4 .byte-at4 .result) _ (c .match4 .keys2),
     )
@@ -102,52 +95,43 @@ enum-known-side c = search needs
 returns-5 : tie.Need-returns-5
 returns-5 c =
     let a5 = c .before in
-    let v4 = a5 .before .before in
-    let a4 = v4 .before .before in
-    let v3 = a4 .before .before in
-    let a3 = v3 .before .before in
-    let v2 = a3 .before .before in
-    let a2 = v2 .before .before in
-    let v1 = a2 .before .before in
-    let a1 = v1 .before .before in
+    let a4 = a5 .before .before .before .before in
+    let a3 = a4 .before .before .before .before in
+    let a2 = a3 .before .before .before .before in
+    let a1 = a2 .before .before .before .before in
     rw (
       deliver-reads,
       ← a1 .byte-at .ensures,
-      v1 .kind .given .1,
+      a2 .before .before .kind .given .1,
       ← a2 .byte-at2 .ensures,
-      v2 .to .given .1,
+      a3 .before .before .to .given .1,
       ← a3 .byte-at3 .ensures,
-      v3 .about .given .1,
+      a4 .before .before .about .given .1,
       ← a4 .byte-at4 .ensures,
-      v4 .level .given .1,
+      a5 .before .before .level .given .1,
       ← a5 .byte-at5 .ensures,
       byte-no-last (a1 .before .before .args .line .now) (a5 .byte-at5 .result) _ (c .match5 .keys2),
     )
 
 returns-6 : tie.Need-returns-6
 returns-6 c =
-    let v5 = c .before in
-    let a5 = v5 .before .before in
-    let v4 = a5 .before .before in
-    let a4 = v4 .before .before in
-    let v3 = a4 .before .before in
-    let a3 = v3 .before .before in
-    let v2 = a3 .before .before in
-    let a2 = v2 .before .before in
-    let v1 = a2 .before .before in
-    let a1 = v1 .before .before in
+    let a5 = c .before .before .before in
+    let a4 = a5 .before .before .before .before in
+    let a3 = a4 .before .before .before .before in
+    let a2 = a3 .before .before .before .before in
+    let a1 = a2 .before .before .before .before in
     rw (
       deliver-reads,
       ← a1 .byte-at .ensures,
-      v1 .kind .given .1,
+      a2 .before .before .kind .given .1,
       ← a2 .byte-at2 .ensures,
-      v2 .to .given .1,
+      a3 .before .before .to .given .1,
       ← a3 .byte-at3 .ensures,
-      v3 .about .given .1,
+      a4 .before .before .about .given .1,
       ← a4 .byte-at4 .ensures,
-      v4 .level .given .1,
+      a5 .before .before .level .given .1,
       ← a5 .byte-at5 .ensures,
-      v5 .side .given .1,
+      c .before .side .given .1,
     )
 
 pub deliver-spec : {M : Type 1} → statement M

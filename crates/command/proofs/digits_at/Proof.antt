@@ -1,8 +1,8 @@
 -- `command::digits_at` meets its contract. The loop's invariant: n is the number of the digits so far, and the field reads the same
 -- from i on. Assumes nothing.
-use mathlib.Core.Path.{_≡_, refl, sym, ap, _∙_}
+use mathlib.Core.Path.{_≡_, sym, ap, _∙_}
 use mathlib.Core.List.{List, _∷_}
-use Prim.Native.Nat.{ℕ, _+_, _-_, _*_, _^_, _≤_, _<_}
+use Prim.Native.Nat.{ℕ, _+_, _-_, _*_, _^_, _<_}
 use native.Mathlib.Omega.{arith}
 use lib.ListN.{length, getD, drop, drop-of-length-le}
 use borrow.Author.Needs.{needs}
@@ -26,7 +26,9 @@ abbrev μ-loop : tie.MeasureT-loop
 here : (c : tie.In-loop Inv-loop μ-loop)
     → read (digitsField 0) (fields (drop (c .before .before .before .args .at) (c .before .before .before .args .line .now)))
     ≡ read (digitsField (c .before .loop .n))
-    (fields (getD (c .before .before .before .args .line .now) (c .before .loop .i) 0 ∷ drop (c .before .loop .i + 1) (c .before .before .before .args .line .now)))
+    (fields
+    (getD (c .before .before .before .args .line .now) (c .before .loop .i) 0
+    ∷ drop (c .before .loop .i + 1) (c .before .before .before .args .line .now)))
 here c =
     c .before .loop .inv .1 ∙
     ap (λ (m : List ℕ). read (digitsField (c .before .loop .n)) (fields m))
@@ -36,10 +38,10 @@ loop-holds : tie.Need-loop-holds Inv-loop μ-loop
 loop-holds c = search needs
 
 shared-slice-read-b : tie.Need-shared-slice-read-b Inv-loop μ-loop
-shared-slice-read-b c = search needs
+shared-slice-read-b c = omega arith
 
 add-t11 : tie.Need-add-t11 Inv-loop μ-loop
-add-t11 c = search needs
+add-t11 c = omega arith
 
 returns : tie.Need-returns Inv-loop μ-loop
 returns c =
@@ -62,7 +64,7 @@ wide-requires : tie.Need-wide-requires Inv-loop μ-loop
 wide-requires c κs = search needs
 
 sub-if4 : tie.Need-sub-if4 Inv-loop μ-loop
-sub-if4 c = search needs
+sub-if4 c = omega arith
 
 returns-4 : tie.Need-returns-4 Inv-loop μ-loop
 returns-4 c =
@@ -72,16 +74,16 @@ returns-4 c =
     read-wide (b .before .loop .n * 10 + _) _ (omega arith))
 
 mul-n : tie.Need-mul-n Inv-loop μ-loop
-mul-n c = search needs
+mul-n c = omega arith
 
 add-n : tie.Need-add-n Inv-loop μ-loop
-add-n c = search needs
+add-n c = omega arith
 
 add-i : tie.Need-add-i Inv-loop μ-loop
-add-i c = search needs
+add-i c = omega arith
 
 loop-less : tie.Need-loop-less Inv-loop μ-loop
-loop-less c = search needs
+loop-less c = omega arith
 
 loop-again : tie.Need-loop-again Inv-loop μ-loop
 loop-again c =

@@ -1,5 +1,4 @@
--- `command::find` meets its contract. a1, a2, .. are the places after each read, v1, v2, .. those where its number is known. Assumes nothing.
-use mathlib.Core.Path.{_≡_}
+-- `command::find` meets its contract. a1, a2, .. are the places after each read. Assumes nothing.
 use borrow.Author.Needs.{needs}
 use Rattle.command.proofs.Commands.{find-reads}
 use Rattle.command.proofs.Answers.{byte-no-more, number-no-last}
@@ -34,28 +33,25 @@ enum-known-n c = search needs
 returns-2 : tie.Need-returns-2
 returns-2 c =
     let a2 = c .before in
-    let v1 = a2 .before .before in
-    let a1 = v1 .before .before in
+    let a1 = a2 .before .before .before .before in
     rw (
       find-reads,
       ← a1 .byte-at .ensures,
-      v1 .start .given .1,
+      a2 .before .before .start .given .1,
       ← a2 .number-at .ensures,
       number-no-last (a1 .before .before .args .line .now) (a2 .number-at .result) _ (c .match2 .keys2),
     )
 
 returns-3 : tie.Need-returns-3
 returns-3 c =
-    let v2 = c .before in
-    let a2 = v2 .before .before in
-    let v1 = a2 .before .before in
-    let a1 = v1 .before .before in
+    let a2 = c .before .before .before in
+    let a1 = a2 .before .before .before .before in
     rw (
       find-reads,
       ← a1 .byte-at .ensures,
-      v1 .start .given .1,
+      a2 .before .before .start .given .1,
       ← a2 .number-at .ensures,
-      v2 .n .given .1,
+      c .before .n .given .1,
     )
 
 pub find-spec : {M : Type 1} → statement M

@@ -1,5 +1,4 @@
--- `command::join` meets its contract. a1, a2, .. are the places after each read, v1, v2, .. those where its number is known. Assumes nothing.
-use mathlib.Core.Path.{_≡_}
+-- `command::join` meets its contract. a1, a2, .. are the places after each read. Assumes nothing.
 use borrow.Author.Needs.{needs}
 use Rattle.command.proofs.Commands.{join-reads}
 use Rattle.command.proofs.Answers.{byte-no-last, byte-no-more, number-no-more}
@@ -34,12 +33,11 @@ enum-known-n c = search needs
 returns-2 : tie.Need-returns-2
 returns-2 c =
     let a2 = c .before in
-    let v1 = a2 .before .before in
-    let a1 = v1 .before .before in
+    let a1 = a2 .before .before .before .before in
     rw (
       join-reads,
       ← a1 .byte-at .ensures,
-      v1 .seat .given .1,
+      a2 .before .before .seat .given .1,
       ← a2 .number-at .ensures,
       number-no-more (a1 .before .before .args .line .now) (a2 .number-at .result) _ (c .match2 .keys2),
     )
@@ -53,16 +51,14 @@ enum-known-vector c = search needs
 returns-3 : tie.Need-returns-3
 returns-3 c =
     let a3 = c .before in
-    let v2 = a3 .before .before in
-    let a2 = v2 .before .before in
-    let v1 = a2 .before .before in
-    let a1 = v1 .before .before in
+    let a2 = a3 .before .before .before .before in
+    let a1 = a2 .before .before .before .before in
     rw (
       join-reads,
       ← a1 .byte-at .ensures,
-      v1 .seat .given .1,
+      a2 .before .before .seat .given .1,
       ← a2 .number-at .ensures,
-      v2 .n .given .1,
+      a3 .before .before .n .given .1,
       ← a3 .byte-at2 .ensures,
       byte-no-more (a1 .before .before .args .line .now) (a3 .byte-at2 .result) _ (c .match3 .keys2),
     )
@@ -76,44 +72,37 @@ enum-known-contact c = search needs
 returns-4 : tie.Need-returns-4
 returns-4 c =
     let a4 = c .before in
-    let v3 = a4 .before .before in
-    let a3 = v3 .before .before in
-    let v2 = a3 .before .before in
-    let a2 = v2 .before .before in
-    let v1 = a2 .before .before in
-    let a1 = v1 .before .before in
+    let a3 = a4 .before .before .before .before in
+    let a2 = a3 .before .before .before .before in
+    let a1 = a2 .before .before .before .before in
     rw (
       join-reads,
       ← a1 .byte-at .ensures,
-      v1 .seat .given .1,
+      a2 .before .before .seat .given .1,
       ← a2 .number-at .ensures,
-      v2 .n .given .1,
+      a3 .before .before .n .given .1,
       ← a3 .byte-at2 .ensures,
-      v3 .vector .given .1,
+      a4 .before .before .vector .given .1,
       ← a4 .byte-at3 .ensures,
       byte-no-last (a1 .before .before .args .line .now) (a4 .byte-at3 .result) _ (c .match4 .keys2),
     )
 
 returns-5 : tie.Need-returns-5
 returns-5 c =
-    let v4 = c .before in
-    let a4 = v4 .before .before in
-    let v3 = a4 .before .before in
-    let a3 = v3 .before .before in
-    let v2 = a3 .before .before in
-    let a2 = v2 .before .before in
-    let v1 = a2 .before .before in
-    let a1 = v1 .before .before in
+    let a4 = c .before .before .before in
+    let a3 = a4 .before .before .before .before in
+    let a2 = a3 .before .before .before .before in
+    let a1 = a2 .before .before .before .before in
     rw (
       join-reads,
       ← a1 .byte-at .ensures,
-      v1 .seat .given .1,
+      a2 .before .before .seat .given .1,
       ← a2 .number-at .ensures,
-      v2 .n .given .1,
+      a3 .before .before .n .given .1,
       ← a3 .byte-at2 .ensures,
-      v3 .vector .given .1,
+      a4 .before .before .vector .given .1,
       ← a4 .byte-at3 .ensures,
-      v4 .contact .given .1,
+      c .before .contact .given .1,
     )
 
 pub join-spec : {M : Type 1} → statement M

@@ -1,5 +1,4 @@
 -- `command::leave` meets its contract. Assumes nothing.
-use mathlib.Core.Path.{_≡_, sym, _∙_}
 use borrow.Author.Needs.{needs}
 use Rattle.command.proofs.Commands.{leave-reads}
 use Rattle.command.proofs.Answers.{byte-no-last}

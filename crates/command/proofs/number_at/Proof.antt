@@ -2,8 +2,9 @@
 use mathlib.Core.Path.{_≡_, sym, _∙_}
 use mathlib.Core.List.{[]}
 use mathlib.Core.Logic.{⊎-elim}
-use Prim.Native.Nat.{ℕ, _+_}
+use Prim.Native.Nat.{_+_}
 use lib.ListN.{getD, drop, drop-of-length-le}
+use native.Mathlib.Omega.{arith}
 use borrow.Author.Needs.{needs}
 use borrow.Author.Tests.{ltb-true, ltb-false, eqb-true, eqb-false, not-true, not-false}
 use Rattle.command.proofs.Fields.{drop-here, first, first-end, first-space}
@@ -37,13 +38,15 @@ returns-3 c =
     let z = c .before .before in
     let b = z .before .before .before .before in
     let s = b .before .before .args in
+    let e : getD (s .line .now) (s .at) 0 ≡ 48 = omega arith in
     let n = ltb-true _ _ (z .if4 .taken) in
     sym
     (rw (drop-here (s .line .now) (s .at) (b .if1 .left), drop-here (s .line .now) (s .at + 1) n)
-    (number-zero _ _ _ (z .before .if3 .taken) (eqb-false _ _ (not-true _ (c .if5 .taken)))))
+    (number-zero _ _ _ e (eqb-false _ _ (not-true _ (c .if5 .taken)))))
 
 -- past the test for a leading zero, a 0 ends its field
-ends : (c : tie.Joined3) → getD (c .before .before .before .before .before .args .line .now) (c .before .before .before .before .before .args .at) 0 ≡ 48
+ends : (c : tie.Joined3)
+    → getD (c .before .before .before .before .before .args .line .now) (c .before .before .before .before .before .args .at) 0 ≡ 48
     → first (drop (c .before .before .before .before .before .args .at + 1) (c .before .before .before .before .before .args .line .now)) ≡ []
 ends c e =
     let s = c .before .before .before .before .before .args in
@@ -60,7 +63,8 @@ returns-4 : tie.Need-returns-4
 returns-4 c =
     let b = c .before .before .before .before in
     let s = b .before .before .args in
-    c .digits-at .ensures ∙ sym (rw (drop-here (s .line .now) (s .at) (b .if1 .left)) (number-digits _ _ (c .before .before .if2 .left) (ends (c .before))))
+    c .digits-at .ensures ∙
+    sym (rw (drop-here (s .line .now) (s .at) (b .if1 .left)) (number-digits _ _ (c .before .before .if2 .left) (ends (c .before))))
 
 pub number-at-spec : {M : Type 1} → statement M
 number-at-spec =

@@ -1,8 +1,5 @@
 -- `find::along` meets its contract. Assumes nothing.
-use Prim.Native.Nat.{ℕ}
-use mathlib.Core.Path.{_≡_, sym, _∙_, ap}
-use mathlib.Core.Bool.{Bool}
-use native.Mathlib.Omega.{arith}
+use mathlib.Core.Path.{sym, _∙_, ap}
 use borrow.Author.Needs.{needs}
 use Rattle.graph.specs.Side.{onSide}
 use Rattle.record.specs.Meaning.{rosterIn, meaning}

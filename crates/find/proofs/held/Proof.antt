@@ -1,10 +1,8 @@
 -- `find::held` meets its contract. Assumes nothing.
-use Prim.Native.Nat.{ℕ, suc, _+_, _≤_, _<_}
-use mathlib.Core.Path.{_≡_, sym, _∙_, ap}
+use mathlib.Core.Path.{sym, _∙_, ap}
 use native.Mathlib.Omega.{arith}
 use native.Mathlib.Numerals.{add-one}
 use borrow.Author.Needs.{needs}
-use Rattle.record.specs.Meaning.{rosterIn, meaning}
 use Rattle.search.proofs.Step.{is-end, is-left, is-none, held-at}
 use Rattle.find.specs.declared.Found.the-variants.{Holder}
 use Rattle.find.specs.Answer.{heldBy, heldOf}

@@ -1,7 +1,4 @@
 -- `find::on_side` meets its contract. Assumes nothing.
-use Prim.Native.Nat.{ℕ}
-use mathlib.Core.Path.{_≡_, refl}
-use lib.Dec.{eqb, ltb}
 use borrow.Author.Tests.{eq-eqb, ne-eqb}
 use Rattle.graph.specs.Side.{onSide}
 use Rattle.find.proofs.on_side.Statement.{statement}

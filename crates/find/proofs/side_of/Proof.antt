@@ -1,5 +1,4 @@
 -- `find::side_of` meets its contract. Assumes nothing.
-use mathlib.Core.Path.{refl}
 use native.Mathlib.Omega.{arith}
 use borrow.Author.Tests.{lt-ltb, le-ltb}
 use Rattle.graph.specs.Side.{sideOf}

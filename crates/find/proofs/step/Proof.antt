@@ -1,6 +1,6 @@
 -- `find::step` meets its contract. Assumes nothing.
 use Prim.Native.Nat.{ℕ}
-use mathlib.Core.Path.{_≡_, sym, _∙_, ap}
+use mathlib.Core.Path.{sym, _∙_, ap}
 use borrow.Author.Needs.{needs}
 use Rattle.graph.specs.Side.{sideOf}
 use Rattle.protocol.specs.Message.{sideNumber}

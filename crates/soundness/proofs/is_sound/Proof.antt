@@ -1,7 +1,7 @@
 -- `soundness::is_sound` meets its contract: a clause after the other. Assumes nothing.
 use borrow.Author.Needs.{needs}
 use Rattle.record.specs.Sound.{sound}
-use Rattle.soundness.proofs.Tests.{and-stop, and-go}
+use Rattle.roster.proofs.Tests.{and-stop, and-go}
 use Rattle.soundness.proofs.is_sound.Statement.{statement}
 use Rattle.soundness.proofs.is_sound.Tie as tie
 
@@ -28,11 +28,14 @@ returns-2 : tie.Need-returns-2
 unfolding sound
 returns-2 c =
     and-go (c .before .before .before .before .before .phase-fits .ensures) (c .before .before .before .before .if1 .taken)
-    (and-go (c .before .before .before .states-fit .ensures) (c .before .before .if2 .taken) (and-stop _ (c .before .unused-fit .ensures) (c .if3 .left)))
+    (and-go (c .before .before .before .states-fit .ensures) (c .before .before .if2 .taken)
+    (and-stop _ (c .before .unused-fit .ensures) (c .if3 .left)))
 
 returns-3 : tie.Need-returns-3
 unfolding sound
-returns-3 c = and-go (c .before .before .before .phase-fits .ensures) (c .before .before .if1 .taken) (and-stop _ (c .before .states-fit .ensures) (c .if2 .left))
+returns-3 c =
+    and-go (c .before .before .before .phase-fits .ensures) (c .before .before .if1 .taken)
+    (and-stop _ (c .before .states-fit .ensures) (c .if2 .left))
 
 returns-4 : tie.Need-returns-4
 unfolding sound

@@ -1,6 +1,6 @@
 -- `soundness::lots_fit` meets its contract. Assumes nothing.
 use borrow.Author.Needs.{needs}
-use Rattle.soundness.proofs.Tests.{and-stop, and-go}
+use Rattle.roster.proofs.Tests.{and-stop, and-go}
 use Rattle.soundness.proofs.lots_fit.Statement.{statement}
 use Rattle.soundness.proofs.lots_fit.Tie as tie
 
@@ -22,7 +22,9 @@ returns c =
     (and-go (c .before .before .links-fit .ensures) (c .before .if2 .taken) (c .messages-fit .ensures))
 
 returns-2 : tie.Need-returns-2
-returns-2 c = and-go (c .before .before .before .before .numbers-differ .ensures) (c .before .before .before .if1 .taken) (and-stop _ (c .before .links-fit .ensures) (c .if2 .left))
+returns-2 c =
+    and-go (c .before .before .before .before .numbers-differ .ensures) (c .before .before .before .if1 .taken)
+    (and-stop _ (c .before .links-fit .ensures) (c .if2 .left))
 
 returns-3 : tie.Need-returns-3
 returns-3 c = and-stop _ (c .before .numbers-differ .ensures) (c .if1 .left)

@@ -1,35 +1,27 @@
 -- `turn::begin_clearing` meets its contract. Assumes nothing.
 use Prim.Native.Nat.{ℕ}
-use mathlib.Core.Path.{_≡_, sym, ap, _∙_}
+use mathlib.Core.Path.{sym, ap, _∙_}
 use mathlib.Core.List.{List}
 use lib.ListN.{set}
+use borrow.Author.Needs.{needs}
 use Rattle.graph.specs.Vector.{width}
 use Rattle.protocol.specs.State.{clearing}
 use Rattle.protocol.specs.Calls.{farewells}
 use Rattle.record.specs.Layout.{seats, phaseAt}
 use Rattle.record.proofs.Update.{bytes-withPhase}
 use Rattle.turn.specs.Steps.{saying}
-use borrow.Author.Needs.{needs}
 use Rattle.turn.proofs.begin_clearing.Statement.{statement}
 use Rattle.turn.proofs.begin_clearing.Tie as tie
-use Rattle.turn.proofs.begin_clearing.Reads as reads
-use Rattle.turn.proofs.begin_clearing.Lts as lts
-use Rattle.record.proofs.set_phase.Reads as set-phase-reads
-use Rattle.turn.proofs.tell_all.Reads as tell-all-reads
 
--- src/lib.rt:176:5
 tell-all-requires : tie.Need-tell-all-requires
 tell-all-requires c κs = search needs
 
--- src/lib.rt:177:5
 set-phase-requires : tie.Need-set-phase-requires
 set-phase-requires c κs = search needs
 
--- src/lib.rt:172:1
 same-length : tie.Need-same-length
 same-length c = search needs
 
--- src/lib.rt:172:1
 returns : tie.Need-returns
 returns c = λ M f e.
     c .before .before .set-phase .ensures

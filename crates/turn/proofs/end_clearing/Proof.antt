@@ -1,44 +1,36 @@
 -- `turn::end_clearing` meets its contract. Assumes nothing.
 use Prim.Native.Nat.{ℕ}
-use mathlib.Core.Path.{_≡_, sym, ap, _∙_}
+use mathlib.Core.Path.{sym, ap, _∙_}
 use mathlib.Core.List.{List}
 use lib.ListN.{set}
+use borrow.Author.Needs.{needs}
 use Rattle.protocol.specs.State.{open-phase}
 use Rattle.record.specs.Layout.{seats, phaseAt}
 use Rattle.record.proofs.Update.{bytes-withPhase}
 use Rattle.turn.specs.Steps.{linkPlace, relinked, freedTo}
 use Rattle.turn.proofs.Unlinking.{relinked-linked}
-use borrow.Author.Needs.{needs}
 use Rattle.turn.proofs.end_clearing.Statement.{statement}
 use Rattle.turn.proofs.end_clearing.Tie as tie
-use Rattle.turn.proofs.end_clearing.Reads as reads
-use Rattle.turn.proofs.end_clearing.Lts as lts
-use Rattle.record.proofs.set_phase.Reads as set-phase-reads
-use Rattle.turn.proofs.free_all.Reads as free-all-reads
-use Rattle.turn.proofs.unlink_all.Reads as unlink-all-reads
 
--- src/lib.rt:185:5
 unlink-all-requires : tie.Need-unlink-all-requires
 unlink-all-requires c κs = search needs
 
--- src/lib.rt:186:5
 free-all-requires : tie.Need-free-all-requires
 free-all-requires c κs = search needs
 
--- src/lib.rt:187:5
 set-phase-requires : tie.Need-set-phase-requires
 set-phase-requires c κs = search needs
 
--- src/lib.rt:181:1
 same-length : tie.Need-same-length
 same-length c = search needs
 
--- src/lib.rt:181:1
 returns : tie.Need-returns
 returns c = λ M f e.
     let n = linkPlace seats 0 0 in
+    let a = c .before .before .before .before .before .before in
+    let b = a .before .before .before .before in
     c .before .before .set-phase .ensures
-    ∙ ap (λ (l : List ℕ). set l phaseAt 0) (c .before .before .before .before .before .before .free-all .ensures (relinked n M) (relinked-linked M n f) (c .before .before .before .before .before .before .before .before .before .before .unlink-all .ensures M f e))
+    ∙ ap (λ (l : List ℕ). set l phaseAt 0) (a .free-all .ensures (relinked n M) (relinked-linked M n f) (b .unlink-all .ensures M f e))
     ∙ sym (bytes-withPhase (freedTo seats (relinked n M)) open-phase)
 
 pub end-clearing-spec : {M : Type 1} → statement M

@@ -1,19 +1,15 @@
 -- `turn::free_all` meets its contract: the seats below `s` are done. Assumes nothing.
-use Rattle.turn.specs.Steps.{Step, same, freedTo}
-use Rattle.turn.proofs.Freeing.{freedTo-none}
-use Prim.Native.Nat.{ℕ, _≤_, _-_, _+_}
+use Prim.Native.Nat.{ℕ, _≤_, _-_}
 use mathlib.Core.Path.{_≡_, refl, sym, ap, _∙_}
 use native.Mathlib.Omega.{arith}
-use borrow.Author.Needs.{needs}
 use lib.ListN.{length}
-use Rattle.protocol.specs.State.{Meaning}
-use Rattle.record.specs.Layout.{seats, levels}
+use borrow.Author.Needs.{needs}
+use Rattle.record.specs.Layout.{seats}
 use Rattle.record.specs.Meaning.{bytesOf}
+use Rattle.turn.specs.Steps.{Step, same, freedTo}
+use Rattle.turn.proofs.Freeing.{freedTo-none}
 use Rattle.turn.proofs.free_all.Statement.{statement}
 use Rattle.turn.proofs.free_all.Tie as tie
-use Rattle.turn.proofs.free_all.Reads as reads
-use Rattle.turn.proofs.free_all.Lts as lts
-use Rattle.turn.proofs.free_seat.Reads as free-seat-reads
 
 abbrev Inv-loop : tie.InvT-loop
 Inv-loop rec₀ s₀ rec s = (s ≤ seats) × (length rec ≡ length rec₀) × Step same (freedTo s) rec₀ rec
@@ -21,34 +17,27 @@ Inv-loop rec₀ s₀ rec s = (s ≤ seats) × (length rec ≡ length rec₀) × 
 abbrev μ-loop : tie.MeasureT-loop
 μ-loop rec₀ s₀ rec s = seats - s
 
--- src/lib.rt:169:5
 loop-holds : tie.Need-loop-holds Inv-loop μ-loop
 loop-holds c = (search needs, refl, λ M f e. e ∙ sym (freedTo-none M))
 
--- src/lib.rt:170:9
 free-seat-requires : tie.Need-free-seat-requires Inv-loop μ-loop
 free-seat-requires c κs = omega arith
 
--- src/lib.rt:169:9
 add-s : tie.Need-add-s Inv-loop μ-loop
 add-s c = search needs
 
--- src/lib.rt:169:5
 loop-less : tie.Need-loop-less Inv-loop μ-loop
 loop-less c = search needs
 
--- src/lib.rt:169:5
 loop-again : tie.Need-loop-again Inv-loop μ-loop
 loop-again c =
     let a = c .before .before .before .before .before in
     let b = c .before .before .free-seat in
     (search needs, b .kept .0 ∙ a .loop .inv .1, λ M f e. b .ensures M f (a .loop .inv .2 M f e))
 
--- src/lib.rt:165:1
 same-length : tie.Need-same-length Inv-loop μ-loop
 same-length c = c .before .loop .inv .1
 
--- src/lib.rt:165:1
 returns : tie.Need-returns Inv-loop μ-loop
 returns c = λ M f e.
     let n : c .before .loop .s ≡ seats = omega arith in

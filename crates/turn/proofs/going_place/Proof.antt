@@ -1,34 +1,26 @@
 -- `turn::going_place` meets its contract. Assumes nothing.
 use native.Mathlib.Omega.{arith}
+use borrow.Author.Needs.{needs}
 use Rattle.protocol.specs.Numbering.{place}
 use Rattle.record.proofs.Places.{sideNumber-side}
-use borrow.Author.Needs.{needs}
 use Rattle.turn.proofs.going_place.Statement.{statement}
 use Rattle.turn.proofs.going_place.Tie as tie
-use Rattle.turn.proofs.going_place.Reads as reads
-use Rattle.turn.proofs.going_place.Lts as lts
 
--- src/lib.rt:64:14
 mul-result : tie.Need-mul-result
 mul-result c = search needs
 
--- src/lib.rt:64:14
 add-result : tie.Need-add-result
 add-result c = search needs
 
--- src/lib.rt:64:13
 mul-result-2 : tie.Need-mul-result-2
 mul-result-2 c = search needs
 
--- src/lib.rt:64:5
 add-result-2 : tie.Need-add-result-2
 add-result-2 c = search needs
 
--- src/lib.rt:64:5
 add-result-3 : tie.Need-add-result-3
 add-result-3 c = search needs
 
--- src/lib.rt:60:1
 returns : tie.Need-returns
 unfolding place
 returns c = omega (arith, sideNumber-side (c .args .d) (omega arith))

@@ -1,7 +1,7 @@
 -- `turn::has_leaver` meets its contract: no lot below `s` leaves. Assumes nothing.
 use Prim.Native.Nat.{ℕ, _≤_, _-_}
 use mathlib.Core.Path.{_≡_, sym, ap, _∙_}
-use mathlib.Core.Bool.{true, false}
+use mathlib.Core.Bool.{false}
 use native.Mathlib.Omega.{arith}
 use borrow.Author.Needs.{needs}
 use Rattle.protocol.specs.Numbering.{any}
@@ -11,9 +11,6 @@ use Rattle.record.specs.Meaning.{rosterIn}
 use Rattle.turn.proofs.Leaving.{any-start, any-more, any-found}
 use Rattle.turn.proofs.has_leaver.Statement.{statement}
 use Rattle.turn.proofs.has_leaver.Tie as tie
-use Rattle.turn.proofs.has_leaver.Reads as reads
-use Rattle.turn.proofs.has_leaver.Lts as lts
-use Rattle.turn.proofs.is_leaving.Reads as is-leaving-reads
 
 abbrev Inv-loop : tie.InvT-loop
 Inv-loop rec s₀ s = (s ≤ seats) × (any s (leaves (rosterIn rec)) ≡ false)
@@ -21,35 +18,30 @@ Inv-loop rec s₀ s = (s ≤ seats) × (any s (leaves (rosterIn rec)) ≡ false)
 abbrev μ-loop : tie.MeasureT-loop
 μ-loop rec s₀ s = seats - s
 
--- src/lib.rt:43:5
 loop-holds : tie.Need-loop-holds Inv-loop μ-loop
 loop-holds c = (search needs, any-start (leaves (rosterIn (c .before .args .rec .now))))
 
--- src/lib.rt:44:12
 is-leaving-requires : tie.Need-is-leaving-requires Inv-loop μ-loop
 is-leaving-requires c κs = search needs
 
--- src/lib.rt:45:13
 returns : tie.Need-returns Inv-loop μ-loop
 returns c =
     let a = c .before .before .before in
-    sym (any-found (leaves (rosterIn (a .before .before .args .rec .now))) seats (a .loop .s) (omega arith) (sym (c .before .is-leaving .ensures) ∙ c .if1 .taken))
+    let p = leaves (rosterIn (a .before .before .args .rec .now)) in
+    sym (any-found p seats (a .loop .s) (omega arith) (sym (c .before .is-leaving .ensures) ∙ c .if1 .taken))
 
--- src/lib.rt:43:9
 add-s : tie.Need-add-s Inv-loop μ-loop
 add-s c = search needs
 
--- src/lib.rt:43:5
 loop-less : tie.Need-loop-less Inv-loop μ-loop
 loop-less c = search needs
 
--- src/lib.rt:43:5
 loop-again : tie.Need-loop-again Inv-loop μ-loop
 loop-again c =
     let a = c .before .before .before in
-    (search needs, any-more (leaves (rosterIn (a .before .before .args .rec .now))) (a .loop .s) (a .loop .inv .1) (sym (c .before .is-leaving .ensures) ∙ c .if1 .left))
+    let p = leaves (rosterIn (a .before .before .args .rec .now)) in
+    (search needs, any-more p (a .loop .s) (a .loop .inv .1) (sym (c .before .is-leaving .ensures) ∙ c .if1 .left))
 
--- src/lib.rt:39:1
 returns-2 : tie.Need-returns-2 Inv-loop μ-loop
 returns-2 c =
     let a = c .before in

@@ -1,30 +1,23 @@
 -- `turn::parts` meets its contract. Assumes nothing.
-use mathlib.Core.Path.{_≡_, sym, ap, _∙_}
+use mathlib.Core.Path.{sym, _∙_}
 use borrow.Author.Tests.{lt-ltb, le-ltb}
 use borrow.Author.Needs.{needs}
 use Rattle.turn.proofs.parts.Statement.{statement}
 use Rattle.turn.proofs.parts.Tie as tie
-use Rattle.turn.proofs.parts.Reads as reads
-use Rattle.turn.proofs.parts.Lts as lts
-use Rattle.turn.proofs.is_leaving.Reads as is-leaving-reads
 
--- src/lib.rt:119:19
 is-leaving-requires : tie.Need-is-leaving-requires
 is-leaving-requires c κs = search needs
 
--- src/lib.rt:119:41
 is-leaving-requires-2 : tie.Need-is-leaving-requires-2
 is-leaving-requires-2 c κs = search needs
 
--- src/lib.rt:115:1
 returns : tie.Need-returns
 returns c = simp (lt-ltb _ _ (c .before .before .if1 .taken), ← c .before .is-leaving .ensures, c .if2 .taken)
 
--- src/lib.rt:115:1
 returns-2 : tie.Need-returns-2
-returns-2 c = c .is-leaving2 .ensures ∙ sym (simp (lt-ltb _ _ (c .before .before .before .if1 .taken), ← c .before .before .is-leaving .ensures, c .before .if2 .left))
+returns-2 c =
+    c .is-leaving2 .ensures ∙ sym (simp (lt-ltb _ _ (c .before .before .before .if1 .taken), ← c .before .before .is-leaving .ensures, c .before .if2 .left))
 
--- src/lib.rt:115:1
 returns-3 : tie.Need-returns-3
 returns-3 c = simp (le-ltb _ _ (c .if1 .left))
 

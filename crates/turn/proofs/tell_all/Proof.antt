@@ -1,19 +1,16 @@
 -- `turn::tell_all` meets its contract: the lots below `y` are done. Assumes nothing.
-use Rattle.protocol.specs.Calls.{each, farewells}
-use Rattle.turn.specs.Steps.{Step, same, saying, farewellsFrom}
-use Rattle.turn.proofs.Telling.{each-start, lot-more}
-use Prim.Native.Nat.{ℕ, _≤_, _-_, _+_}
+use Prim.Native.Nat.{ℕ, _≤_, _-_}
 use mathlib.Core.Path.{_≡_, refl, sym, ap, _∙_}
 use native.Mathlib.Omega.{arith}
-use borrow.Author.Needs.{needs}
 use lib.ListN.{length}
+use borrow.Author.Needs.{needs}
+use Rattle.protocol.specs.Calls.{each, farewells}
 use Rattle.record.specs.Layout.{seats}
 use Rattle.record.specs.Meaning.{bytesOf}
+use Rattle.turn.specs.Steps.{Step, same, saying, farewellsFrom}
+use Rattle.turn.proofs.Telling.{each-start, lot-more}
 use Rattle.turn.proofs.tell_all.Statement.{statement}
 use Rattle.turn.proofs.tell_all.Tie as tie
-use Rattle.turn.proofs.tell_all.Reads as reads
-use Rattle.turn.proofs.tell_all.Lts as lts
-use Rattle.turn.proofs.tell_if_leaving.Reads as tell-if-leaving-reads
 
 abbrev Inv-loop : tie.InvT-loop
 Inv-loop rec₀ y₀ rec y = (y ≤ seats) × (length rec ≡ length rec₀) × Step same (λ M. saying M (each y (farewellsFrom M))) rec₀ rec
@@ -21,36 +18,32 @@ Inv-loop rec₀ y₀ rec y = (y ≤ seats) × (length rec ≡ length rec₀) × 
 abbrev μ-loop : tie.MeasureT-loop
 μ-loop rec₀ y₀ rec y = seats - y
 
--- src/lib.rt:106:5
 loop-holds : tie.Need-loop-holds Inv-loop μ-loop
 loop-holds c = (search needs, refl, λ M f e. e ∙ sym (ap bytesOf (each-start M (farewellsFrom M))))
 
--- src/lib.rt:107:9
 tell-if-leaving-requires : tie.Need-tell-if-leaving-requires Inv-loop μ-loop
 tell-if-leaving-requires c κs = omega arith
 
--- src/lib.rt:106:9
 add-y : tie.Need-add-y Inv-loop μ-loop
 add-y c = search needs
 
--- src/lib.rt:106:5
 loop-less : tie.Need-loop-less Inv-loop μ-loop
 loop-less c = search needs
 
--- src/lib.rt:106:5
 loop-again : tie.Need-loop-again Inv-loop μ-loop
 loop-again c =
     let a = c .before .before .before .before .before in
     let y = a .loop .y in
-    let b = c .before .before .tell-if-leaving in
-    (search needs, b .kept .0 ∙ a .loop .inv .1, λ M f e.
-    b .ensures (saying M (each y (farewellsFrom M))) f (a .loop .inv .2 M f e) ∙ ap bytesOf (lot-more M y))
+    let b = c .before .before .tell-if-leaving in (
+      search needs,
+      b .kept .0 ∙ a .loop .inv .1,
+      λ M f e.
+          b .ensures (saying M (each y (farewellsFrom M))) f (a .loop .inv .2 M f e) ∙ ap bytesOf (lot-more M y),
+    )
 
--- src/lib.rt:102:1
 same-length : tie.Need-same-length Inv-loop μ-loop
 same-length c = c .before .loop .inv .1
 
--- src/lib.rt:102:1
 returns : tie.Need-returns Inv-loop μ-loop
 unfolding farewells
 returns c = λ M f e.

@@ -1,40 +1,30 @@
 -- `turn::turn` meets its contract. Assumes nothing.
-use mathlib.Core.Path.{_≡_, sym, _∙_}
+use mathlib.Core.Path.{sym, _∙_}
 use native.Mathlib.Omega.{arith}
+use borrow.Author.Needs.{needs}
 use Rattle.protocol.specs.Table.{turn}
 use Rattle.record.specs.Meaning.{meaning}
 use Rattle.record.proofs.Form.{Form}
 use Rattle.record.proofs.Round.{bytes-meaning}
 use Rattle.turn.proofs.Told.{told-refused, told-done}
 use Rattle.turn.proofs.Refused.{accepted, meaning-linked}
-use borrow.Author.Needs.{needs}
 use Rattle.turn.proofs.turn.Statement.{statement}
 use Rattle.turn.proofs.turn.Tie as tie
-use Rattle.turn.proofs.turn.Reads as reads
-use Rattle.turn.proofs.turn.Lts as lts
-use Rattle.outcome.proofs.answer_of.Reads as answer-of-reads
-use Rattle.turn.proofs.carry_out.Reads as carry-out-reads
-use Rattle.turn.proofs.turn_refusal.Reads as turn-refusal-reads
 
--- src/lib.rt:250:9
 turn-refusal-requires : tie.Need-turn-refusal-requires
 turn-refusal-requires c κs = search needs
 
--- src/lib.rt:252:9
 answer-of-requires : tie.Need-answer-of-requires
 answer-of-requires c κs = search needs
 
--- src/lib.rt:252:9
 same-length : tie.Need-same-length
 same-length c = search needs
 
--- src/lib.rt:252:9
 returns : tie.Need-returns
 returns c =
     let b = c .before .before in
     told-refused (b .before .before .before .args .rec .now) turn (b .turn-refusal .ensures) (c .before .if1 .taken) (c .answer-of .ensures)
 
--- src/lib.rt:254:5
 known : (c : tie.Else1) → Form (c .before .before .before .before .args .rec .now)
 known c =
     let a = c .before .before .before in
@@ -43,11 +33,9 @@ known c =
 carry-out-requires : tie.Need-carry-out-requires
 carry-out-requires c κs = known (c .before) .sized
 
--- src/lib.rt:247:1
 same-length-2 : tie.Need-same-length-2
 same-length-2 c = search needs
 
--- src/lib.rt:247:1
 returns-2 : tie.Need-returns-2
 returns-2 c =
     let a = c .before .before .before .before in

@@ -1,18 +1,15 @@
 -- `turn::unlink_all` meets its contract: the lots below `x` are done. Assumes nothing.
-use Rattle.turn.specs.Steps.{Step, same, linkPlace, relinked}
-use Rattle.turn.proofs.Unlinking.{relinked-none}
-use Prim.Native.Nat.{ℕ, _≤_, _-_, _+_}
+use Prim.Native.Nat.{ℕ, _≤_, _-_}
 use mathlib.Core.Path.{_≡_, refl, sym, ap, _∙_}
 use native.Mathlib.Omega.{arith}
-use borrow.Author.Needs.{needs}
 use lib.ListN.{length}
+use borrow.Author.Needs.{needs}
 use Rattle.record.specs.Layout.{seats}
 use Rattle.record.specs.Meaning.{bytesOf}
+use Rattle.turn.specs.Steps.{Step, same, linkPlace, relinked}
+use Rattle.turn.proofs.Unlinking.{relinked-none}
 use Rattle.turn.proofs.unlink_all.Statement.{statement}
 use Rattle.turn.proofs.unlink_all.Tie as tie
-use Rattle.turn.proofs.unlink_all.Reads as reads
-use Rattle.turn.proofs.unlink_all.Lts as lts
-use Rattle.turn.proofs.unlink_lot.Reads as unlink-lot-reads
 
 abbrev Inv-loop : tie.InvT-loop
 Inv-loop rec₀ x₀ rec x = (x ≤ seats) × (length rec ≡ length rec₀) × Step same (relinked (linkPlace x 0 0)) rec₀ rec
@@ -20,34 +17,27 @@ Inv-loop rec₀ x₀ rec x = (x ≤ seats) × (length rec ≡ length rec₀) × 
 abbrev μ-loop : tie.MeasureT-loop
 μ-loop rec₀ x₀ rec x = seats - x
 
--- src/lib.rt:145:5
 loop-holds : tie.Need-loop-holds Inv-loop μ-loop
 loop-holds c = (search needs, refl, λ M f e. e ∙ sym (relinked-none M))
 
--- src/lib.rt:146:9
 unlink-lot-requires : tie.Need-unlink-lot-requires Inv-loop μ-loop
 unlink-lot-requires c κs = omega arith
 
--- src/lib.rt:145:9
 add-x : tie.Need-add-x Inv-loop μ-loop
 add-x c = search needs
 
--- src/lib.rt:145:5
 loop-less : tie.Need-loop-less Inv-loop μ-loop
 loop-less c = search needs
 
--- src/lib.rt:145:5
 loop-again : tie.Need-loop-again Inv-loop μ-loop
 loop-again c =
     let a = c .before .before .before .before .before in
     let b = c .before .before .unlink-lot in
     (search needs, b .kept .0 ∙ a .loop .inv .1, λ M f e. b .ensures M f (a .loop .inv .2 M f e))
 
--- src/lib.rt:141:1
 same-length : tie.Need-same-length Inv-loop μ-loop
 same-length c = c .before .loop .inv .1
 
--- src/lib.rt:141:1
 returns : tie.Need-returns Inv-loop μ-loop
 returns c = λ M f e.
     let n : c .before .loop .x ≡ seats = omega arith in

@@ -6,8 +6,8 @@ use lib.Dec.{eqb}
 use borrow.Author.Tests.{eq-eqb, ne-eqb}
 use Rattle.record.specs.Meaning.{rosterIn}
 use Rattle.record.specs.Sound.{asOpened}
-use Rattle.soundness.proofs.Tests.{and-stop, and-go}
-use Rattle.soundness.proofs.Roster.{number-bytes, vector-byte}
+use Rattle.roster.proofs.Tests.{and-stop, and-go}
+use Rattle.roster.proofs.Bytes.{number-bytes, vector-byte}
 use Rattle.soundness.proofs.entries.as_opened.Statement.{statement}
 use Rattle.soundness.proofs.entries.as_opened.Tie as tie
 
@@ -21,12 +21,14 @@ no-links-requires : tie.Need-no-links-requires
 no-links-requires c κs = search needs
 
 -- what was read is the number and the vector of the seat
-number-test : (c : tie.After-number) → let r = c .before .before .args in eqb (c .number .result) 0 ≡ eqb (rosterIn (r .rec .now) .number (r .s)) 0
+number-test : (c : tie.After-number) → let r = c .before .before .args in
+    eqb (c .number .result) 0 ≡ eqb (rosterIn (r .rec .now) .number (r .s)) 0
 number-test c =
     let r = c .before .before .args in
     ap (λ (n : ℕ). eqb n 0) (c .number .ensures ∙ sym (number-bytes (r .rec .now) (r .s) (search needs)))
 
-vector-test : (c : tie.After-vector) → let r = c .before .before .before .before .args in eqb (c .vector .result) 0 ≡ eqb (rosterIn (r .rec .now) .vector (r .s)) 0
+vector-test : (c : tie.After-vector) → let r = c .before .before .before .before .args in
+    eqb (c .vector .result) 0 ≡ eqb (rosterIn (r .rec .now) .vector (r .s)) 0
 vector-test c =
     let r = c .before .before .before .before .args in
     ap (λ (n : ℕ). eqb n 0) (c .vector .ensures ∙ sym (vector-byte (r .rec .now) (r .s) (search needs)))

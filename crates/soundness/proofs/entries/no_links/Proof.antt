@@ -7,7 +7,7 @@ use Rattle.memory.specs.Loops.{all}
 use Rattle.memory.proofs.All.{all-none}
 use Rattle.record.specs.Layout.{levels}
 use Rattle.soundness.specs.Parts.{unlinked}
-use Rattle.soundness.proofs.Tests.{all-stop, all-go, all-end}
+use Rattle.roster.proofs.Tests.{all-stop, all-go, all-end}
 use Rattle.soundness.proofs.entries.no_links.Statement.{statement}
 use Rattle.soundness.proofs.entries.no_links.Tie as tie
 

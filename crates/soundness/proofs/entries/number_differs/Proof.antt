@@ -6,7 +6,7 @@ use borrow.Author.Needs.{needs}
 use Rattle.memory.specs.Loops.{all}
 use Rattle.memory.proofs.All.{all-none}
 use Rattle.soundness.specs.Parts.{differ}
-use Rattle.soundness.proofs.Tests.{all-stop, all-go, all-end}
+use Rattle.roster.proofs.Tests.{all-stop, all-go, all-end}
 use Rattle.soundness.proofs.entries.number_differs.Statement.{statement}
 use Rattle.soundness.proofs.entries.number_differs.Tie as tie
 

@@ -8,7 +8,7 @@ use Rattle.memory.proofs.All.{all-none}
 use Rattle.record.specs.Layout.{seats}
 use Rattle.record.specs.Sound.{numbersDiffer}
 use Rattle.soundness.specs.Parts.{differ}
-use Rattle.soundness.proofs.Tests.{all-stop, all-go, all-end}
+use Rattle.roster.proofs.Tests.{all-stop, all-go, all-end}
 use Rattle.soundness.proofs.entries.numbers_differ.Statement.{statement}
 use Rattle.soundness.proofs.entries.numbers_differ.Tie as tie
 

@@ -1,4 +1,5 @@
--- `soundness::entries::numbers_of` meets its contract. The loop's invariant: the array has the numbers of the seats below s. Assumes nothing.
+-- `soundness::entries::numbers_of` meets its contract. The loop's invariant: the array has the numbers of the seats below s.
+-- Assumes nothing.
 use borrow.Author.Needs.{needs}
 use Prim.Native.Nat.{ℕ, _≤_, _<_, _-_}
 use mathlib.Core.Path.{_≡_, sym, _∙_}
@@ -6,7 +7,7 @@ use native.Mathlib.Omega.{arith}
 use lib.ListN.{length, getD, length-set}
 use Rattle.record.specs.Layout.{seats}
 use Rattle.record.specs.Meaning.{rosterIn}
-use Rattle.soundness.proofs.Roster.{number-bytes}
+use Rattle.roster.proofs.Bytes.{number-bytes}
 use Rattle.soundness.proofs.Numbers.{fill-more}
 use Rattle.soundness.proofs.entries.numbers_of.Statement.{statement}
 use Rattle.soundness.proofs.entries.numbers_of.Tie as tie
@@ -40,7 +41,8 @@ loop-again c =
     let b = c .before .before in
     let l = b .before .before .args .rec .now in
     let n : c .number .result ≡ rosterIn l .number (b .loop .s) = c .number .ensures ∙ sym (number-bytes l (b .loop .s) (search needs)) in
-    (search needs, simp length-set (b .loop .inv .1), fill-more (b .loop .numbers) (b .loop .s) _ (rosterIn l .number) (omega arith) (b .loop .inv .2) n)
+    let filled = fill-more (b .loop .numbers) (b .loop .s) (c .number .result) (rosterIn l .number) (omega arith) (b .loop .inv .2) n in
+    (search needs, simp length-set (b .loop .inv .1), filled)
 
 returns : tie.Need-returns Inv-loop μ-loop
 returns c = λ s h. c .before .loop .inv .2 s (omega arith)

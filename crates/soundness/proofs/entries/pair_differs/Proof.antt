@@ -1,6 +1,6 @@
 -- `soundness::entries::pair_differs` meets its contract. Assumes nothing.
 use borrow.Author.Needs.{needs}
-use mathlib.Core.Path.{_≡_, sym, _∙_}
+use mathlib.Core.Path.{sym, _∙_}
 use borrow.Author.Tests.{not-true, not-false}
 use Rattle.soundness.proofs.Numbers.{differ-numbers, differ-first, differ-second}
 use Rattle.soundness.proofs.entries.pair_differs.Statement.{statement}

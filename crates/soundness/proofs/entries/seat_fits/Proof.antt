@@ -1,6 +1,6 @@
 -- `soundness::entries::seat_fits` meets its contract. Assumes nothing.
 use borrow.Author.Needs.{needs}
-use Rattle.soundness.proofs.Tests.{or-stop, or-go}
+use Rattle.roster.proofs.Tests.{or-stop, or-go}
 use Rattle.soundness.proofs.entries.seat_fits.Statement.{statement}
 use Rattle.soundness.proofs.entries.seat_fits.Tie as tie
 

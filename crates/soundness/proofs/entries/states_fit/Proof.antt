@@ -10,7 +10,7 @@ use lib.ListN.{getD}
 use borrow.Author.Tests.{lt-ltb, le-ltb}
 use Rattle.record.specs.Layout.{seats, stateAt}
 use Rattle.record.specs.Sound.{statesFit}
-use Rattle.soundness.proofs.Tests.{all-stop, all-go, all-end}
+use Rattle.roster.proofs.Tests.{all-stop, all-go, all-end}
 use Rattle.soundness.proofs.entries.states_fit.Statement.{statement}
 use Rattle.soundness.proofs.entries.states_fit.Tie as tie
 

@@ -10,7 +10,7 @@ use Rattle.protocol.specs.State.{seated}
 use Rattle.record.specs.Layout.{seats}
 use Rattle.record.specs.Meaning.{rosterIn}
 use Rattle.record.specs.Sound.{asOpened, unusedFit}
-use Rattle.soundness.proofs.Tests.{all-stop, all-go, all-end}
+use Rattle.roster.proofs.Tests.{all-stop, all-go, all-end}
 use Rattle.soundness.proofs.entries.unused_fit.Statement.{statement}
 use Rattle.soundness.proofs.entries.unused_fit.Tie as tie
 

@@ -22,7 +22,9 @@ by-byte : (c : tie.After-link) → let r = c .before .before .args in
     let b = c .link .result in
     let d = sideOfNumber (r .d) in
     linkFits (r .rec .now) (r .x) (r .k) d ≡ eqb b noLink || (ltb b seats && linkOk width (rosterIn (r .rec .now)) (r .x) (r .k) d b)
-by-byte c = let r = c .before .before .args in link-byte (r .rec .now) (r .x) (r .k) (r .d) (c .link .result) (search needs) (c .link .ensures)
+by-byte c =
+    let r = c .before .before .args in
+    link-byte (r .rec .now) (r .x) (r .k) (r .d) (c .link .result) (search needs) (c .link .ensures)
 
 returns : tie.Need-returns
 returns c = rw (by-byte (c .before), eq-eqb _ _ (c .if1 .taken))
@@ -34,7 +36,9 @@ may-link-requires : tie.Need-may-link-requires
 may-link-requires c κs = search needs
 
 returns-2 : tie.Need-returns-2
-returns-2 c = rw (by-byte (c .before .before .before), ne-eqb _ _ (c .before .before .if1 .left), lt-ltb _ _ (c .before .if2 .taken)) (c .may-link .ensures)
+returns-2 c =
+    rw (by-byte (c .before .before .before), ne-eqb _ _ (c .before .before .if1 .left), lt-ltb _ _ (c .before .if2 .taken))
+    (c .may-link .ensures)
 
 returns-3 : tie.Need-returns-3
 returns-3 c = rw (by-byte (c .before .before), ne-eqb _ _ (c .before .if1 .left), le-ltb _ _ (c .if2 .left))

@@ -8,7 +8,7 @@ use Rattle.memory.proofs.All.{all-none}
 use Rattle.graph.specs.Side.{left, right}
 use Rattle.record.specs.Layout.{seats, levels}
 use Rattle.record.specs.Sound.{linkFits, linksFit}
-use Rattle.soundness.proofs.Tests.{all-stop, all-go, all-end}
+use Rattle.roster.proofs.Tests.{all-stop, all-go, all-end}
 use Rattle.soundness.proofs.links.links_fit.Statement.{statement}
 use Rattle.soundness.proofs.links.links_fit.Tie as tie
 

@@ -1,10 +1,10 @@
 -- `soundness::links::may_link` meets its contract. Assumes nothing.
 use borrow.Author.Needs.{needs}
-use mathlib.Core.Path.{_≡_, ap₂, _∙_}
+use mathlib.Core.Path.{ap₂, _∙_}
 use Rattle.graph.specs.Side.{onSide}
 use Rattle.protocol.specs.Sound.{linkOk}
 use Rattle.record.specs.Reading.{sideOfNumber}
-use Rattle.soundness.proofs.Tests.{and-stop, and-go}
+use Rattle.roster.proofs.Tests.{and-stop, and-go}
 use Rattle.soundness.proofs.links.may_link.Statement.{statement}
 use Rattle.soundness.proofs.links.may_link.Tie as tie
 

@@ -8,7 +8,7 @@ use Rattle.memory.proofs.All.{all-none}
 use Rattle.graph.specs.Side.{left, right}
 use Rattle.record.specs.Layout.{levels}
 use Rattle.record.specs.Sound.{linkFits}
-use Rattle.soundness.proofs.Tests.{all-stop, all-go, all-end}
+use Rattle.roster.proofs.Tests.{all-stop, all-go, all-end}
 use Rattle.soundness.proofs.links.seat_fits.Statement.{statement}
 use Rattle.soundness.proofs.links.seat_fits.Tie as tie
 

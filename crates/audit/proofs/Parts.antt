@@ -1,0 +1,99 @@
+-- The parts of the check that looks only at neighbours (search's LocalCheck), by the bytes that the code reads. Assumes nothing.
+use Prim.Native.Nat.{ℕ, zero, suc, _+_, _-_, _*_, _≤_, _<_}
+use mathlib.Core.Path.{_≡_, refl, sym}
+use mathlib.Core.Logic.{⊎-elim}
+use mathlib.Core.Option.{Option, none, some}
+use mathlib.Core.Bool.{Bool, true, false, not, cond, _&&_, _||_}
+use mathlib.Core.List.{List}
+use native.Mathlib.Omega.{arith}
+use native.Mathlib.Numerals.{add-one}
+use lib.Dec.{eqb, ltb, leb}
+use lib.ListN.{getD}
+use borrow.Author.Tests.{ne-eqb, lt-leb, le-leb}
+use Rattle.memory.proofs.Cases.{lt-or-ge, eq-or-ne, and-true, and-false}
+use Rattle.graph.specs.Vector.{width, shared}
+use Rattle.protocol.specs.State.{member, members}
+use Rattle.record.specs.Layout.{seats, levels, phaseAt, stateAt, entryAt}
+use Rattle.record.specs.Meaning.{linkOf, rosterIn, meaning}
+use Rattle.record.specs.Reading.{sideOfNumber}
+use Rattle.search.specs.Check.{sameLink}
+use Rattle.search.proofs.LocalCheck.{backOf, leftmost, follow, upOn}
+use Rattle.roster.proofs.Bytes.{clearing-byte, seated-byte, stays-byte}
+use Rattle.audit.proofs.Read.{linkOf-some, linkOf-none, link-read, link-back}
+
+-- two links by their bytes
+same-seat : (y x : ℕ) → x < seats → sameLink (linkOf y) (some x) ≡ eqb y x
+unfolding sameLink
+same-seat y x h = ⊎-elim
+    (λ q. rw (linkOf-some y q))
+    (λ q. rw (linkOf-none y q, ne-eqb y x (λ e. omega arith)))
+    (lt-or-ge y seats)
+
+same-none : (y : ℕ) → sameLink (linkOf y) none ≡ leb seats y
+unfolding sameLink
+same-none y = ⊎-elim (λ q. rw (linkOf-some y q, lt-leb seats y q)) (λ q. rw (linkOf-none y q, le-leb seats y q)) (lt-or-ge y seats)
+
+module _ (l : List ℕ) where
+  abbrev links : (x k d : ℕ) → Option ℕ
+  links x k d = meaning l .link x k (sideOfNumber d)
+
+  -- a member, by the bytes of state and phase
+  pub member-byte : (s : ℕ) → s < seats
+      → let b = getD l (stateAt s) 0 in member (rosterIn l) s ≡ eqb b 1 || (not (eqb b 0) && eqb (getD l phaseAt 0) 0)
+  unfolding member
+  member-byte s h = rw (clearing-byte l, stays-byte l s h, seated-byte l s h) (by (getD l (stateAt s) 0) (eqb (getD l phaseAt 0) 0))
+    where
+      by : (b : ℕ) (p : Bool) → cond (not p) (eqb b 1) (not (eqb b 0)) ≡ eqb b 1 || (not (eqb b 0) && p)
+      by b true = ⊎-elim
+          (λ e. rw e)
+          (λ e. rw (ne-eqb b 1 e, and-true (not (eqb b 0))))
+          (eq-or-ne b 1)
+      by b false = ⊎-elim
+          (λ e. rw e)
+          (λ e. rw (ne-eqb b 1 e, and-false (not (eqb b 0)) false refl))
+          (eq-or-ne b 1)
+
+  module _ (x k d y : ℕ) (h : x < seats) (g : k < levels) (b : d < 2) (e : y ≡ getD l (entryAt x + 10 + 2 * k + d) 0) where
+    -- the link back
+    pub back-none : seats ≤ y → true ≡ backOf (members (rosterIn l)) (meaning l .link) x k (sideOfNumber d) (links x k d)
+    unfolding backOf
+    back-none q = rw (link-read l x k d y h g b e, linkOf-none y q)
+
+    pub back-some : y < seats → backOf (members (rosterIn l)) (meaning l .link) x k (sideOfNumber d) (links x k d)
+        ≡ member (rosterIn l) y && eqb (getD l (entryAt y + 10 + 2 * k + (1 - d)) 0) x
+    unfolding backOf
+    back-some q = rw (link-read l x k d y h g b e, linkOf-some y q, link-back l y k d _ q g b refl, same-seat _ x h)
+
+  -- one level up: u is the link there; along level k at most n lots are left to look at, from the link y on
+  module _ (x k d u : ℕ) where
+    unfoldable pub UpFrom : (n y : ℕ) → Bool
+    UpFrom n y = sameLink (linkOf u) (follow width (members (rosterIn l)) (meaning l .link) x k (sideOfNumber d) n (linkOf y))
+
+    pub up-start : (y : ℕ) → x < seats → k < width → d < 2 → u ≡ getD l (entryAt x + 10 + 2 * (k + 1) + d) 0
+        → y ≡ getD l (entryAt x + 10 + 2 * k + d) 0
+        → upOn seats width (members (rosterIn l)) (meaning l .link) x k (sideOfNumber d) ≡ UpFrom seats y
+    unfolding UpFrom upOn
+    up-start y h g b e f = rw (← add-one k, link-read l x (k + 1) d u h (omega arith) b e, link-read l x k d y h (omega arith) b f)
+
+    pub up-end : (y : ℕ) → leb seats u ≡ UpFrom 0 y
+    unfolding UpFrom follow
+    up-end y = sym (same-none u)
+
+    pub up-none : (n y : ℕ) → seats ≤ y → leb seats u ≡ UpFrom n y
+    unfolding UpFrom follow
+    up-none zero y q = sym (same-none u)
+    up-none (suc n) y q = rw (linkOf-none y q) (sym (same-none u))
+
+    pub up-here : (n y : ℕ) → y < seats → ltb k (shared width (rosterIn l .vector x) (rosterIn l .vector y)) ≡ true → eqb u y ≡ UpFrom (suc n) y
+    unfolding UpFrom follow
+    up-here n y q t = rw (linkOf-some y q, t) (sym (same-seat u y q))
+
+    pub up-next : (n y z : ℕ) → y < seats → k < levels → d < 2 → ltb k (shared width (rosterIn l .vector x) (rosterIn l .vector y)) ≡ false
+        → z ≡ getD l (entryAt y + 10 + 2 * k + d) 0 → UpFrom (suc n) y ≡ UpFrom n z
+    unfolding UpFrom follow
+    up-next n y z q g b t f = rw (linkOf-some y q, t, link-read l y k d z q g b f)
+
+  pub leftmost-byte : (x : ℕ) → x < seats
+      → leftmost (members (rosterIn l)) (meaning l .link) x ≡ member (rosterIn l) x && leb seats (getD l (entryAt x + 10 + 2 * 0 + 0) 0)
+  unfolding leftmost
+  leftmost-byte x h = rw (link-read l x 0 0 _ h (omega arith) (omega arith) refl, same-none (getD l (entryAt x + 10 + 2 * 0 + 0) 0))

@@ -1,0 +1,90 @@
+-- The whole check: the test of the links part by part, that on sound bytes it is the check of specs/, and each answer. Assumes nothing.
+use Prim.Native.Nat.{ℕ, zero, suc}
+use mathlib.Core.Path.{_≡_, refl, sym, ap, _∙_}
+use mathlib.Core.Logic.{_≢_}
+use mathlib.Core.Bool.{Bool, true, not, _&&_, _||_}
+use mathlib.Core.List.{List, [], _∷_}
+use lib.Dec.{eqb, leb}
+use lib.ListN.{length}
+use borrow.Author.Tests.{eqb-true, eq-eqb, ne-eqb, not-false}
+use Rattle.memory.specs.Bytes.{AreBytes}
+use Rattle.memory.proofs.Cases.{and-assoc}
+use Rattle.graph.specs.Side.{onSide}
+use Rattle.graph.specs.Vector.{width}
+use Rattle.graph.specs.Graph.{Lots, Links, Laws}
+use Rattle.graph.proofs.Tests.{and-snd}
+use Rattle.graph.proofs.Order.{on-lt}
+use Rattle.protocol.specs.State.{members}
+use Rattle.protocol.specs.Sound.{Sound, pairOk, linkOk}
+use Rattle.protocol.proofs.Reached.{members-laws}
+use Rattle.protocol.proofs.Calls.{no-row}
+use Rattle.record.specs.Layout.{seats, size}
+use Rattle.record.specs.Meaning.{rosterIn, meaning}
+use Rattle.record.specs.Sound.{sound}
+use Rattle.record.specs.Reading.{recordRefusal, unsound}
+use Rattle.record.proofs.Sound.{sound-is}
+use Rattle.search.specs.Check.{every, check}
+use Rattle.search.proofs.Count.{count}
+use Rattle.search.proofs.LocalCheck.{backAt, leftmost, upAt, lotOk, localCheck}
+use Rattle.search.proofs.Local.{Sided, local-check}
+use Rattle.audit.specs.Check.{checkIn}
+use Rattle.audit.specs.Answer.{verdictOf, answered}
+use Rattle.audit.specs.declared.Verdict.the-variants.{Refused}
+use Rattle.audit.proofs.Loops.{every-parts}
+
+-- links back, levels and leftmost members one after the other
+pub local-parts : (N W : ℕ) (G : Lots) (L : Links) → localCheck N W G L
+    ≡ every N (λ x. not (G .member x) || every (suc W) (backAt G L x))
+    && (every N (λ x. not (G .member x) || every W (upAt N W G L x)) && leb (count N (leftmost G L)) 1)
+unfolding localCheck lotOk
+local-parts N W G L =
+    let backs = every N (λ x. not (G .member x) || every (suc W) (backAt G L x)) in
+    let ups = every N (λ x. not (G .member x) || every W (upAt N W G L x)) in
+    rw (every-parts N (G .member) (λ x. every (suc W) (backAt G L x)) (λ x. every W (upAt N W G L x)))
+    (and-assoc backs ups (leb (count N (leftmost G L)) 1))
+
+-- a record that refusals 1 and 2 pass
+pub passed : (l : List ℕ) {n : ℕ} → n ≡ recordRefusal l → n ≡ 0 → (length l ≡ size) × (sound l ≡ true)
+unfolding recordRefusal
+passed l e z =
+    let p = no-row 0 (not (eqb (length l) size)) (unsound l ∷ []) (sym e ∙ z) in
+    let q = no-row 1 (not (sound l)) [] (p .1) in
+    (eqb-true (length l) size (not-false (eqb (length l) size) (p .0)), not-false (sound l) (q .0))
+
+module _ (l : List ℕ) (e : length l ≡ size) (b : AreBytes l) (s : sound l ≡ true) where
+  pub bytes-sound : Sound seats width (meaning l)
+  bytes-sound = sound-is l e b .0 s .1
+
+  pub lots-laws : Laws seats (members (rosterIn l))
+  unfolding meaning
+  lots-laws = members-laws bytes-sound
+
+  links-sided : Sided width (members (rosterIn l)) (meaning l .link)
+  unfolding meaning linkOk
+  links-sided x k y d m h f =
+      on-lt (rosterIn l .number) d x y
+      (and-snd (pairOk width (rosterIn l) k x y) (onSide d (rosterIn l .number x) (rosterIn l .number y)) (bytes-sound .links x k y d f))
+
+  -- looking only at neighbours is enough
+  pub local-right : localCheck seats width (members (rosterIn l)) (meaning l .link) ≡ check seats width (members (rosterIn l)) (meaning l .link)
+  local-right = local-check lots-laws links-sided (λ x y m n. refl)
+
+-- the answers
+refused-is : (n : ℕ) (b : Bool) → n ≢ 0 → Refused n ≡ verdictOf n b
+unfolding verdictOf
+refused-is zero b h = absurd (h refl)
+refused-is (suc n) b h = refl
+
+module _ (l : List ℕ) (n : ℕ) (e : n ≡ recordRefusal l) where
+  pub refused-answer : n ≢ 0 → Refused n ≡ answered (checkIn l)
+  unfolding checkIn answered
+  refused-answer h = rw (← e, ne-eqb n 0 h) (refused-is n _ h)
+
+  check-answer : n ≡ 0 → answered (checkIn l) ≡ verdictOf 0 (check seats width (members (rosterIn l)) (meaning l .link))
+  unfolding checkIn answered
+  check-answer z = rw (← e, eq-eqb n 0 z)
+
+  -- from what the test of the links answered
+  pub answer : AreBytes l → n ≡ 0 → {r : Bool} → r ≡ localCheck seats width (members (rosterIn l)) (meaning l .link)
+      → verdictOf 0 r ≡ answered (checkIn l)
+  answer b z q = let (size, fine) = passed l e z in ap (verdictOf 0) (q ∙ local-right l size b fine) ∙ sym (check-answer z)

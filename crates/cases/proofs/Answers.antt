@@ -1,0 +1,132 @@
+-- What calls, find and readings answer on the bytes after a list of calls, told by the view after the list. Assumes nothing.
+use Prim.Native.Nat.{ℕ, suc, _^_}
+use mathlib.Core.Path.{_≡_, sym, ap, _∙_, subst}
+use mathlib.Core.Bool.{Bool, true, false, _&&_}
+use mathlib.Core.List.{List, [], _∷_}
+use lib.Dec.{T, ltb, ltb→lt, T-not}
+use lib.ListN.{length}
+use borrow.Author.Tests.{eq-eqb, lt-ltb}
+use Rattle.memory.specs.Loops.{count}
+use Rattle.graph.specs.Side.{Side, left, right}
+use Rattle.graph.specs.Vector.{width}
+use Rattle.graph.proofs.Tests.{and-fst, and-snd, not-T-false}
+use Rattle.protocol.specs.Message.{Msg, sideNumber, among}
+use Rattle.protocol.specs.Numbering.{somePending}
+use Rattle.protocol.specs.State.{open-phase, Meaning, isFree, seated}
+use Rattle.protocol.specs.Table.{Call, join, leave, deliver, turn, first}
+use Rattle.protocol.specs.Sound.{Sound, numberBits}
+use Rattle.protocol.specs.Run.{logOf, AllInRange}
+use Rattle.protocol.proofs.Numbering.{pending-none}
+use Rattle.record.specs.Layout.{seats, levels, size}
+use Rattle.record.specs.Meaning.{rosterIn, bytesOf, phaseByte, linkByte}
+use Rattle.record.specs.Reading.{openRefusal, readLot, readLink, readMessage, readCounts}
+use Rattle.record.proofs.Places.{length-bytesOf}
+use Rattle.record.proofs.Form.{meaning-roster}
+use Rattle.record.proofs.Round.{meaning-bytes}
+use Rattle.record.proofs.Sound.{bytes-sound}
+use Rattle.outcome.specs.Made.{Outcome, made}
+use Rattle.outcome.proofs.Bridge.{made-call, refused-same}
+use Rattle.search.specs.Walk.{find}
+use Rattle.find.specs.Find.{findRefusal, findIn}
+use Rattle.runs.specs.Run.{run, lotOf}
+use Rattle.runs.specs.Run as runs
+use Rattle.runs.proofs.Readings.{countsOf, read-lot, read-link, read-message, read-counts, count-none}
+use Rattle.cases.proofs.View.{View, meant, viewRefusal, viewCall, view-call}
+use Rattle.cases.specs.Lists.{accepted, Pending, LinksOf, Settles, Lot100}
+use Rattle.cases.proofs.Seen.{seen, seen-sound, seen-bytes, seen-log, seen-order}
+
+-- the arguments of the calls fit their types, as a test
+unfoldable pub fits : List Call → Bool
+fits [] = true
+fits (join s n b c ∷ cs) = (ltb n (2 ^ numberBits) && ltb b (2 ^ width)) && fits cs
+fits (leave s ∷ cs) = fits cs
+fits (deliver n ∷ cs) = fits cs
+fits (turn ∷ cs) = fits cs
+
+pub fits-in : (cs : List Call) → T (fits cs) → AllInRange seats width cs
+unfolding fits
+fits-in [] t = tt
+fits-in (join s n b c ∷ cs) t =
+    let u = and-fst (ltb n (2 ^ numberBits) && ltb b (2 ^ width)) _ t in
+    ((ltb→lt n _ (and-fst (ltb n (2 ^ numberBits)) _ u), ltb→lt b _ (and-snd (ltb n (2 ^ numberBits)) _ u)),
+    fits-in cs (and-snd (ltb n (2 ^ numberBits) && ltb b (2 ^ width)) _ t))
+fits-in (leave s ∷ cs) t = (tt, fits-in cs t)
+fits-in (deliver n ∷ cs) t = (tt, fits-in cs t)
+fits-in (turn ∷ cs) t = (tt, fits-in cs t)
+
+-- find on the bytes of a sound meaning
+module _ (M : Meaning) (h : Sound seats width M) where
+  roster-bytes : rosterIn (bytesOf M) ≡ M .roster
+  roster-bytes = sym (meaning-roster (bytesOf M)) ∙ ap (λ (X : Meaning). X .roster) (meaning-bytes h)
+
+  find-bytes : (s x : ℕ) → T (seated (M .roster) s)
+      → findIn (bytesOf M) s x ≡ (let f = find (M .roster .number) (M .link) x seats width s in record { refused = 0; holder = f .holder; hops = f .hops })
+  unfolding findIn findRefusal first
+  find-bytes s x m =
+      let f : isFree (M .roster .state s) ≡ false = not-T-false (T-not (isFree (M .roster .state s)) m) in
+      rw (eq-eqb (length (bytesOf M)) size (length-bytesOf M), bytes-sound h, lt-ltb s seats (h .seats s m), roster-bytes, f, meaning-bytes h)
+
+module _ (l : List ℕ) (e : openRefusal l ≡ 0) (cs : List Call) (t : T (fits cs)) where
+  abbrev v : View
+  v = seen cs .view
+
+  h : Sound seats width (meant (seen cs .view))
+  h = seen-sound l e cs (fits-in cs t)
+
+  at : {A : Type 0} (f : List ℕ → A) → f (run l cs .now) ≡ f (bytesOf (meant (seen cs .view)))
+  at f = ap f (seen-bytes l e cs (fits-in cs t))
+
+  made-seen : (c : Call) → made (run l cs .now) c ≡ record { refused = viewRefusal v c; bytes = bytesOf (meant (viewCall v c)) }
+  made-seen c =
+      at (λ b. made b c) ∙ made-call (meant v) h c
+      ∙ λ i. record { refused = view-call v h c i .refused; bytes = bytesOf (view-call v h c i .meaning) }
+
+  -- a refused call leaves every byte
+  pub refused-seen : (c : Call) (n : ℕ) → viewRefusal v c ≡ suc n → made (run l cs .now) c ≡ record { refused = suc n; bytes = run l cs .now }
+  refused-seen c n q =
+      let no : made (run l cs .now) c .refused ≡ suc n = ap (λ (o : Outcome). o .refused) (made-seen c) ∙ q in
+      λ i. record { refused = no i; bytes = refused-same (run l cs .now) c n no i }
+
+  pub find-seen : (s x : ℕ) → T (seated (v .roster) s)
+      → findIn (run l cs .now) s x ≡ (let f = find (v .roster .number) (v .link) x seats width s in record { refused = 0; holder = f .holder; hops = f .hops })
+  find-seen s x m = at (λ b. findIn b s x) ∙ find-bytes (meant v) h s x m
+
+  pub lot-seen : (x : ℕ) → T (ltb x seats) → readLot (run l cs .now) x ≡ lotOf (v .roster) x
+  lot-seen x p = at (λ b. readLot b x) ∙ read-lot (meant v) h x (ltb→lt x seats p)
+
+  link-seen : (x k : ℕ) (d : Side) → T (seated (v .roster) x) → T (ltb k levels)
+      → readLink (run l cs .now) x k (sideNumber d) ≡ record { refused = 0; seat = linkByte (v .link x k d) }
+  link-seen x k d m p =
+      at (λ b. readLink b x k (sideNumber d))
+      ∙ read-link (meant v) h x k d (h .seats x m) (ltb→lt k levels p) (not-T-false (T-not (isFree (v .roster .state x)) m))
+
+  -- both links of a lot
+  pub links-seen : (x k : ℕ) → T (seated (v .roster) x) → T (ltb k levels)
+      → LinksOf (run l cs .now) x k (linkByte (v .link x k left)) (linkByte (v .link x k right))
+  links-seen x k m p = (link-seen x k left m p, link-seen x k right m p)
+
+  pending-seen : Pending (run l cs .now) (v .pending)
+  pending-seen n = at (λ b. readMessage b n) ∙ read-message (meant v) h n
+
+  log-seen : accepted (seen cs .log) ≡ true → accepted (logOf (runs.meant (run l cs .history))) ≡ true
+  log-seen a = ap accepted (seen-log l e cs (fits-in cs t)) ∙ a
+
+  pub lot100-seen : (right-link : ℕ) (ms : List Msg) → accepted (seen cs .log) ≡ true → T (seated (v .roster) 0)
+      → linkByte (v .link 0 0 left) ≡ 255 → linkByte (v .link 0 0 right) ≡ right-link → v .pending ≡ ms → Lot100 l cs right-link ms
+  lot100-seen y ms a m p q w = record {
+    log = log-seen a;
+    links = subst (λ (x : ℕ). LinksOf (run l cs .now) 0 0 x y) p (subst (LinksOf (run l cs .now) 0 0 (linkByte (v .link 0 0 left))) q (links-seen 0 0 m tt));
+    pending = subst (Pending (run l cs .now)) w pending-seen;
+  }
+
+  pub settles-seen : (n : ℕ) → accepted (seen cs .log) ≡ true → T (seen cs .ordered) → v .pending ≡ [] → v .roster .phase ≡ open-phase
+      → count seats (seated (v .roster)) ≡ n → Settles l cs n
+  unfolding countsOf among
+  settles-seen n a o q p c =
+      let none-left : somePending seats width (among (v .pending)) ≡ false = pending-none seats width (among (v .pending)) (λ m x. rw q) in
+      let none-counted = count-none (meant v) h .1 none-left in
+      record {
+        log = log-seen a;
+        order = seen-order l e cs (fits-in cs t) o;
+        counts = at readCounts ∙ read-counts (meant v) h ∙ λ i. record { refused = 0; lots = c i; phase = phaseByte (p i); pending = none-counted i };
+      }

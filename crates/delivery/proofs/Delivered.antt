@@ -1,0 +1,143 @@
+-- A message taken and its rule done leave the bytes of the meaning after its delivery, in a sound record where it is pending.
+-- Assumes nothing.
+use Prim.Native.Nat.{ℕ, _<_}
+use mathlib.Core.Path.{_≡_, sym, ap, _∙_}
+use mathlib.Core.Option.{Option, none, some}
+use mathlib.Core.Bool.{Bool, true, false, cond}
+use mathlib.Core.List.{List, [], _∷_, List·Memᴰ, List·Memᴰ·not-nil}
+use lib.Dec.{T, eqb}
+use Rattle.memory.specs.Bits.{clearBit}
+use Rattle.graph.specs.Side.{Side, onSide}
+use Rattle.graph.specs.Vector.{width}
+use Rattle.graph.proofs.Tests.{T-true, true-T, or-left}
+use Rattle.protocol.specs.Message.{Msg, meet, probe, pull, going, seek, found, none-found, Name, nameOf, named, among}
+use Rattle.protocol.specs.Numbering.{exists, place}
+use Rattle.protocol.specs.Rules.{Entry, Change, keep, set, Effect, sending, setting, meeting, effect}
+use Rattle.protocol.specs.State.{Meaning}
+use Rattle.protocol.specs.Sound.{Sound, messageOk}
+use Rattle.protocol.specs.Table.{deliver, first, rows, refusal, isPending}
+use Rattle.protocol.specs.Calls.{accept, rule}
+use Rattle.protocol.proofs.Message.{named-name, mem-among}
+use Rattle.protocol.proofs.SoundFacts.{pending-exists, pending-after}
+use Rattle.protocol.proofs.KeepDelivery.{deliver-sound}
+use Rattle.protocol.proofs.Delivery.{accept-deliver}
+use Rattle.protocol.proofs.Local.{pending-exactly}
+use Rattle.record.specs.Layout.{seats, levels, pendingFrom}
+use Rattle.record.specs.Meaning.{meaning, bytesOf}
+use Rattle.record.proofs.Form.{Form, exists-pending}
+use Rattle.record.proofs.Round.{bytes-meaning, meaning-bytes}
+use Rattle.record.proofs.Pending.{after-taken}
+use Rattle.record.proofs.Update.{withChange, withoutMessage, bytes-withLink, bytes-keep}
+use Rattle.record.proofs.Sent.{sentBits, bytes-withoutMessage, bytes-sent}
+use Rattle.places.specs.Places.{placeOf}
+use Rattle.delivery.specs.Done.{changed, done, ruled}
+use Rattle.places.proofs.Named.{two-below, three-below}
+use Rattle.places.proofs.Placed.{placed}
+
+-- a change at a level that exists
+AtLevel : Change → Type 0
+AtLevel keep = Unit {0}
+AtLevel (set k d o) = k < levels
+
+meeting-level : (num vec : ℕ → ℕ) (e : Entry) (t a l : ℕ) (d : Side) → l < levels → (o : Option ℕ)
+    → AtLevel (meeting width num vec e t a l d o .change)
+unfolding AtLevel meeting setting
+meeting-level num vec e t a l d h none = h
+meeting-level num vec e t a l d h (some o) = by (eqb o a) (onSide d (num o) (num a))
+  where
+    by : (b c : Bool) → AtLevel (cond b (sending []) (cond c (sending (meet o a l ∷ [])) (setting width num vec e t a l d)) .change)
+    by true c = tt
+    by false true = tt
+    by false false = h
+
+-- the change of a rule is at the message's level
+rule-level : (M : Meaning) (m : Msg) → T (exists seats width m) → AtLevel (rule width M m .change)
+unfolding AtLevel rule effect exists
+rule-level M (meet t a l) x = meeting-level _ _ _ t a l _ (three-below t a l _ _ _ x .2) _
+rule-level M (probe t a l) x = tt
+rule-level M (pull t b l d) x = tt
+rule-level M (going t l d) x = tt
+rule-level M (seek t a l) x = tt
+rule-level M (found t a l) x = three-below t a l _ _ _ x .2
+rule-level M (none-found t l d) x = two-below t l _ _ x .1
+
+-- `to` is a seat
+to-seat : (m : Msg) → T (exists seats width m) → nameOf m .to < seats
+unfolding exists
+to-seat (meet t a l) x = three-below t a l _ _ _ x .0
+to-seat (probe t a l) x = three-below t a l _ _ _ x .0
+to-seat (pull t b l d) x = two-below t l _ _ x .0
+to-seat (going t l d) x = two-below t l _ _ x .0
+to-seat (seek t a l) x = three-below t a l _ _ _ x .0
+to-seat (found t a l) x = three-below t a l _ _ _ x .0
+to-seat (none-found t l d) x = two-below t l _ _ x .0
+
+bytes-changed : (N : Meaning) (t : ℕ) (c : Change) → t < seats → AtLevel c → bytesOf (withChange N t c) ≡ changed t c (bytesOf N)
+unfolding AtLevel changed
+bytes-changed N t keep h g = bytes-keep N t
+bytes-changed N t (set k d o) h g = bytes-withLink N t k d o h g
+
+without-sound : {M : Meaning} → Sound seats width M → (m : Msg) → Sound seats width (withoutMessage M m)
+without-sound {M} h m = record {
+  seats = h .seats;
+  numbers = h .numbers;
+  vectors = h .vectors;
+  unused = h .unused;
+  differ = h .differ;
+  links = h .links;
+  messages = pending-after (λ n. T (messageOk width (M .roster) n)) [] (some m) (M .pending) (h .messages) (λ n q. absurd (List·Memᴰ·not-nil q));
+}
+
+-- what a rule sends exists
+sent-exists : {M : Meaning} → Sound seats width M → (m : Msg) → T (M .pending m)
+    → (n : Msg) → List·Memᴰ n (rule width M m .sent) → T (exists seats width n)
+unfolding refusal rows first isPending
+sent-exists {M} h m t n q =
+    pending-exists after n (rw (pending-exactly seats width M m n) (or-left (among (rule width M m .sent) n) _ (mem-among _ q)))
+  where
+    accepted : refusal seats width (M .roster) (M .pending) (deliver (nameOf m)) ≡ 0
+    accepted = rw (named-name m, T-true {b = M .pending m} t)
+
+    after : Sound seats width (accept seats width M (deliver (nameOf m)))
+    after = deliver-sound h (nameOf m) accepted
+
+module _ {l : List ℕ} (f : Form l) (h : Sound seats width (meaning l)) (n : Name) where
+  module _ (m : Msg) (q : named n ≡ some m) (t : T (meaning l .pending m)) where
+    abbrev M : Meaning
+    M = meaning l
+
+    abbrev N : Meaning
+    N = withoutMessage (meaning l) m
+
+    taken : clearBit l pendingFrom (place seats width m) ≡ bytesOf (withoutMessage (meaning l) m)
+    taken =
+        ap (λ (b : List ℕ). clearBit b pendingFrom (place seats width m)) (sym (bytes-meaning f))
+        ∙ sym (bytes-withoutMessage (meaning l) m (exists-pending l m t))
+
+    -- the rule does not see that the message is taken
+    same-rule : rule width (meaning (clearBit l pendingFrom (place seats width m))) m ≡ rule width (meaning l) m
+    unfolding rule
+    same-rule =
+        ap (λ (b : List ℕ). rule width (meaning b) m) taken
+        ∙ ap (λ (X : Meaning). rule width X m) (meaning-bytes (without-sound h m))
+
+    rule-bytes : ruled (some m) (clearBit l pendingFrom (place seats width m)) ≡ bytesOf (accept seats width (meaning l) (deliver n))
+    unfolding ruled done
+    rule-bytes =
+        let s = nameOf m .to in
+        let e = rule width (meaning l) m in
+        ap (λ (x : Effect). done s x (clearBit l pendingFrom (place seats width m))) same-rule
+        ∙ ap (λ (b : List ℕ). done s e b) taken
+        ∙ ap (sentBits (e .sent)) (sym (bytes-changed N s (e .change) (to-seat m (exists-pending l m t)) (rule-level M m (exists-pending l m t))))
+        ∙ sym (bytes-sent (withChange N s (e .change)) (e .sent) (sent-exists h m t))
+        ∙ ap (λ (p : Msg → Bool). bytesOf (record { roster = M .roster; link = withChange N s (e .change) .link; pending = p }))
+        (sym (after-taken (e .sent) (some m) (M .pending)))
+        ∙ ap bytesOf (sym (accept-deliver seats width M n m q))
+
+  pub deliver-bytes : (o : Option Msg) → named n ≡ o → isPending (meaning l .pending) o ≡ true
+      → ruled o (clearBit l pendingFrom (placeOf o)) ≡ bytesOf (accept seats width (meaning l) (deliver n))
+  unfolding isPending
+  deliver-bytes none q p = absurd (true-T p)
+  deliver-bytes (some m) q p =
+      let t : T (meaning l .pending m) = true-T p in
+      ap (λ (i : ℕ). ruled (some m) (clearBit l pendingFrom i)) (placed m (exists-pending l m t)) ∙ rule-bytes m q t

@@ -1,0 +1,8 @@
+-- Why a delivery is the protocol's.
+pub mod Sides
+pub mod Sends
+pub mod Answers
+pub mod Delivered
+pub mod Steps
+pub mod Local
+pub mod Ruled

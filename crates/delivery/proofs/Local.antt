@@ -1,0 +1,112 @@
+-- What an accepted delivery changes in the bytes (document 01, "Messages"): of all entries only that of `to`, and of the pending bits
+-- exactly those of the message taken and of the messages that its rule sends. Assumes nothing.
+use Prim.Native.Nat.{ℕ, _<_}
+use mathlib.Core.Path.{_≡_, refl, sym, ap, _∙_}
+use mathlib.Core.Logic.{⊎-elim}
+use mathlib.Core.Option.{Option, none, some}
+use mathlib.Core.Bool.{Bool, true, false, not, _&&_, _||_}
+use mathlib.Core.List.{List, [], _∷_}
+use native.Mathlib.Omega.{arith}
+use lib.Dec.{T, eqb}
+use lib.ListN.{length, getD}
+use Rattle.memory.specs.Bytes.{AreBytes}
+use Rattle.memory.specs.Bits.{bitSet}
+use Rattle.graph.specs.Side.{Side}
+use Rattle.graph.specs.Vector.{width}
+use Rattle.protocol.specs.Message.{Msg, Name, nameOf, named, sameMsg, among}
+use Rattle.protocol.specs.Numbering.{exists, place}
+use Rattle.protocol.specs.Rules.{Entry}
+use Rattle.protocol.specs.State.{Meaning}
+use Rattle.protocol.specs.Table.{deliver, Row, row, first, rows, isPending}
+use Rattle.protocol.specs.Calls.{accept, rosterAfter, rule, unlessRefused}
+use Rattle.protocol.proofs.Message.{name-named}
+use Rattle.protocol.proofs.Numbering.{sideNumber-lt}
+use Rattle.protocol.proofs.Accepted.{deliver-row}
+use Rattle.protocol.proofs.Local.{one-entry, pending-exactly}
+use Rattle.record.specs.Layout.{seats, levels, entrySize, entryAt, linkAt, pendingFrom, size}
+use Rattle.record.specs.Meaning.{meaning, bytesOf}
+use Rattle.record.specs.Sound.{sound}
+use Rattle.record.specs.Reading.{recordRefusal}
+use Rattle.record.proofs.Places.{getD-bytesOf}
+use Rattle.record.proofs.Form.{Form, meaning-pending}
+use Rattle.record.proofs.Round.{bytes-meaning, read-message}
+use Rattle.record.proofs.Frame.{Agree, frame, Outside}
+use Rattle.record.proofs.Sound.{sound-is}
+use Rattle.outcome.specs.Made.{madeRefusal, made}
+use Rattle.outcome.proofs.Bridge.{record-accepted}
+use Rattle.delivery.proofs.Answers.{record-fine}
+
+-- an accepted call finds the record sound
+accepted-fine : (l : List ℕ) (n : Name) → made l (deliver n) .refused ≡ 0 → recordRefusal l ≡ 0
+unfolding made madeRefusal recordRefusal first
+accepted-fine l n e = by (eqb (length l) size) (sound l) e
+  where
+    rs : List Row
+    rs = rows seats width (meaning l .roster) (meaning l .pending) (deliver n)
+
+    by : (p q : Bool) → first (row 1 (not p) ∷ row 2 (not q) ∷ rs) ≡ 0 → first (row 1 (not p) ∷ row 2 (not q) ∷ []) ≡ 0
+    by true true f = refl
+    by true false f = f
+    by false q f = f
+
+-- an accepted delivery is one of a message, by its name
+pub accepted-named : (l : List ℕ) (n : Name) → made l (deliver n) .refused ≡ 0 → (m : Msg) × (nameOf m ≡ n)
+unfolding made isPending
+accepted-named l n e =
+    let f = record-fine l (accepted-fine l n e) in
+    by (named n) refl (deliver-row seats width (meaning l .roster) (meaning l .pending) n (sym (record-accepted l (f .0) (f .1) (deliver n)) ∙ e))
+  where
+    by : (o : Option Msg) → named n ≡ o → T (isPending (meaning l .pending) o) → (m : Msg) × (nameOf m ≡ n)
+    by none q t = absurd t
+    by (some m) q t = (m, name-named n m q)
+
+module _ (l : List ℕ) (b : AreBytes l) (m : Msg) (e : made l (deliver (nameOf m)) .refused ≡ 0) where
+  abbrev M : Meaning
+  M = meaning l
+
+  abbrev after : Meaning
+  after = accept seats width (meaning l) (deliver (nameOf m))
+
+  form : Form l
+  form = let f = record-fine l (accepted-fine l (nameOf m) e) in sound-is l (f .0) b .0 (f .1) .0
+
+  bytes-after : made l (deliver (nameOf m)) .bytes ≡ bytesOf (accept seats width (meaning l) (deliver (nameOf m)))
+  unfolding made unlessRefused
+  bytes-after = rw e
+
+  -- before the pending bits, outside the entry of `to`
+  abbrev Other : ℕ → Type 0
+  Other i = (i < pendingFrom) × Outside (entryAt (nameOf m .to)) entrySize i
+
+  agree : Agree after M Other
+  unfolding accept rosterAfter
+  agree = record {
+    phase = λ q. refl;
+    state = λ s h q. refl;
+    number = λ s j h g q. refl;
+    vector = λ s h q. refl;
+    link = λ s k d h g q. ap (λ (x : Entry). x .link k d) (one-entry seats width M m s (λ p. apart s k d g p (q .1)));
+    pending = λ i h q. absurd (omega (arith, q .0));
+  }
+    where
+      apart : (s k : ℕ) (d : Side) → k < levels → s ≡ nameOf m .to → Outside (entryAt (nameOf m .to)) entrySize (linkAt s k d) → ⊥
+      apart s k d g p q = let o = sideNumber-lt d in ⊎-elim (λ u. omega arith) (λ u. omega arith) q
+
+  -- no byte of the phase or of another entry changes
+  pub other-bytes : (i : ℕ) → i < pendingFrom → Outside (entryAt (nameOf m .to)) entrySize i → getD (made l (deliver (nameOf m)) .bytes) i 0 ≡ getD l i 0
+  other-bytes i h o =
+      let w : i < size = omega arith in
+      ap (λ (x : List ℕ). getD x i 0) bytes-after
+      ∙ getD-bytesOf after i w
+      ∙ frame agree i w (h, o)
+      ∙ sym (getD-bytesOf M i w)
+      ∙ ap (λ (x : List ℕ). getD x i 0) (bytes-meaning form)
+
+  -- a bit is set after it: its message is sent, or it was set and its message is not the one taken
+  pub pending-bits : (n : Msg) → T (exists seats width n) → bitSet (made l (deliver (nameOf m)) .bytes) pendingFrom (place seats width n)
+      ≡ (among (rule width (meaning l) m .sent) n || (bitSet l pendingFrom (place seats width n) && not (sameMsg m n)))
+  pending-bits n x =
+      ap (λ (y : List ℕ). bitSet y pendingFrom (place seats width n)) bytes-after
+      ∙ read-message after n x
+      ∙ pending-exactly seats width M m n
+      ∙ rw (meaning-pending l n x)

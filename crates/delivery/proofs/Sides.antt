@@ -1,0 +1,41 @@
+-- Sides and bits as the numbers 0 and 1, and the byte of a staying lot. Assumes nothing.
+use Prim.Native.Nat.{ℕ, zero, suc, _-_, _<_}
+use mathlib.Core.Path.{_≡_, refl}
+use mathlib.Core.Bool.{not}
+use native.Mathlib.Omega.{arith}
+use lib.Dec.{eqb}
+use borrow.Author.Tests.{ne-eqb}
+use Rattle.graph.specs.Side.{opp}
+use Rattle.graph.specs.Vector.{sameBit}
+use Rattle.protocol.specs.Rules.{isStaying}
+use Rattle.record.specs.Meaning.{stateOf}
+use Rattle.record.specs.Reading.{sideOfNumber}
+
+-- the other side
+pub side-opp : (n : ℕ) → n < 2 → sideOfNumber (1 - n) ≡ opp (sideOfNumber n)
+side-opp zero h = refl
+side-opp (suc zero) h = refl
+side-opp (suc (suc n)) h = absurd (omega arith)
+
+-- the other bit
+pub bit-not : (n : ℕ) → n < 2 → eqb (1 - n) 1 ≡ not (eqb n 1)
+bit-not zero h = refl
+bit-not (suc zero) h = refl
+bit-not (suc (suc n)) h = absurd (omega arith)
+
+-- two bits are the same: their numbers are
+pub same-bits : (m n : ℕ) → m < 2 → n < 2 → sameBit (eqb m 1) (eqb n 1) ≡ eqb m n
+same-bits zero zero h g = refl
+same-bits zero (suc zero) h g = refl
+same-bits (suc zero) zero h g = refl
+same-bits (suc zero) (suc zero) h g = refl
+same-bits (suc (suc m)) n h g = absurd (omega arith)
+same-bits zero (suc (suc n)) h g = absurd (omega arith)
+same-bits (suc zero) (suc (suc n)) h g = absurd (omega arith)
+
+-- the state with the byte 1 is staying
+pub staying-byte : (b : ℕ) → eqb b 1 ≡ isStaying (stateOf b)
+unfolding stateOf
+staying-byte zero = refl
+staying-byte (suc zero) = refl
+staying-byte (suc (suc b)) = rw (ne-eqb (suc (suc b)) 1 (λ e. omega arith), ne-eqb (suc (suc b)) 0 (λ e. omega arith))

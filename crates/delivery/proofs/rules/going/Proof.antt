@@ -1,0 +1,48 @@
+-- `delivery::rules::going` meets its contract. Assumes nothing.
+use borrow.Author.Needs.{needs}
+use Rattle.protocol.specs.Rules.{effect, parting}
+use Rattle.protocol.specs.Calls.{rule}
+use Rattle.record.proofs.Sent.{sentBits}
+use Rattle.delivery.specs.Done.{changed, done}
+use Rattle.delivery.proofs.rules.going.Statement.{statement}
+use Rattle.delivery.proofs.rules.going.Tie as tie
+
+stays-requires : tie.Need-stays-requires
+stays-requires c κs = search needs
+
+link-requires : tie.Need-link-requires
+link-requires c κs = search needs
+
+seek-link-requires : tie.Need-seek-link-requires
+seek-link-requires c κs = search needs
+
+same-length : tie.Need-same-length
+same-length c = search needs
+
+returns : tie.Need-returns
+unfolding done sentBits changed rule effect parting
+returns c =
+    rw (
+      ← c .before .before .before .before .before .before .before .stays .ensures,
+      c .before .before .before .before .before .before .if1 .taken,
+      ← c .before .before .before .before .link .ensures,
+    ) (c .before .before .seek-link .ensures)
+
+same-length-2 : tie.Need-same-length-2
+same-length-2 c = search needs
+
+returns-2 : tie.Need-returns-2
+unfolding done sentBits changed rule effect parting
+returns-2 c = rw (← c .before .stays .ensures, c .if1 .left)
+
+pub going-spec : {M : Type 1} → statement M
+going-spec =
+    tie.close
+    (tie.spec
+    stays-requires
+    link-requires
+    seek-link-requires
+    same-length
+    returns
+    same-length-2
+    returns-2)

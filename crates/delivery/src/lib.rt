@@ -1,0 +1,73 @@
+// Delivery over a lent record (document 01, "Messages", "Calls" and "Refused calls"). The answer and the bytes left are those of outcome's
+// specs/Made.antt.
+ghost use mathlib.Core.Path.{_≡_};
+ghost use lib.Dec.{T};
+ghost use lib.ListN.{length};
+ghost use Rattle.protocol.specs.Message.{name, named};
+ghost use Rattle.protocol.specs.Table.{deliver as delivering};
+ghost use Rattle.record.specs.Layout.{size};
+ghost use Rattle.outcome.specs.Made.{made};
+ghost use Rattle.outcome.specs.Answer.{told, answered};
+ghost use Rattle.places.specs.Places.{isMessage};
+ghost use Rattle.delivery.specs.Done.{ruled};
+
+mod reads;
+mod rules;
+mod writes;
+
+use outcome::Answer;
+use places::place_of;
+use record::MESSAGES;
+use soundness::record_refusal;
+use rules::found;
+use rules::going;
+use rules::meet;
+use rules::none;
+use rules::probe;
+use rules::pull;
+use rules::seek;
+
+// The refusals of the table.
+const NO_SUCH_MESSAGE: u8 = 10;
+
+// The rule of the message that five numbers name.
+fn handle(rec: &mut [u8], kind: u8, to: usize, about: usize, level: usize, side: usize)
+    requires { ⌜ (length (now rec) ≡ size) × T (isMessage (named (name kind to about level side))) ⌝ }
+    ensures { λ _. ⌜ now (rec .exit) ≡ ruled (named (name kind to about level side)) (now (rec .entry)) ⌝ }
+{
+    match kind {
+        1 => meet(rec, to, about, level),
+        2 => probe(rec, to, about, level),
+        3 => pull(rec, to, about, level, side),
+        4 => going(rec, to, level, side),
+        5 => seek(rec, to, about, level),
+        6 => found(rec, to, about, level),
+        7 => none(rec, to, level, side),
+        0 | 8..=255 => {}
+    }
+}
+
+// Delivers the message that five numbers name: it is taken away, and its rule is done. Refused: 1 wrong size, 2 unsound, 10 no such
+// message.
+pub fn deliver(rec: &mut [u8], kind: u8, to: u8, about: u8, level: u8, side: u8) -> Answer
+    ensures { λ r. ⌜ told r (now (rec .exit)) ≡ answered (made (now (rec .entry)) (delivering (name kind to about level side))) ⌝ }
+{
+    let refused = record_refusal(rec);
+    if refused != 0 {
+        return Answer::Refused(refused);
+    }
+    let to = to as usize;
+    let about = about as usize;
+    let level = level as usize;
+    let side = side as usize;
+    let place = place_of(kind, to, about, level, side);
+    if place == MESSAGES {
+        return Answer::Refused(NO_SUCH_MESSAGE);
+    }
+    if !record::is_pending(rec, place) {
+        return Answer::Refused(NO_SUCH_MESSAGE);
+    }
+    record::take(rec, place);
+    handle(rec, kind, to, about, level, side);
+    Answer::Done
+}

@@ -1,0 +1,78 @@
+// What the rules write: a link of the entry of `to`, and messages to a link, if there is one.
+ghost use mathlib.Core.Path.{_≡_};
+ghost use Prim.Native.Nat.{_+_, _*_, _<_};
+ghost use lib.Dec.{eqb};
+ghost use lib.ListN.{length, set};
+ghost use Rattle.graph.specs.Vector.{width};
+ghost use Rattle.protocol.specs.Message.{meet, probe, pull, seek};
+ghost use Rattle.protocol.specs.Rules.{toLink};
+ghost use Rattle.record.specs.Layout.{seats, levels, entrySize, size, linkAt};
+ghost use Rattle.record.specs.Meaning.{linkOf};
+ghost use Rattle.record.specs.Reading.{sideOfNumber};
+ghost use Rattle.record.proofs.Sent.{sentBits};
+use places::meet_place;
+use places::probe_place;
+use places::pull_place;
+use places::seek_place;
+use record::ENTRIES;
+use record::ENTRY;
+use record::LINKS_AT;
+use record::SEATS;
+
+// Writes the link at level k on side d in an entry.
+fn put_in_entry(entry: &mut [u8], k: usize, d: usize, v: u8)
+    requires { ⌜ (length (now entry) ≡ entrySize) × (k < levels) × (d < 2) ⌝ }
+    ensures { λ _. ⌜ now (entry .exit) ≡ set (now (entry .entry)) (10 + 2 * k + d) v ⌝ }
+{
+    entry[LINKS_AT + 2 * k + d] = v;
+}
+
+// Writes the link of seat s at level k on side d: its entry alone is lent on.
+pub fn put_link(rec: &mut [u8], s: usize, k: usize, d: usize, v: u8)
+    requires { ⌜ (length (now rec) ≡ size) × (s < seats) × (k < levels) × (d < 2) ⌝ }
+    ensures { λ _. ⌜ now (rec .exit) ≡ set (now (rec .entry)) (linkAt s k (sideOfNumber d)) v ⌝ }
+{
+    let a = ENTRIES + ENTRY * s;
+    let e = a + ENTRY;
+    put_in_entry(&mut rec[a..e], k, d, v);
+}
+
+// MEET to a lot about the link z.
+pub fn meet_about_link(rec: &mut [u8], to: usize, z: usize, level: usize)
+    requires { ⌜ (length (now rec) ≡ size) × (to < seats) × (level < levels) ⌝ }
+    ensures { λ _. ⌜ now (rec .exit) ≡ sentBits (toLink (linkOf z) (λ o. meet to o level)) (now (rec .entry)) ⌝ }
+{
+    if z < SEATS {
+        record::send(rec, meet_place(to, z, level));
+    }
+}
+
+// PROBE to the link z.
+pub fn probe_link(rec: &mut [u8], z: usize, about: usize, level: usize)
+    requires { ⌜ (length (now rec) ≡ size) × (about < seats) × (level < width) ⌝ }
+    ensures { λ _. ⌜ now (rec .exit) ≡ sentBits (toLink (linkOf z) (λ o. probe o about level)) (now (rec .entry)) ⌝ }
+{
+    if z < SEATS {
+        record::send(rec, probe_place(z, about, level));
+    }
+}
+
+// PULL to the link z.
+pub fn pull_link(rec: &mut [u8], z: usize, want: usize, level: usize, side: usize)
+    requires { ⌜ (length (now rec) ≡ size) × (want < 2) × (level < width) × (side < 2) ⌝ }
+    ensures { λ _. ⌜ now (rec .exit) ≡ sentBits (toLink (linkOf z) (λ o. pull o (eqb want 1) level (sideOfNumber side))) (now (rec .entry)) ⌝ }
+{
+    if z < SEATS {
+        record::send(rec, pull_place(z, want, level, side));
+    }
+}
+
+// SEEK to the link z.
+pub fn seek_link(rec: &mut [u8], z: usize, about: usize, level: usize)
+    requires { ⌜ (length (now rec) ≡ size) × (about < seats) × (level < levels) ⌝ }
+    ensures { λ _. ⌜ now (rec .exit) ≡ sentBits (toLink (linkOf z) (λ o. seek o about level)) (now (rec .entry)) ⌝ }
+{
+    if z < SEATS {
+        record::send(rec, seek_place(z, about, level));
+    }
+}

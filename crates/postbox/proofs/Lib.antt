@@ -1,0 +1,3 @@
+-- Why the messages that are pending are the ones that are tested.
+pub mod Places
+pub mod Pending

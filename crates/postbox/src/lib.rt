@@ -1,0 +1,132 @@
+// Pending messages: each names seated lots, fits its kind and stands in its kind's phase. Only the set bits are looked at.
+ghost use mathlib.Core.Path.{_≡_};
+ghost use mathlib.Core.Bool.{Bool};
+ghost use Prim.Native.Nat.{_≤_, _<_};
+ghost use lib.ListN.{length};
+ghost use Rattle.graph.specs.Side.{Side};
+ghost use Rattle.graph.specs.Vector.{width};
+ghost use Rattle.protocol.specs.Message.{meet, probe, pull, going, seek, found, none-found};
+ghost use Rattle.protocol.specs.Numbering.{messageAt};
+ghost use Rattle.protocol.specs.Sound.{messageOk};
+ghost use Rattle.record.specs.Layout.{seats, messages, size};
+ghost use Rattle.record.specs.Meaning.{rosterIn};
+ghost use Rattle.record.specs.Sound.{messagesFit};
+use record::LEVELS;
+use record::MESSAGES;
+use record::PENDING;
+use record::SEATS;
+use roster::is_clearing;
+use roster::is_seated;
+use roster::is_staying;
+use roster::pair_fits;
+
+// The levels of PROBE and PULL, one less than those of the other kinds.
+const BELOW: usize = LEVELS - 1;
+
+// How many messages a kind has: MEET, SEEK and FOUND; PROBE; PULL; GOING and NONE.
+const MEETS: usize = SEATS * SEATS * LEVELS;
+
+const PROBES: usize = SEATS * SEATS * BELOW;
+
+const PULLS: usize = SEATS * 2 * BELOW * 2;
+
+const GOINGS: usize = SEATS * LEVELS * 2;
+
+fn meet_fits(rec: &[u8], to: usize, about: usize, level: usize) -> bool
+    requires { ⌜ (length (now rec) ≡ size) × (to < seats) × (about < seats) ⌝ }
+    ensures { λ r. ⌜ r ≡ messageOk width (rosterIn (now (rec .entry))) (meet to about level) ⌝ }
+{
+    !is_clearing(rec) && pair_fits(rec, level, to, about)
+}
+
+fn probe_fits(rec: &[u8], to: usize, about: usize, level: usize) -> bool
+    requires { ⌜ (length (now rec) ≡ size) × (to < seats) × (about < seats) × (level < width) ⌝ }
+    ensures { λ r. ⌜ r ≡ messageOk width (rosterIn (now (rec .entry))) (probe to about level) ⌝ }
+{
+    !is_clearing(rec) && pair_fits(rec, level, to, about)
+}
+
+// Whatever the wanted bit and the side.
+fn pull_fits(rec: &[u8], to: usize, level: usize) -> bool
+    requires { ⌜ (length (now rec) ≡ size) × (to < seats) × (level < width) ⌝ }
+    ensures { λ r. ⌜ ((b : Bool) (d : Side) → r ≡ messageOk width (rosterIn (now (rec .entry))) (pull to b level d)) ⌝ }
+{
+    !is_clearing(rec) && is_seated(rec, to)
+}
+
+// Whatever the side.
+fn going_fits(rec: &[u8], to: usize, level: usize) -> bool
+    requires { ⌜ (length (now rec) ≡ size) × (to < seats) × (level ≤ width) ⌝ }
+    ensures { λ r. ⌜ ((d : Side) → r ≡ messageOk width (rosterIn (now (rec .entry))) (going to level d)) ⌝ }
+{
+    is_clearing(rec) && is_seated(rec, to)
+}
+
+fn seek_fits(rec: &[u8], to: usize, about: usize, level: usize) -> bool
+    requires { ⌜ (length (now rec) ≡ size) × (to < seats) × (about < seats) ⌝ }
+    ensures { λ r. ⌜ r ≡ messageOk width (rosterIn (now (rec .entry))) (seek to about level) ⌝ }
+{
+    is_clearing(rec) && (pair_fits(rec, level, to, about) && is_staying(rec, about))
+}
+
+fn found_fits(rec: &[u8], to: usize, about: usize, level: usize) -> bool
+    requires { ⌜ (length (now rec) ≡ size) × (to < seats) × (about < seats) ⌝ }
+    ensures { λ r. ⌜ r ≡ messageOk width (rosterIn (now (rec .entry))) (found to about level) ⌝ }
+{
+    is_clearing(rec)
+        && (pair_fits(rec, level, to, about) && (is_staying(rec, to) && is_staying(rec, about)))
+}
+
+// Whatever the side.
+fn none_fits(rec: &[u8], to: usize, level: usize) -> bool
+    requires { ⌜ (length (now rec) ≡ size) × (to < seats) × (level ≤ width) ⌝ }
+    ensures { λ r. ⌜ ((d : Side) → r ≡ messageOk width (rosterIn (now (rec .entry))) (none-found to level d)) ⌝ }
+{
+    is_clearing(rec) && is_staying(rec, to)
+}
+
+// The message at place i: its kind by the block that holds i, its numbers by the digits of its place there.
+fn message_fits(rec: &[u8], i: usize) -> bool
+    requires { ⌜ (length (now rec) ≡ size) × (i < messages) ⌝ }
+    ensures { λ r. ⌜ r ≡ messageOk width (rosterIn (now (rec .entry))) (messageAt seats width i) ⌝ }
+{
+    if i < MEETS {
+        return meet_fits(rec, i / LEVELS / SEATS, i / LEVELS % SEATS, i % LEVELS);
+    }
+    let p = i - MEETS;
+    if p < PROBES {
+        return probe_fits(rec, p / BELOW / SEATS, p / BELOW % SEATS, p % BELOW);
+    }
+    let q = p - PROBES;
+    if q < PULLS {
+        return pull_fits(rec, q / 2 / BELOW / 2, q / 2 % BELOW);
+    }
+    let g = q - PULLS;
+    if g < GOINGS {
+        return going_fits(rec, g / 2 / LEVELS, g / 2 % LEVELS);
+    }
+    let s = g - GOINGS;
+    if s < MEETS {
+        return seek_fits(rec, s / LEVELS / SEATS, s / LEVELS % SEATS, s % LEVELS);
+    }
+    let f = s - MEETS;
+    if f < MEETS {
+        return found_fits(rec, f / LEVELS / SEATS, f / LEVELS % SEATS, f % LEVELS);
+    }
+    let n = f - MEETS;
+    none_fits(rec, n / 2 / LEVELS, n / 2 % LEVELS)
+}
+
+pub fn messages_fit(rec: &[u8]) -> bool
+    requires { ⌜ length (now rec) ≡ size ⌝ }
+    ensures { λ r. ⌜ r ≡ messagesFit (now (rec .entry)) ⌝ }
+{
+    let mut i = memory::first_bit(rec, PENDING, 0, MESSAGES);
+    while i < MESSAGES {
+        if !message_fits(rec, i) {
+            return false;
+        }
+        i = memory::first_bit(rec, PENDING, i + 1, MESSAGES);
+    }
+    true
+}

@@ -1,0 +1,50 @@
+// The roster of a record, read from its bytes: the phase, who is seated and who stays, and pairs of lots that share bits.
+ghost use mathlib.Core.Path.{_≡_};
+ghost use Prim.Native.Nat.{_<_};
+ghost use lib.Dec.{leb};
+ghost use lib.ListN.{length};
+ghost use Rattle.graph.specs.Vector.{width, shared};
+ghost use Rattle.protocol.specs.State.{isClearing, seated, stays};
+ghost use Rattle.protocol.specs.Sound.{pairOk};
+ghost use Rattle.record.specs.Layout.{seats, size};
+ghost use Rattle.record.specs.Meaning.{rosterIn};
+
+// Whether the phase is clearing.
+pub fn is_clearing(rec: &[u8]) -> bool
+    requires { ⌜ length (now rec) ≡ size ⌝ }
+    ensures { λ r. ⌜ r ≡ isClearing (rosterIn (now (rec .entry)) .phase) ⌝ }
+{
+    record::phase(rec) != record::OPEN
+}
+
+// Whether a lot sits on seat s.
+pub fn is_seated(rec: &[u8], s: usize) -> bool
+    requires { ⌜ (length (now rec) ≡ size) × (s < seats) ⌝ }
+    ensures { λ r. ⌜ r ≡ seated (rosterIn (now (rec .entry))) s ⌝ }
+{
+    record::state(rec, s) != record::FREE
+}
+
+// Whether a staying lot sits on seat s.
+pub fn is_staying(rec: &[u8], s: usize) -> bool
+    requires { ⌜ (length (now rec) ≡ size) × (s < seats) ⌝ }
+    ensures { λ r. ⌜ r ≡ stays (rosterIn (now (rec .entry))) s ⌝ }
+{
+    record::state(rec, s) == record::STAYING
+}
+
+// Whether the vectors of two seats share at least k bits.
+fn shares(rec: &[u8], k: usize, x: usize, y: usize) -> bool
+    requires { ⌜ (length (now rec) ≡ size) × (x < seats) × (y < seats) ⌝ }
+    ensures { λ r. ⌜ r ≡ leb k (shared width (rosterIn (now (rec .entry)) .vector x) (rosterIn (now (rec .entry)) .vector y)) ⌝ }
+{
+    k <= graph::share(record::vector(rec, x), record::vector(rec, y)) as usize
+}
+
+// Whether x and y are two different seated lots that share at least k bits.
+pub fn pair_fits(rec: &[u8], k: usize, x: usize, y: usize) -> bool
+    requires { ⌜ (length (now rec) ≡ size) × (x < seats) × (y < seats) ⌝ }
+    ensures { λ r. ⌜ r ≡ pairOk width (rosterIn (now (rec .entry))) k x y ⌝ }
+{
+    is_seated(rec, x) && (is_seated(rec, y) && (x != y && shares(rec, k, x, y)))
+}
