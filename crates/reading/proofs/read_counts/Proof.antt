@@ -1,14 +1,20 @@
 -- `reading::read_counts` meets its contract. Assumes nothing.
-use mathlib.Core.Path.{refl}
+use Prim.Native.Nat.{ℕ, _^_, _≤_, _<_}
+use mathlib.Core.Path.{_≡_, refl}
+use mathlib.Core.Bool.{Bool}
 use native.Mathlib.Omega.{arith}
-use Rattle.memory.specs.Bits.{bitSet}
+use Rattle.memory.specs.Loops.{count}
 use Rattle.memory.proofs.Count.{count-le}
-use Rattle.record.specs.Layout.{messages, pendingFrom}
+use Rattle.record.specs.Layout.{messages}
 use Rattle.reading.proofs.Refusals.{Accepted, record-passed}
 use Rattle.reading.proofs.Values.{counts-refused, counts-values}
 use borrow.Author.Needs.{needs}
 use Rattle.reading.proofs.read_counts.Statement.{statement}
 use Rattle.reading.proofs.read_counts.Tie as tie
+
+-- a count of messages fits
+count-fits : (n : ℕ) (p : ℕ → Bool) {m : ℕ} → m ≡ count n p → n ≤ messages → m < 2 ^ 32
+count-fits n p e h = omega (arith, e, count-le n p)
 
 -- no row applies
 passed : (c : tie.Else1) → Accepted (c .before .before .before .args .rec .now)
@@ -24,8 +30,7 @@ count-bits-requires : tie.Need-count-bits-requires
 count-bits-requires c κs = (refl, omega (arith, passed c .sized))
 
 cast-pending : tie.Need-cast-pending
-cast-pending c =
-    omega (arith, c .count-bits .ensures, count-le messages (bitSet (c .before .before .before .before .args .rec .now) pendingFrom))
+cast-pending c = record { fits = count-fits _ _ (c .count-bits .ensures) (omega arith) }
 
 seated-lots-requires : tie.Need-seated-lots-requires
 seated-lots-requires c κs = passed (c .before) .sized
