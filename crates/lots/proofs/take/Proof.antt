@@ -1,4 +1,0 @@
-use Rattle.lots.proofs.take.Statement.{statement}
-
-pub take-spec : {M : Type 1} → statement M
-take-spec 𝓤 H 𝓜 𝓖 𝓡 = ?
