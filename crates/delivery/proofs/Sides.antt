@@ -1,14 +1,15 @@
--- Sides and bits as the numbers 0 and 1, and the byte of a staying lot. Assumes nothing.
+-- Sides and bits as the numbers 0 and 1, and who stays. Assumes nothing.
 use Prim.Native.Nat.{ℕ, zero, suc, _-_, _<_}
 use mathlib.Core.Path.{_≡_, refl}
 use mathlib.Core.Bool.{not}
+use mathlib.Core.List.{List}
 use native.Mathlib.Omega.{arith}
 use lib.Dec.{eqb}
-use borrow.Author.Tests.{ne-eqb}
 use Rattle.graph.specs.Side.{opp}
 use Rattle.graph.specs.Vector.{sameBit}
 use Rattle.protocol.specs.Rules.{isStaying}
-use Rattle.record.specs.Meaning.{stateOf}
+use Rattle.protocol.specs.State.{stays}
+use Rattle.record.specs.Meaning.{rosterIn, meaning}
 use Rattle.record.specs.Reading.{sideOfNumber}
 
 -- the other side
@@ -33,9 +34,7 @@ same-bits (suc (suc m)) n h g = absurd (omega arith)
 same-bits zero (suc (suc n)) h g = absurd (omega arith)
 same-bits (suc zero) (suc (suc n)) h g = absurd (omega arith)
 
--- the state with the byte 1 is staying
-pub staying-byte : (b : ℕ) → eqb b 1 ≡ isStaying (stateOf b)
-unfolding stateOf
-staying-byte zero = refl
-staying-byte (suc zero) = refl
-staying-byte (suc (suc b)) = rw (ne-eqb (suc (suc b)) 1 (λ e. omega arith), ne-eqb (suc (suc b)) 0 (λ e. omega arith))
+-- whether a lot stays, by the roster in the bytes
+pub staying-in : (l : List ℕ) (s : ℕ) → isStaying (meaning l .roster .state s) ≡ stays (rosterIn l) s
+unfolding meaning
+staying-in l s = refl

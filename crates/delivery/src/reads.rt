@@ -5,23 +5,12 @@ ghost use lib.Dec.{eqb};
 ghost use lib.ListN.{length};
 ghost use Rattle.graph.specs.Side.{onSide, sideOf};
 ghost use Rattle.graph.specs.Vector.{width, bit as bitAt, shared};
-ghost use Rattle.protocol.specs.State.{stays as staysIn};
 ghost use Rattle.record.specs.Layout.{seats, levels, size};
 ghost use Rattle.record.specs.Meaning.{meaning, linkOf};
 ghost use Rattle.record.specs.Reading.{sideOfNumber};
 
-const STAYING: u8 = 1;
-
 // The last bit of a vector; bit 0 is the highest.
 const LAST_BIT: usize = 7;
-
-// Whether a staying lot sits on seat s.
-pub fn stays(rec: &[u8], s: usize) -> bool
-    requires { ⌜ (length (now rec) ≡ size) × (s < seats) ⌝ }
-    ensures { λ r. ⌜ r ≡ staysIn (meaning (now (rec .entry)) .roster) s ⌝ }
-{
-    record::state(rec, s) == STAYING
-}
 
 // The side of seat x on which seat y lies.
 pub fn side_of(rec: &[u8], x: usize, y: usize) -> usize

@@ -27,7 +27,6 @@ use crate::reads::bit;
 use crate::reads::link;
 use crate::reads::share;
 use crate::reads::side_of;
-use crate::reads::stays;
 use crate::writes::meet_about_link;
 use crate::writes::probe_link;
 use crate::writes::pull_link;
@@ -35,6 +34,7 @@ use crate::writes::put_link;
 use crate::writes::seek_link;
 use record::NONE;
 use record::SEATS;
+use roster::is_staying;
 
 // 1 MEET, after a set below the highest level: PROBE to `about`, and PULL to the link on the other side, along that side, for the opposite
 // of the bit of `to`.
@@ -129,7 +129,7 @@ pub fn going(rec: &mut [u8], to: usize, level: usize, side: usize)
     requires { ⌜ (length (now rec) ≡ size) × (to < seats) × (level < levels) × (side < 2) ⌝ }
     ensures { λ _. ⌜ now (rec .exit) ≡ done to (rule width (meaning (now (rec .entry))) (goingOf to level (sideOfNumber side))) (now (rec .entry)) ⌝ }
 {
-    if stays(rec, to) {
+    if is_staying(rec, to) {
         let leaver = link(rec, to, level, side);
         seek_link(rec, leaver, to, level);
     }
@@ -141,7 +141,7 @@ pub fn seek(rec: &mut [u8], to: usize, about: usize, level: usize)
     requires { ⌜ (length (now rec) ≡ size) × (to < seats) × (about < seats) × (level < levels) ⌝ }
     ensures { λ _. ⌜ now (rec .exit) ≡ done to (rule width (meaning (now (rec .entry))) (seekOf to about level)) (now (rec .entry)) ⌝ }
 {
-    let staying = stays(rec, to);
+    let staying = is_staying(rec, to);
     if staying {
         record::send(rec, found_place(about, to, level));
         return;

@@ -4,11 +4,12 @@ use Rattle.protocol.specs.Rules.{effect, parting}
 use Rattle.protocol.specs.Calls.{rule}
 use Rattle.record.proofs.Sent.{sentBits}
 use Rattle.delivery.specs.Done.{changed, done}
+use Rattle.delivery.proofs.Sides.{staying-in}
 use Rattle.delivery.proofs.rules.going.Statement.{statement}
 use Rattle.delivery.proofs.rules.going.Tie as tie
 
-stays-requires : tie.Need-stays-requires
-stays-requires c κs = search needs
+is-staying-requires : tie.Need-is-staying-requires
+is-staying-requires c κs = search needs
 
 link-requires : tie.Need-link-requires
 link-requires c κs = search needs
@@ -23,7 +24,8 @@ returns : tie.Need-returns
 unfolding done sentBits changed rule effect parting
 returns c =
     rw (
-      ← c .before .before .before .before .before .before .before .stays .ensures,
+      staying-in,
+      ← c .before .before .before .before .before .before .before .is-staying .ensures,
       c .before .before .before .before .before .before .if1 .taken,
       ← c .before .before .before .before .link .ensures,
     ) (c .before .before .seek-link .ensures)
@@ -33,13 +35,13 @@ same-length-2 c = search needs
 
 returns-2 : tie.Need-returns-2
 unfolding done sentBits changed rule effect parting
-returns-2 c = rw (← c .before .stays .ensures, c .if1 .left)
+returns-2 c = rw (staying-in, ← c .before .is-staying .ensures, c .if1 .left)
 
 pub going-spec : {M : Type 1} → statement M
 going-spec =
     tie.close
     (tie.spec
-    stays-requires
+    is-staying-requires
     link-requires
     seek-link-requires
     same-length

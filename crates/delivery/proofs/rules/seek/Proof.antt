@@ -5,11 +5,12 @@ use Rattle.protocol.specs.Calls.{rule}
 use Rattle.record.proofs.Sent.{sentBits}
 use Rattle.delivery.specs.Done.{changed, done}
 use Rattle.delivery.proofs.Sends.{link-seat, link-none}
+use Rattle.delivery.proofs.Sides.{staying-in}
 use Rattle.delivery.proofs.rules.seek.Statement.{statement}
 use Rattle.delivery.proofs.rules.seek.Tie as tie
 
-stays-requires : tie.Need-stays-requires
-stays-requires c κs = search needs
+is-staying-requires : tie.Need-is-staying-requires
+is-staying-requires c κs = search needs
 
 found-place-requires : tie.Need-found-place-requires
 found-place-requires c κs = search needs
@@ -25,7 +26,8 @@ unfolding done sentBits changed rule effect seeking
 returns c =
     let s = c .before .before in
     rw (
-      ← s .before .before .before .before .stays .ensures,
+      staying-in,
+      ← s .before .before .before .before .is-staying .ensures,
       s .before .before .before .if1 .taken,
       ← s .before .found-place .ensures .0,
     ) (s .send .ensures)
@@ -52,7 +54,8 @@ returns-2 c =
     let k = s .before .before .before .before in
     let d = k .before .before in
     rw (
-      ← d .before .before .before .stays .ensures,
+      staying-in,
+      ← d .before .before .before .is-staying .ensures,
       d .before .before .if1 .left,
       ← d .side-of .ensures .0,
       ← k .link .ensures,
@@ -76,7 +79,8 @@ returns-3 c =
     let k = s .before .before .before .before in
     let d = k .before .before in
     rw (
-      ← d .before .before .before .stays .ensures,
+      staying-in,
+      ← d .before .before .before .is-staying .ensures,
       d .before .before .if1 .left,
       ← d .side-of .ensures .0,
       ← k .link .ensures,
@@ -88,7 +92,7 @@ pub seek-spec : {M : Type 1} → statement M
 seek-spec =
     tie.close
     (tie.spec
-    stays-requires
+    is-staying-requires
     found-place-requires
     send-requires
     same-length
