@@ -26,7 +26,7 @@ lot-backs-fit-requires : tie.Need-lot-backs-fit-requires Inv-loop μ-loop
 lot-backs-fit-requires c κs = search needs
 
 returns : tie.Need-returns Inv-loop μ-loop
-returns c = every-stop _ _ _ (c .before .before .loop-test .taken) (c .before .lot-backs-fit .ensures) (c .if1 .taken)
+returns c = every-stop _ _ _ (search needs) (c .before .lot-backs-fit .ensures) (c .if1 .taken)
 
 add-x : tie.Need-add-x Inv-loop μ-loop
 add-x c = search needs
@@ -38,7 +38,7 @@ loop-again : tie.Need-loop-again Inv-loop μ-loop
 loop-again c = (search needs, every-go _ _ (c .before .before .before .loop .inv .1) (c .before .lot-backs-fit .ensures) (c .if1 .left))
 
 returns-2 : tie.Need-returns-2 Inv-loop μ-loop
-returns-2 c = every-end _ _ _ (c .before .loop .inv .0) (c .loop-test .left) (c .before .loop .inv .1)
+returns-2 c = every-end _ _ _ (search needs) (search needs) (c .before .loop .inv .1)
 
 pub backs-fit-spec : {M : Type 1} → statement M
 backs-fit-spec =

@@ -34,7 +34,7 @@ returns-2 : tie.Need-returns-2 Inv-loop μ-loop
 returns-2 c =
     let m = c .before .before .before .before in
     when-in (m .before .is-member .ensures) (m .if1 .left)
-    (every-stop _ _ _ (c .before .before .loop-test .taken) (c .before .level-backs-fit .ensures) (c .if2 .taken))
+    (every-stop _ _ _ (search needs) (c .before .level-backs-fit .ensures) (c .if2 .taken))
 
 add-k : tie.Need-add-k Inv-loop μ-loop
 add-k c = search needs
@@ -48,7 +48,7 @@ loop-again c = (search needs, every-go _ _ (c .before .before .before .loop .inv
 returns-3 : tie.Need-returns-3 Inv-loop μ-loop
 returns-3 c =
     let m = c .before .before in
-    when-in (m .before .is-member .ensures) (m .if1 .left) (every-end _ _ _ (c .before .loop .inv .0) (c .loop-test .left) (c .before .loop .inv .1))
+    when-in (m .before .is-member .ensures) (m .if1 .left) (every-end _ _ _ (search needs) (search needs) (c .before .loop .inv .1))
 
 pub lot-backs-fit-spec : {M : Type 1} → statement M
 lot-backs-fit-spec =
