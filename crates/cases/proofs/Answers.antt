@@ -19,7 +19,7 @@ use Rattle.protocol.specs.Run.{logOf, AllInRange}
 use Rattle.protocol.proofs.Numbering.{pending-none}
 use Rattle.record.specs.Layout.{seats, levels, size}
 use Rattle.record.specs.Meaning.{rosterIn, bytesOf, phaseByte, linkByte}
-use Rattle.record.specs.Reading.{openRefusal, readLot, readLink, readMessage, readCounts}
+use Rattle.record.specs.Reading.{lotRefusal, openRefusal, readLot, readLink, readMessage, readCounts}
 use Rattle.record.proofs.Places.{length-bytesOf}
 use Rattle.record.proofs.Form.{meaning-roster}
 use Rattle.record.proofs.Round.{meaning-bytes}
@@ -27,7 +27,7 @@ use Rattle.record.proofs.Sound.{bytes-sound}
 use Rattle.outcome.specs.Made.{Outcome, made}
 use Rattle.outcome.proofs.Bridge.{made-call, refused-same}
 use Rattle.search.specs.Walk.{find}
-use Rattle.find.specs.Find.{findRefusal, findIn}
+use Rattle.find.specs.Find.{findIn}
 use Rattle.runs.specs.Run.{run, lotOf}
 use Rattle.runs.specs.Run as runs
 use Rattle.runs.proofs.Readings.{countsOf, read-lot, read-link, read-message, read-counts, count-none}
@@ -61,7 +61,7 @@ module _ (M : Meaning) (h : Sound seats width M) where
 
   find-bytes : (s x : ℕ) → T (seated (M .roster) s)
       → findIn (bytesOf M) s x ≡ (let f = find (M .roster .number) (M .link) x seats width s in record { refused = 0; holder = f .holder; hops = f .hops })
-  unfolding findIn findRefusal first
+  unfolding findIn lotRefusal first
   find-bytes s x m =
       let f : isFree (M .roster .state s) ≡ false = not-T-false (T-not (isFree (M .roster .state s)) m) in
       rw (eq-eqb (length (bytesOf M)) size (length-bytesOf M), bytes-sound h, lt-ltb s seats (h .seats s m), roster-bytes, f, meaning-bytes h)
