@@ -1,0 +1,33 @@
+-- `listing::lists` is safe and ends. Assumes nothing.
+use Prim.Native.Nat.{_-_, _≤_}
+use native.Mathlib.Omega.{arith}
+use borrow.Author.Needs.{needs}
+use Rattle.lots.proofs.listing.lists.Statement.{statement}
+use Rattle.lots.proofs.listing.lists.Tie as tie
+
+abbrev Inv-loop : tie.InvT-loop
+Inv-loop rec k₀ k = k ≤ 9
+
+abbrev μ-loop : tie.MeasureT-loop
+μ-loop rec k₀ k = 9 - k
+
+loop-holds : tie.Need-loop-holds Inv-loop μ-loop
+loop-holds c = search needs
+
+level-requires : tie.Need-level-requires Inv-loop μ-loop
+level-requires c κs = search needs
+
+add-k : tie.Need-add-k Inv-loop μ-loop
+add-k c = search needs
+
+loop-less : tie.Need-loop-less Inv-loop μ-loop
+loop-less c = search needs
+
+loop-again : tie.Need-loop-again Inv-loop μ-loop
+loop-again c = search needs
+
+returns : tie.Need-returns Inv-loop μ-loop
+returns c = tt
+
+pub lists-spec : {M : Type 1} → statement M
+lists-spec = tie.close (tie.spec Inv-loop μ-loop loop-holds level-requires add-k loop-less loop-again returns)
