@@ -47,9 +47,10 @@ pub fits-in : (cs : List Call) → T (fits cs) → AllInRange seats width cs
 unfolding fits
 fits-in [] t = tt
 fits-in (join s n b c ∷ cs) t =
-    let u = and-fst (ltb n (2 ^ numberBits) && ltb b (2 ^ width)) _ t in
-    ((ltb→lt n _ (and-fst (ltb n (2 ^ numberBits)) _ u), ltb→lt b _ (and-snd (ltb n (2 ^ numberBits)) _ u)),
-    fits-in cs (and-snd (ltb n (2 ^ numberBits) && ltb b (2 ^ width)) _ t))
+    let u = and-fst (ltb n (2 ^ numberBits) && ltb b (2 ^ width)) _ t in (
+      (ltb→lt n _ (and-fst (ltb n (2 ^ numberBits)) _ u), ltb→lt b _ (and-snd (ltb n (2 ^ numberBits)) _ u)),
+      fits-in cs (and-snd (ltb n (2 ^ numberBits) && ltb b (2 ^ width)) _ t),
+    )
 fits-in (leave s ∷ cs) t = (tt, fits-in cs t)
 fits-in (deliver n ∷ cs) t = (tt, fits-in cs t)
 fits-in (turn ∷ cs) t = (tt, fits-in cs t)

@@ -87,7 +87,8 @@ shows-steps (c ∷ cs) t s r h = shows-steps cs _ _ (r .1) (record {
   order = λ u. (
     subst (λ (M : Meaning). Smallest (M .pending) (takes c)) (sym (h .now))
         (least-smallest (s .view .pending) (takes c) (and-fst (least (s .view .pending) (takes c)) _ u)),
-    h .order (and-snd (least (s .view .pending) (takes c)) _ u));
+    h .order (and-snd (least (s .view .pending) (takes c)) _ u),
+  );
 })
   where
     both : call seats width (t .now) c ≡ record { refused = viewRefusal (s .view) c; meaning = meant (viewCall (s .view) c) }

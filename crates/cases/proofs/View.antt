@@ -129,7 +129,9 @@ module _ (v : View) (h : Sound seats width (meant v)) where
   pub view-call : (c : Call) → call seats width (meant v) c ≡ record { refused = viewRefusal v c; meaning = meant (viewCall v c) }
   unfolding call viewCall
   view-call c =
-      ap (λ (M : Meaning). record { refused = refusal seats width (v .roster) (among (v .pending)) c;
-          meaning = unlessRefused (refusal seats width (v .roster) (among (v .pending)) c) (meant v) M }) (view-accept c)
+      ap (λ (M : Meaning). record {
+        refused = refusal seats width (v .roster) (among (v .pending)) c;
+        meaning = unlessRefused (refusal seats width (v .roster) (among (v .pending)) c) (meant v) M;
+      }) (view-accept c)
       ∙ ap (λ (n : ℕ). record { refused = n; meaning = unlessRefused n (meant v) (meant (viewAfter v c)) }) (view-refusal c)
       ∙ ap (λ (M : Meaning). record { refused = viewRefusal v c; meaning = M }) (meant-unless (viewRefusal v c) (viewAfter v c))

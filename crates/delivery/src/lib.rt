@@ -18,7 +18,6 @@ mod writes;
 use outcome::Answer;
 use places::place_of;
 use record::MESSAGES;
-use soundness::record_refusal;
 use rules::found;
 use rules::going;
 use rules::meet;
@@ -26,6 +25,7 @@ use rules::none;
 use rules::probe;
 use rules::pull;
 use rules::seek;
+use soundness::record_refusal;
 
 // The refusals of the table.
 const NO_SUCH_MESSAGE: u8 = 10;

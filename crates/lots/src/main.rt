@@ -12,9 +12,22 @@ const NEWLINE: u8 = 10;
 fn run(rec: &mut [u8], line: &[u8]) {
     match command::parse(line) {
         Parsed::Bad => say::bad(),
-        Parsed::Join(seat, number, vector, contact) => say::done(calls::join(rec, seat, number, vector, contact)),
+        Parsed::Join(seat, number, vector, contact) => say::done(calls::join(
+            rec,
+            seat,
+            number,
+            vector,
+            contact,
+        )),
         Parsed::Leave(seat) => say::done(calls::leave(rec, seat)),
-        Parsed::Deliver(kind, to, about, level, side) => say::done(delivery::deliver(rec, kind, to, about, level, side)),
+        Parsed::Deliver(kind, to, about, level, side) => say::done(delivery::deliver(
+            rec,
+            kind,
+            to,
+            about,
+            level,
+            side,
+        )),
         Parsed::Turn => say::done(turn::turn(rec)),
         Parsed::Settle => settle::settle(rec),
         Parsed::Find(seat, number) => say::found(find::find(rec, seat, number)),

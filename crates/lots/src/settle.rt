@@ -21,20 +21,41 @@ fn of_pair(rec: &mut [u8], kind: u8, levels: usize, j: usize) {
         return;
     }
     let pair = j / levels;
-    delivery::deliver(rec, kind, byte(pair / record::SEATS), byte(pair % record::SEATS), byte(j % levels), 0);
+    delivery::deliver(
+        rec,
+        kind,
+        byte(pair / record::SEATS),
+        byte(pair % record::SEATS),
+        byte(j % levels),
+        0,
+    );
 }
 
 // The same of a kind with a side.
 fn of_side(rec: &mut [u8], kind: u8, j: usize) {
     let lot = j / 2;
-    delivery::deliver(rec, kind, byte(lot / record::LEVELS), 0, byte(lot % record::LEVELS), byte(j % 2));
+    delivery::deliver(
+        rec,
+        kind,
+        byte(lot / record::LEVELS),
+        0,
+        byte(lot % record::LEVELS),
+        byte(j % 2),
+    );
 }
 
 // The same of a PULL.
 fn of_pull(rec: &mut [u8], j: usize) {
     let width = record::LEVELS - 1;
     let want = j / 2 / width;
-    delivery::deliver(rec, 3, byte(want / 2), byte(want % 2), byte(j / 2 % width), byte(j % 2));
+    delivery::deliver(
+        rec,
+        3,
+        byte(want / 2),
+        byte(want % 2),
+        byte(j / 2 % width),
+        byte(j % 2),
+    );
 }
 
 // Delivers the message at place i.
