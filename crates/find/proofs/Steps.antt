@@ -75,8 +75,9 @@ module _ (l : List ℕ) (x : ℕ) (w : Walk) (h : Ready l x w) where
     nearer : T (seated (rosterIn l) y) × (gap (number y) x < gap (number (w .seat)) x)
     nearer = let k : w .level ≤ width = omega (arith, h .level) in move-nearer (h .fit .ordered) x (w .seat) (h .lot) k to-move
 
-    pub move-ready : Ready l x moved
-    move-ready = record { fit = h .fit; lot = nearer .0; level = h .level; room = omega (arith, nearer .1, h .room) }
+    -- a move is ready to go on with any hops that count no more than it
+    pub move-ready : (n : ℕ) → n ≤ w .hops + 1 → Ready l x (record { seat = y; level = w .level; hops = n })
+    move-ready n q = record { fit = h .fit; lot = nearer .0; level = h .level; room = omega (arith, nearer .1, h .room) }
 
     pub move-less : remains l x moved < remains l x w
     move-less = omega (arith, nearer .1)
@@ -119,24 +120,27 @@ start-room l x s b h p = rw (lt-ltb s seats h) (omega (arith, numberAt-lt l (num
 
 -- the walk from the top level at seat s, and what it leads to
 module _ (l : List ℕ) (x s : ℕ) (f : Fit l) (m : T (seated (rosterIn l) s)) where
-  abbrev pub start : Walk
-  start = record { seat = s; level = width; hops = 0 }
-
   pub start-seat : s < seats
   start-seat = f .ordered .seat s m
 
-  pub start-ready : AreBytes l → x < 2 ^ 64 → Ready l x start
-  start-ready b p = record { fit = f; lot = m; level = omega arith; room = omega (arith, start-room l x s b start-seat p) }
+  module _ (k : ℕ) (low : k ≤ width) where
+    abbrev pub start : Walk
+    start = record { seat = s; level = k; hops = 0 }
 
-  module _ (e : Walk) (v : Walked l x start e) where
-    pub end-seat : e .seat < seats
-    end-seat = f .ordered .seat (e .seat) (rw (v .seat) (search-seated (f .ordered) m (omega arith) (v .search)))
+    pub start-ready : AreBytes l → x < 2 ^ 64 → Ready l x start
+    start-ready b p = record { fit = f; lot = m; level = omega arith; room = omega (arith, start-room l x s b start-seat p) }
 
-    -- fewer hops than lots
-    pub end-hops : e .hops < seats
-    end-hops = omega (arith, v .hops, search-hops (f .ordered) m (omega arith) (v .search), count-bound seats (seated (rosterIn l)))
+    module _ (e : Walk) (v : Walked l x start e) where
+      pub end-seat : e .seat < seats
+      end-seat = f .ordered .seat (e .seat) (rw (v .seat) (search-seated (f .ordered) m low (v .search)))
 
-    pub end-found : find (rosterIn l .number) (meaning l .link) x seats width s ≡ holderAt (rosterIn l .number) (meaning l .link) x (e .seat) (e .hops)
-    end-found =
-        let q : length (v .path) ≡ e .hops = omega (arith, v .hops) in
-        search-find (f .ordered) m (v .search) ∙ rw (v .seat, q)
+      -- fewer hops than lots
+      pub end-hops : e .hops < seats
+      end-hops = omega (arith, v .hops, search-hops (f .ordered) m low (v .search), count-bound seats (seated (rosterIn l)))
+
+  -- from the top level it is the search of specs/
+  pub end-found : (e : Walk) → Walked l x (record { seat = s; level = width; hops = 0 }) e
+      → find (rosterIn l .number) (meaning l .link) x seats width s ≡ holderAt (rosterIn l .number) (meaning l .link) x (e .seat) (e .hops)
+  end-found e v =
+      let q : length (v .path) ≡ e .hops = omega (arith, v .hops) in
+      search-find (f .ordered) m (v .search) ∙ rw (v .seat, q)

@@ -1,8 +1,10 @@
 -- `find::held` meets its contract. Assumes nothing.
+use Prim.Native.Nat.{_≤_, _<_}
 use mathlib.Core.Path.{sym, _∙_, ap}
 use native.Mathlib.Omega.{arith}
 use native.Mathlib.Numerals.{add-one}
 use borrow.Author.Needs.{needs}
+use Rattle.record.specs.Meaning.{rosterIn}
 use Rattle.search.proofs.Step.{is-end, is-left, is-none, held-at}
 use Rattle.find.specs.declared.Found.the-variants.{Holder}
 use Rattle.find.specs.Answer.{heldBy, heldOf}
@@ -28,7 +30,8 @@ unfolding heldBy
 returns c = let b = c .before .before .before in
     let l = b .args .rec .now in
     let n = number-read l (b .args .s) (c .before .number .result) (b .pre .1) (c .before .number .ensures) in
-    ap heldOf (sym (held-at (is-end (rw n (c .if1 .taken)))))
+    let q : rosterIn l .number (b .args .s) ≤ b .args .x = omega (arith, n, c .if1 .taken) in
+    ap heldOf (sym (held-at (is-end q)))
 
 -- src/lib.rt:128:9
 link-requires : tie.Need-link-requires
@@ -50,7 +53,8 @@ returns-2 c = let b = c .before .before .before .before .before in
     let y = c .before .link .result in
     let n = number-read l (b .args .s) (c .before .before .before .number .result) (b .pre .1) (c .before .before .before .number .ensures) in
     let o = link-some l (b .args .s) 0 0 y (b .pre .1) (omega arith) (omega arith) (c .before .link .ensures) (c .if2 .taken) in
-    ap (Holder y) (add-one (b .args .h)) ∙ ap heldOf (sym (held-at (is-left (rw n (c .before .before .if1 .left)) o)))
+    let q : b .args .x < rosterIn l .number (b .args .s) = omega (arith, n, c .before .before .if1 .left) in
+    ap (Holder y) (add-one (b .args .h)) ∙ ap heldOf (sym (held-at (is-left q o)))
 
 -- src/lib.rt:121:1
 returns-3 : tie.Need-returns-3
@@ -60,7 +64,8 @@ returns-3 c = let b = c .before .before .before .before .before in
     let y = c .before .link .result in
     let n = number-read l (b .args .s) (c .before .before .before .number .result) (b .pre .1) (c .before .before .before .number .ensures) in
     let o = link-none l (b .args .s) 0 0 y (b .pre .1) (omega arith) (omega arith) (c .before .link .ensures) (c .if2 .left) in
-    ap heldOf (sym (held-at (is-none (rw n (c .before .before .if1 .left)) o)))
+    let q : b .args .x < rosterIn l .number (b .args .s) = omega (arith, n, c .before .before .if1 .left) in
+    ap heldOf (sym (held-at (is-none q o)))
 
 pub held-spec : {M : Type 1} → statement M
 held-spec =

@@ -18,15 +18,15 @@ sub-t6 c = search needs
 -- src/lib.rt:145:9
 advance-requires : tie.Need-advance-requires
 advance-requires c κs = let b = c .before in
-    start-ready (b .args .rec .now) (b .args .x) (b .args .s) (b .pre .0) (b .pre .1) (λ j. omega (arith, c .shared-slice-known .given j)) (omega arith)
+    start-ready (b .args .rec .now) (b .args .x) (b .args .s) (b .pre .0) (b .pre .1) _ (omega arith) (λ j. omega (arith, c .shared-slice-known .given j)) (omega arith)
 
 -- src/lib.rt:146:5
 held-requires : tie.Need-held-requires
 held-requires c κs = let b = c .before .before in
     let l = b .args .rec .now in
     let a = c .advance in
-    let h = end-hops l (b .args .x) (b .args .s) (b .pre .0) (b .pre .1) (a .result) (a .ensures) in
-    (b .pre .0 .sized, end-seat l (b .args .x) (b .args .s) (b .pre .0) (b .pre .1) (a .result) (a .ensures), omega arith)
+    let h = end-hops l (b .args .x) (b .args .s) (b .pre .0) (b .pre .1) _ (omega arith) (a .result) (a .ensures) in
+    (b .pre .0 .sized, end-seat l (b .args .x) (b .args .s) (b .pre .0) (b .pre .1) _ (omega arith) (a .result) (a .ensures), omega arith)
 
 -- src/lib.rt:136:1
 returns : tie.Need-returns

@@ -130,7 +130,7 @@ advance-advance-requires t c κs = let b = c .before .before .before .before .be
     let h = b .pre .1 in
     let y = c .before .step .result in
     let d = move-less l x w h y (c .if2 .taken) (c .before .step .ensures) in
-    (omega (arith, b .pre .0), move-ready l x w h y (c .if2 .taken) (c .before .step .ensures))
+    (omega (arith, b .pre .0), move-ready l x w h y (c .if2 .taken) (c .before .step .ensures) _ (omega arith))
 
 -- src/lib.rt:92:13
 advance-descend-requires : (t : ℕ) → advance-lts.Need-descend-requires (
