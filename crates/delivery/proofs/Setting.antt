@@ -42,7 +42,7 @@ pub setting-done : (l : List ℕ) (about level old other : ℕ) {w x y z : List 
     → x ≡ setBit w pendingFrom i
     → y ≡ sentBits (toLink (linkOf old) (λ o. meet about o level)) x
     → z ≡ sentBits (cond (ltb level width)
-      (probe about to level ∷ toLink (linkOf other) (λ o. pull o (not (bit width level v)) level (sideOfNumber (1 - d)))) []) y
+    (probe about to level ∷ toLink (linkOf other) (λ o. pull o (not (bit width level v)) level (sideOfNumber (1 - d)))) []) y
     → z ≡ done to (setting width (meaning l .roster .number) (meaning l .roster .vector) (entry (meaning l) to) to about level (sideOfNumber d)) l
 unfolding done sentBits changed setting
 setting-done l about level old other ht hd eo en ev ew ei ex ey ez =
