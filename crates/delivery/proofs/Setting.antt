@@ -5,14 +5,14 @@ use mathlib.Core.Bool.{not, cond}
 use mathlib.Core.List.{List, [], _∷_}
 use borrow.Author.Tests.{lt-ltb}
 use lib.Dec.{eqb, ltb}
-use lib.ListN.{length, getD, set}
+use lib.ListN.{getD, set}
 use Rattle.memory.specs.Bits.{setBit}
 use Rattle.graph.specs.Vector.{width, bit}
 use Rattle.protocol.specs.Message.{meet, probe, pull}
 use Rattle.protocol.specs.Numbering.{place}
 use Rattle.protocol.specs.Rules.{toLink, setting}
 use Rattle.protocol.specs.State.{entry}
-use Rattle.record.specs.Layout.{seats, pendingFrom, size, linkAt, vectorAt}
+use Rattle.record.specs.Layout.{seats, pendingFrom, linkAt, vectorAt}
 use Rattle.record.specs.Meaning.{meaning, linkOf}
 use Rattle.record.specs.Reading.{sideOfNumber}
 use Rattle.record.proofs.Sent.{sentBits, sentBits-append}

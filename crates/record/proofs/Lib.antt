@@ -13,3 +13,4 @@ pub mod Clauses
 pub mod Sound
 pub mod Opened
 pub mod Reading
+pub mod Refused

@@ -1,13 +1,13 @@
--- When a turn is refused, and what is known of the bytes when it is not. Assumes nothing.
+-- When a turn is refused, and that links name seats. Assumes nothing.
 use Prim.Native.Nat.{ℕ, zero, suc, _<_}
 use mathlib.Core.Path.{_≡_, refl, sym, ap, _∙_}
 use mathlib.Core.Bool.{Bool, true, false, not, cond, _&&_, _||_}
 use mathlib.Core.Option.{none, some}
 use mathlib.Core.List.{List}
 use native.Mathlib.Omega.{arith}
-use lib.Dec.{eqb, ltb}
-use lib.ListN.{length, getD}
-use borrow.Author.Tests.{eq-eqb, ltb-true, eqb-true, not-false}
+use lib.Dec.{ltb}
+use lib.ListN.{getD}
+use borrow.Author.Tests.{ltb-true}
 use Rattle.memory.specs.Bytes.{AreBytes, zeros}
 use Rattle.memory.specs.Bits.{bitSet}
 use Rattle.memory.specs.Loops.{all}
@@ -16,17 +16,14 @@ use Rattle.graph.specs.Vector.{width}
 use Rattle.graph.proofs.Tests.{some-inj, none-some}
 use Rattle.protocol.specs.Numbering.{any, messageAt, somePending}
 use Rattle.protocol.specs.Table.{first, rows, turn}
-use Rattle.protocol.proofs.Calls.{no-row}
-use Rattle.record.specs.Layout.{seats, levels, messages, linkAt, pendingFrom, pendingSize, size}
+use Rattle.protocol.proofs.Any.{any-same}
+use Rattle.record.specs.Layout.{seats, levels, messages, linkAt, pendingFrom, pendingSize}
 use Rattle.record.specs.Meaning.{linkOf, meaning}
-use Rattle.record.specs.Reading.{recordRefusal}
-use Rattle.record.specs.Sound.{sound}
 use Rattle.record.proofs.Places.{messages-count}
-use Rattle.record.proofs.Form.{Form, meaning-bit}
-use Rattle.record.proofs.Sound.{sound-is}
+use Rattle.record.proofs.Form.{meaning-bit}
+use Rattle.record.proofs.Refused.{Passed, record-goes}
 use Rattle.outcome.specs.Made.{madeRefusal}
 use Rattle.turn.specs.Steps.{Linked}
-use Rattle.turn.proofs.Leaving.{any-same}
 
 -- one passes exactly if not all fail
 any-all : (n : ℕ) (p : ℕ → Bool) → not (all n (λ i. not (p i))) ≡ any n p
@@ -50,28 +47,10 @@ module _ (l : List ℕ) where
       ∙ sym (any-same messages (λ i. meaning l .pending (messageAt seats width i)) (bitSet l pendingFrom) (λ i h. meaning-bit l i h))
       ∙ ap (λ (n : ℕ). any n (λ i. meaning l .pending (messageAt seats width i))) messages-count
 
-  -- the record is not refused
-  module _ (z : recordRefusal l ≡ 0) where
-    pub right-size : length l ≡ size
-    unfolding recordRefusal
-    right-size = eqb-true (length l) size (not-false (eqb (length l) size) (no-row 0 _ _ z .0))
-
-    is-sound : sound l ≡ true
-    unfolding recordRefusal
-    is-sound = not-false (sound l) (no-row 1 _ _ (no-row 0 _ _ z .1) .0)
-
-    -- and the turn's
-    pub messages-left : {b : Bool} → b ≡ somePending seats width (meaning l .pending) → madeRefusal l turn ≡ cond b 11 0
-    unfolding madeRefusal first rows
-    messages-left e = rw (eq-eqb (length l) size right-size, is-sound, ← e)
-
-  -- an accepted turn finds a record
-  pub accepted : AreBytes l → madeRefusal l turn ≡ 0 → Form l
-  unfolding madeRefusal
-  accepted b e =
-      let p = no-row 0 _ _ e in
-      let q = no-row 1 _ _ (p .1) in
-      sound-is l (eqb-true (length l) size (not-false (eqb (length l) size) (p .0))) b .0 (not-false (sound l) (q .0)) .0
+  -- the record is not refused: the turn's row
+  pub messages-left : Passed l → {b : Bool} → b ≡ somePending seats width (meaning l .pending) → madeRefusal l turn ≡ cond b 11 0
+  unfolding madeRefusal first rows
+  messages-left p e = record-goes l (rows seats width (meaning l .roster) (meaning l .pending) turn) p ∙ rw (← e)
 
   -- links of any bytes name seats
   linkOf-lt : (b y : ℕ) → linkOf b ≡ some y → y < seats

@@ -7,7 +7,7 @@ use Rattle.protocol.specs.Table.{first}
 use Rattle.record.specs.Layout.{seats}
 use Rattle.record.specs.Reading.{recordRefusal, wrongSize, unsound, noSuchSeat}
 use Rattle.record.proofs.Reading.{refusals-pass}
-use Rattle.reading.proofs.Refusals.{first-stops, record-passed}
+use Rattle.record.proofs.Refused.{first-stops, record-passed}
 use Rattle.reading.proofs.rows.seat_refusal.Statement.{statement}
 use Rattle.reading.proofs.rows.seat_refusal.Tie as tie
 
