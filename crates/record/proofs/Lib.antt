@@ -2,6 +2,7 @@
 pub mod Places
 pub mod Values
 pub mod Form
+pub mod Links
 pub mod Round
 pub mod Frame
 pub mod Pending
