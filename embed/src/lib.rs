@@ -72,3 +72,8 @@ pub const RIGHT: u8 = 1;
 
 /// Document 01's number for no seat: no contact, no link, no holder.
 const NO_SEAT: u8 = 255;
+
+/// The example of README.md, for `cargo test`.
+#[cfg(doctest)]
+#[doc = include_str!("../README.md")]
+struct Readme;
