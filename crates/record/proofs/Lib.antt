@@ -13,5 +13,5 @@ pub mod Entry
 pub mod Clauses
 pub mod Sound
 pub mod Opened
-pub mod Reading
 pub mod Refused
+pub mod Reading
