@@ -1,43 +1,25 @@
-/* Three scales open lots 100, 200 and 300; then 250 is scanned on the first. */
+/* Lots 100 and 200 open on two scales, the second through the first; once their messages are delivered, 250 is scanned. */
 #include "lots.h"
 #include <inttypes.h>
 #include <stdio.h>
 
-enum { SEATS = 3, KINDS = 3, LEVELS = 9, SIDES = 2 };
-
 static uint8_t record[LOTS_RECORD_SIZE];
 
-/* Tries every message that these seats can have in phase open until none is
- * pending. One that is not pending is refused and changes nothing. */
-static void deliver_all(void)
-{
-    uint8_t lots, phase;
-    uint32_t pending = 1;
-
-    while (pending > 0) {
-        for (uint8_t kind = 1; kind <= KINDS; kind++)
-            for (uint8_t to = 0; to < SEATS; to++)
-                for (uint8_t about = 0; about < SEATS; about++)
-                    for (uint8_t level = 0; level < LEVELS; level++)
-                        for (uint8_t side = 0; side < SIDES; side++)
-                            lots_deliver(record, sizeof record, kind, to, about, level, side);
-        lots_read_counts(record, sizeof record, &lots, &phase, &pending);
-    }
-}
+/* What the two lots send each other: kind, to, about, level, side. */
+static const uint8_t sent[][5] = {{1, 0, 1, 0, 0}, {1, 1, 0, 0, 0}, {1, 0, 1, 0, 0}, {2, 1, 0, 0, 0}, {2, 0, 1, 0, 0}};
 
 int main(void)
 {
-    uint8_t holder;
+    uint8_t yes, holder;
     uint64_t hops;
+    uint8_t refusals = lots_open(record, sizeof record);
 
-    if (lots_open(record, sizeof record) != 0
-        || lots_join(record, sizeof record, 0, 100, 0x00, LOTS_NO_SEAT) != 0
-        || lots_join(record, sizeof record, 1, 200, 0x80, 0) != 0
-        || lots_join(record, sizeof record, 2, 300, 0x40, 0) != 0)
-        return 1;
-    deliver_all();
-    if (lots_find(record, sizeof record, 0, 250, &holder, &hops) != 0)
-        return 1;
-    printf("250 belongs to the lot on seat %d, hops %" PRIu64 "\n", holder, hops);
-    return 0;
+    refusals |= lots_join(record, sizeof record, 0, 100, 0x00, LOTS_NO_SEAT);
+    refusals |= lots_join(record, sizeof record, 1, 200, 0x80, 0);
+    for (int i = 0; i < 5; i++)
+        refusals |= lots_deliver(record, sizeof record, sent[i][0], sent[i][1], sent[i][2], sent[i][3], sent[i][4]);
+    refusals |= lots_check(record, sizeof record, &yes);
+    refusals |= lots_find(record, sizeof record, 0, 250, &holder, &hops);
+    printf("refused %d, one skip graph %d, 250 belongs to the lot on seat %d, hops %" PRIu64 "\n", refusals, yes, holder, hops);
+    return refusals;
 }
