@@ -72,7 +72,8 @@ fn has_number(rec: &[u8], n: u64) -> bool
 // Whether a contact is a free seat, or none while lots are seated.
 fn lacks_contact(rec: &[u8], contact: usize) -> bool
     requires { ⌜ length (now rec) ≡ size ⌝ }
-    ensures { λ r. ⌜ r ≡ cond (not (ltb contact seats)) (any seats (seated (rosterIn (now (rec .entry))))) (isFree (rosterIn (now (rec .entry)) .state contact)) ⌝ }
+    ensures { λ r. ⌜ r ≡ cond (not (ltb contact seats)) (any seats (seated (rosterIn (now (rec .entry)))))
+        (isFree (rosterIn (now (rec .entry)) .state contact)) ⌝ }
 {
     if contact < SEATS {
         return !is_seated(rec, contact);
@@ -90,7 +91,8 @@ fn lacks_seat(seat: usize, contact: usize) -> bool
 // The first row of the table that applies to a join, or 0. None asks for the vector.
 fn join_row(rec: &[u8], seat: usize, number: u64, contact: usize) -> u8
     requires { ⌜ length (now rec) ≡ size ⌝ }
-    ensures { λ r. ⌜ ((v : ℕ) → r ≡ refusal seats width (meaning (now (rec .entry)) .roster) (meaning (now (rec .entry)) .pending) (joining seat number v contact)) ⌝ }
+    ensures { λ r. ⌜ ((v : ℕ) → r ≡ refusal seats width (meaning (now (rec .entry)) .roster) (meaning (now (rec .entry)) .pending)
+        (joining seat number v contact)) ⌝ }
 {
     if lacks_seat(seat, contact) {
         return NO_SUCH_SEAT;

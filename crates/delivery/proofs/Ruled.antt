@@ -13,7 +13,8 @@ use Rattle.places.specs.Places.{isMessage}
 use Rattle.places.proofs.Named.{when}
 use Rattle.delivery.specs.Done.{done, ruled}
 
-pub named-ruled : {o : Option Msg} (b : Bool) (m : Msg) (l : List ℕ) → o ≡ when b m → T (isMessage o) → ruled o l ≡ done (nameOf m .to) (rule width (meaning l) m) l
+pub named-ruled : {o : Option Msg} (b : Bool) (m : Msg) (l : List ℕ) → o ≡ when b m → T (isMessage o) → ruled o l
+    ≡ done (nameOf m .to) (rule width (meaning l) m) l
 unfolding isMessage ruled
 named-ruled true m l e t = rw e
 named-ruled false m l e t = absurd (rw e at t)

@@ -112,7 +112,8 @@ pub fn probe(rec: &mut [u8], to: usize, about: usize, level: usize)
 // 3 PULL: the bit is the wanted one, PROBE about itself to the link on the opposite side; otherwise on along the side.
 pub fn pull(rec: &mut [u8], to: usize, want: usize, level: usize, side: usize)
     requires { ⌜ (length (now rec) ≡ size) × (to < seats) × (want < 2) × (level < width) × (side < 2) ⌝ }
-    ensures { λ _. ⌜ now (rec .exit) ≡ done to (rule width (meaning (now (rec .entry))) (pullOf to (eqb want 1) level (sideOfNumber side))) (now (rec .entry)) ⌝ }
+    ensures { λ _. ⌜ now (rec .exit)
+        ≡ done to (rule width (meaning (now (rec .entry))) (pullOf to (eqb want 1) level (sideOfNumber side))) (now (rec .entry)) ⌝ }
 {
     let own = bit(record::vector(rec, to), level);
     if own == want {

@@ -135,7 +135,8 @@ pub extern "C" fn lots_read_lot(
     number: &mut u64,
     vector: &mut u8,
 ) -> u8
-    ensures { λ r. ⌜ record { refused = r; state = now (state .exit); number = now (number .exit); vector = now (vector .exit) } ≡ readLot (now (rec .entry)) seat ⌝ }
+    ensures { λ r. ⌜ record { refused = r; state = now (state .exit); number = now (number .exit); vector = now (vector .exit) }
+        ≡ readLot (now (rec .entry)) seat ⌝ }
 {
     match reading::read_lot(rec, seat) {
         LotRead::Refused(n) => {
@@ -203,7 +204,8 @@ pub extern "C" fn lots_read_counts(
     phase: &mut u8,
     pending: &mut u32,
 ) -> u8
-    ensures { λ r. ⌜ record { refused = r; lots = now (lots .exit); phase = now (phase .exit); pending = now (pending .exit) } ≡ readCounts (now (rec .entry)) ⌝ }
+    ensures { λ r. ⌜ record { refused = r; lots = now (lots .exit); phase = now (phase .exit); pending = now (pending .exit) }
+        ≡ readCounts (now (rec .entry)) ⌝ }
 {
     match reading::read_counts(rec) {
         CountsRead::Refused(n) => {

@@ -52,7 +52,8 @@ fn on_side(d: usize, a: u64, b: u64) -> bool
 // The link of seat s at level k on side d, or SEATS if there is none or it lies beyond x.
 fn along(rec: &[u8], s: usize, k: usize, d: usize, x: u64) -> usize
     requires { ⌜ (length (now rec) ≡ size) × (s < seats) × (k < levels) × (d < 2) ⌝ }
-    ensures { λ r. ⌜ alongOf (rosterIn (now (rec .entry)) .number) (meaning (now (rec .entry)) .link) x (sideOfNumber d) (meaning (now (rec .entry)) .link s k (sideOfNumber d)) ≡ asStep r ⌝ }
+    ensures { λ r. ⌜ alongOf (rosterIn (now (rec .entry)) .number) (meaning (now (rec .entry)) .link) x (sideOfNumber d)
+        (meaning (now (rec .entry)) .link s k (sideOfNumber d)) ≡ asStep r ⌝ }
 {
     let y = record::link(rec, s, k, d) as usize;
     if y >= record::SEATS {

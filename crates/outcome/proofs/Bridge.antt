@@ -42,7 +42,10 @@ pub made-call : (M : Meaning) → Sound seats width M → (c : Call)
     → made (bytesOf M) c ≡ record { refused = call seats width M c .refused; bytes = bytesOf (call seats width M c .meaning) }
 unfolding made call
 made-call M s c =
-    ap (λ (X : Meaning). record { refused = madeRefusal (bytesOf M) c; bytes = unlessRefused (madeRefusal (bytesOf M) c) (bytesOf M) (bytesOf (accept seats width X c)) }) (meaning-bytes s)
+    ap (λ (X : Meaning). record {
+      refused = madeRefusal (bytesOf M) c;
+      bytes = unlessRefused (madeRefusal (bytesOf M) c) (bytesOf M) (bytesOf (accept seats width X c));
+    }) (meaning-bytes s)
     ∙ ap (λ (n : ℕ). record { refused = n; bytes = unlessRefused n (bytesOf M) (bytesOf (accept seats width M c)) }) (made-refusal M s c)
     ∙ ap (λ (l : List ℕ). record { refused = refusal seats width (M .roster) (M .pending) c; bytes = l })
     (bytes-unless (refusal seats width (M .roster) (M .pending) c) M (accept seats width M c))

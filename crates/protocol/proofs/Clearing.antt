@@ -102,7 +102,8 @@ module _ {G : World} {Stay : ℕ → Type 0} where
       ok-seek st (pair-trans p (b .pair f)) (lt-trans l (b .side f)) (past {A = λ v. (v ≡ w) ⊎ Lt (G .num) d w v} ns p near (b .least f))
   sends-ok b c (ok-seek {z} {x} {k} {d} st p l near) (gives-up {d = d′} ns l′ e) =
       let f = sym (c .leaver z k d ns) ∙ (rw (lt-side l′ l) at e) in
-      ok-none {k = k} (p .fst) (pair-level p) st (subst (λ (a : Side). Target G Stay k x a none) (lt-side l l′) (nobody (past {A = λ v. ⊥} ns p near (b .last f))))
+      ok-none {k = k} (p .fst) (pair-level p) st
+      (subst (λ (a : Side). Target G Stay k x a none) (lt-side l l′) (nobody (past {A = λ v. ⊥} ns p near (b .last f))))
 
   sets-stay : {S : State} {m : Msg} {x k : ℕ} {d : Side} {o : Option ℕ} → Ok G Stay m → Sets G Stay S m x k d o → Stay x
   sets-stay (ok-found st l b) (to-found l′) = st

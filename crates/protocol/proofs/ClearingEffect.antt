@@ -80,7 +80,12 @@ module _ {G : World} {S : State} {Stay : ℕ → Type 0} where
   right-one : {m n : Msg} → Sends G Stay S m n → ((a : Msg) → Sends G Stay S m a → a ≡ n)
       → ((x k : ℕ) (d : Side) (v : Option ℕ) → Sets G Stay S m x k d v → ⊥) → Right (Sends G Stay S) (Sets G Stay S) m (sending (n ∷ []))
   right-one {m} s only z =
-      record { all = λ {n = a} t. List·Memᴰ·head (only a t); mem = λ i. subst (Sends G Stay S m) (sym (List·Memᴰ·eq-of-singleton i)) s; puts = λ t. absurd (z _ _ _ _ t); sets = λ e. keep-set e }
+      record {
+        all = λ {n = a} t. List·Memᴰ·head (only a t);
+        mem = λ i. subst (Sends G Stay S m) (sym (List·Memᴰ·eq-of-singleton i)) s;
+        puts = λ t. absurd (z _ _ _ _ t);
+        sets = λ e. keep-set e;
+      }
 
   right-ask : {x k : ℕ} {d : Side} → Stay x
       → Right (Sends G Stay S) (Sets G Stay S) (going x k d) (sending (toLink (S .link x k d) (λ z. seek z x k)))

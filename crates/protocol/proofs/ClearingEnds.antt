@@ -26,7 +26,11 @@ module _ (G : World) (Stay : ℕ → Type 0) where
   cost-ask : (S : State) (x k : ℕ) (d : Side) → total (rank num) (toLink (S .link x k d) (λ z. seek z x k)) < rank num (going x k d)
   unfolding rank
   cost-ask S x k d =
-      omega (arith, total-link (rank num) (S .link x k d) (λ z. seek z x k) (numbers + 2) (λ z e. omega (arith, room-most num small (sideOf (num x) (num z)) z)))
+      omega (
+        arith,
+        total-link (rank num) (S .link x k d) (λ z. seek z x k) (numbers + 2)
+            (λ z e. omega (arith, room-most num small (sideOf (num x) (num z)) z)),
+      )
 
   view-cost : {L : Links} {S : State} {m : Msg} {e : Effect} → AllLinks G Stay L → Clearing G Stay L S → View G S Stay m e
       → total (rank num) (e .sent) < rank num m

@@ -51,7 +51,15 @@ module _ (G : World) (S : State) (st : SeatState) where
       → total (rank num) (setting (G .W) num (G .vec) (entryIn G S st x) x y k d .sent) < rank num (meet x y k) + 8 * numbers
   unfolding setting total
   cost-set {x} {y} {d} k l =
-      omega (arith, rank-meet num small y x k, total-append (rank num) old asks, total-link (rank num) (S .link x k d) (λ o. meet y o k) numbers olds, total-cond (rank num) (ltb k (G .W)) (probe y x k ∷ pulls), rank-probe num small y x k, total-link (rank num) (S .link x k (opp d)) (λ z. pull z (not (bitOf G k x)) k (opp d)) (4 * numbers - 1) news)
+      omega (
+        arith,
+        rank-meet num small y x k,
+        total-append (rank num) old asks,
+        total-link (rank num) (S .link x k d) (λ o. meet y o k) numbers olds,
+        total-cond (rank num) (ltb k (G .W)) (probe y x k ∷ pulls),
+        rank-probe num small y x k,
+        total-link (rank num) (S .link x k (opp d)) (λ z. pull z (not (bitOf G k x)) k (opp d)) (4 * numbers - 1) news,
+      )
     where
       old : List Msg
       old = toLink (S .link x k d) (λ o. meet y o k)
@@ -85,7 +93,11 @@ module _ (G : World) (S : State) (st : SeatState) where
       → total (rank num) (toLink (S .link x k d) (λ z. pull z b k d)) < rank num (pull x b k d)
   unfolding rank
   cost-go x b k d h =
-      omega (arith, total-link (rank num) (S .link x k d) (λ z. pull z b k d) (3 * numbers + room num d x - 1) (λ z e. omega (arith, room-less num small (h .link-side e))))
+      omega (
+        arith,
+        total-link (rank num) (S .link x k d) (λ z. pull z b k d) (3 * numbers + room num d x - 1)
+            (λ z e. omega (arith, room-less num small (h .link-side e))),
+      )
 
   pub view-cost : {m : Msg} {e : Effect} → Proper G S → View G S st m e → Cost G S m e
   unfolding total rank
@@ -132,13 +144,15 @@ module _ (G : World) where
     reaches-less : {x k : ℕ} {d : Side} {v : Option ℕ} → x < N → k ≤ W → Sets G S m x k d v → reaches num N W (S′ .link) < reaches num N W (S .link)
     unfolding reaches
     reaches-less {x} {k} {d} p q s =
-        sum-less N _ _ (λ y l. sum-le (suc W) _ _ (λ j i. row-le y j)) x p (sum-less (suc W) _ _ (λ j i. row-le x j) k (omega arith) (row-less x k d (set-nearer t s)))
+        sum-less N _ _ (λ y l. sum-le (suc W) _ _ (λ j i. row-le y j)) x p
+        (sum-less (suc W) _ _ (λ j i. row-le x j) k (omega arith) (row-less x k d (set-nearer t s)))
 
 -- the measure of phase open falls
 pub open-less : (N W : ℕ) (G : World) (M M′ : Meaning) {m : Msg} {e : Effect} → Ok G m → Opened G (stateOf M) m (stateOf M′)
     → Right (Sends G (stateOf M)) (Sets G (stateOf M)) m e
     → Cost G (stateOf M) m e → T (exists N W m) → ((x k y : ℕ) → Pair G k x y → (x < N) × (k ≤ W))
-    → 8 * numbers * reaches (G .num) N W (M′ .link) + mass N W (rank (G .num)) (M′ .pending) < 8 * numbers * reaches (G .num) N W (M .link) + mass N W (rank (G .num)) (M .pending)
+    → 8 * numbers * reaches (G .num) N W (M′ .link) + mass N W (rank (G .num)) (M′ .pending)
+    < 8 * numbers * reaches (G .num) N W (M .link) + mass N W (rank (G .num)) (M .pending)
 open-less N W G M M′ {m} {e} o t r c x place = by c
   where
     lighter : mass N W (rank (G .num)) (M′ .pending) + rank (G .num) m ≤ mass N W (rank (G .num)) (M .pending) + total (rank (G .num)) (e .sent)
@@ -149,7 +163,8 @@ open-less N W G M M′ {m} {e} o t r c x place = by c
         go (inr s) = inr (r .all s)
 
     by : Cost G (stateOf M) m e
-        → 8 * numbers * reaches (G .num) N W (M′ .link) + mass N W (rank (G .num)) (M′ .pending) < 8 * numbers * reaches (G .num) N W (M .link) + mass N W (rank (G .num)) (M .pending)
+        → 8 * numbers * reaches (G .num) N W (M′ .link) + mass N W (rank (G .num)) (M′ .pending)
+        < 8 * numbers * reaches (G .num) N W (M .link) + mass N W (rank (G .num)) (M .pending)
     by (free f l) = omega (arith, mul-le-mul-left (8 * numbers) (reaches-le G N W t), lighter)
     by (paid {x = a} {k = k} {y = y} s l) =
         let q = place a k y (sets-pair o s) in

@@ -55,7 +55,10 @@ calls =
     ∷ deliver (name 8 0 1 0 0) ∷ turn ∷ leave 1 ∷ leave 1 ∷ []
 
 refused : refusals (logOf (run 3 2 calls .history)) ≡ 9 ∷ 0 ∷ 11 ∷ 10 ∷ 10 ∷ 0 ∷ 10 ∷ 3 ∷ 0 ∷ 6 ∷ 3 ∷ 3 ∷ 5 ∷ 0 ∷ 0 ∷ 6 ∷ []
-unfolding refusals calls logOf run step steps opened nobody call unlessRefused accept refusal rows first any isPending rosterAfter at sends takes isTaken pendingAfter deliverySends linksAfter deliveryLinks applied rule effect setting meeting probing pulling parting passing seeking toLink onSide sideOf bit equalBits shared named ifZero ifBit sameMsg among somePending count messageAt split pairAt pullAt sideAt
+unfolding refusals calls logOf run step steps opened nobody call unlessRefused accept refusal rows first any isPending rosterAfter at sends
+    takes isTaken pendingAfter deliverySends linksAfter deliveryLinks applied rule effect setting meeting probing pulling parting passing
+    seeking toLink onSide sideOf bit equalBits shared named ifZero ifBit sameMsg among somePending count messageAt split pairAt pullAt
+    sideAt
 refused = refl
 
 -- the smallest pending message from place i on, looking at n places
@@ -80,11 +83,17 @@ links M =
     ∷ M .link 0 1 right ∷ M .link 2 1 left ∷ M .link 1 1 left ∷ M .link 1 1 right ∷ M .link 0 2 right ∷ []
 
 Q-settled : somePending 3 2 (settled-Q .pending) ≡ false
-unfolding settled-Q drain search run step steps opened nobody call unlessRefused accept refusal rows first any isPending rosterAfter at sends takes isTaken pendingAfter deliverySends linksAfter deliveryLinks applied rule effect setting meeting probing pulling parting passing seeking toLink onSide sideOf bit equalBits shared named ifZero ifBit sameMsg among somePending count messageAt split pairAt pullAt sideAt
+unfolding settled-Q drain search run step steps opened nobody call unlessRefused accept refusal rows first any isPending rosterAfter at
+    sends takes isTaken pendingAfter deliverySends linksAfter deliveryLinks applied rule effect setting meeting probing pulling parting
+    passing seeking toLink onSide sideOf bit equalBits shared named ifZero ifBit sameMsg among somePending count messageAt split pairAt
+    pullAt sideAt
 Q-settled = refl
 
 Q-links : links settled-Q ≡ some 1 ∷ some 0 ∷ some 2 ∷ some 1 ∷ some 2 ∷ some 0 ∷ none ∷ none ∷ none ∷ []
-unfolding links settled-Q drain search run step steps opened nobody call unlessRefused accept refusal rows first any isPending rosterAfter at sends takes isTaken pendingAfter deliverySends linksAfter deliveryLinks applied rule effect setting meeting probing pulling parting passing seeking toLink onSide sideOf bit equalBits shared named ifZero ifBit sameMsg among somePending count messageAt split pairAt pullAt sideAt
+unfolding links settled-Q drain search run step steps opened nobody call unlessRefused accept refusal rows first any isPending rosterAfter
+    at sends takes isTaken pendingAfter deliverySends linksAfter deliveryLinks applied rule effect setting meeting probing pulling parting
+    passing seeking toLink onSide sideOf bit equalBits shared named ifZero ifBit sameMsg among somePending count messageAt split pairAt
+    pullAt sideAt
 Q-links = refl
 
 -- (k) leave 1, turn, deliver all, turn: 100 and 300 are linked at levels 0 and 1, and seat 1 is as opened
@@ -95,5 +104,8 @@ left-Q : Meaning
 left-Q = after (drain 3 2 8 (after (after settled-Q (leave 1)) turn)) turn
 
 case-k : links left-Q ≡ some 2 ∷ none ∷ none ∷ some 0 ∷ some 2 ∷ some 0 ∷ none ∷ none ∷ none ∷ []
-unfolding links left-Q after settled-Q drain search freed afterTurn each farewell farewells turnSends unlinked turnLinks run step steps opened nobody call unlessRefused accept refusal rows first any isPending rosterAfter at sends takes isTaken pendingAfter deliverySends linksAfter deliveryLinks applied rule effect setting meeting probing pulling parting passing seeking toLink onSide sideOf bit equalBits shared named ifZero ifBit sameMsg among somePending count messageAt split pairAt pullAt sideAt
+unfolding links left-Q after settled-Q drain search freed afterTurn each farewell farewells turnSends unlinked turnLinks run step steps
+    opened nobody call unlessRefused accept refusal rows first any isPending rosterAfter at sends takes isTaken pendingAfter deliverySends
+    linksAfter deliveryLinks applied rule effect setting meeting probing pulling parting passing seeking toLink onSide sideOf bit equalBits
+    shared named ifZero ifBit sameMsg among somePending count messageAt split pairAt pullAt sideAt
 case-k = refl

@@ -164,7 +164,10 @@ invariant-join {G} {S = S} g j sc i = record {
   back = record { way = λ e. let f = old g j sc h e in way-up g j sc h f (i .back .way f) };
   whole = whole-join g j sc h (i .whole);
   segments =
-      record { seg = λ {k} {d} {u} {m} {a} {b} q. let p = seg-down g j sc h q in done-up g j sc h (bit-same g k a (ne g (seg-start g j sc h p))) (i .segments .seg p) };
+      record {
+        seg = λ {k} {d} {u} {m} {a} {b} q. let p = seg-down g j sc h q in done-up g j sc h (bit-same g k a (ne g (seg-start g j sc h p)))
+            (i .segments .seg p);
+      };
 }
   where
     h : Proper G S

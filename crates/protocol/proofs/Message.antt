@@ -48,7 +48,8 @@ zero-case {m} n o e = test (eqb n 0) (λ t. (eqb-true n 0 t, rw t at e)) (λ f. 
 bit-case : {m : Msg} (n : ℕ) (o p : Option Msg) → ifBit n o p ≡ some m → ((n ≡ 0) × (o ≡ some m)) ⊎ ((n ≡ 1) × (p ≡ some m))
 unfolding ifBit
 bit-case {m} n o p e =
-    test (eqb n 0) (λ t. inl (eqb-true n 0 t, rw t at e)) (λ f. inr (test (eqb n 1) (λ t. (eqb-true n 1 t, rw (f, t) at e)) (λ g. none-some refl (rw (f, g) at e))))
+    test (eqb n 0) (λ t. inl (eqb-true n 0 t, rw t at e))
+    (λ f. inr (test (eqb n 1) (λ t. (eqb-true n 1 t, rw (f, t) at e)) (λ g. none-some refl (rw (f, g) at e))))
 
 -- the first branch of a test on the kind, or the rest
 kind-case : {m : Msg} (k i : ℕ) (o p : Option Msg) → cond (eqb k i) o p ≡ some m → ((k ≡ i) × (o ≡ some m)) ⊎ (p ≡ some m)
@@ -99,7 +100,8 @@ name-named n m e =
     ⊎-elim (λ z. plain k t a l s (seek t a l) 5 refl (z .1) (z .0)) (λ e₆.
     ⊎-elim (λ z. plain k t a l s (found t a l) 6 refl (z .1) (z .0)) (λ e₇.
     ⊎-elim (λ z. about-0 k t a l s (λ d. none-found t l d) 7 (λ d. refl) (z .1) (z .0)) (λ e₈. none-some refl e₈)
-    (kind-case k 7 _ _ e₇)) (kind-case k 6 _ _ e₆)) (kind-case k 5 _ _ e₅)) (kind-case k 4 _ _ e₄)) (kind-case k 3 _ _ e₃)) (kind-case k 2 _ _ e₂)) (kind-case k 1 _ _ e)
+    (kind-case k 7 _ _ e₇)) (kind-case k 6 _ _ e₆)) (kind-case k 5 _ _ e₅)) (kind-case k 4 _ _ e₄)) (kind-case k 3 _ _ e₃)) (kind-case k 2 _ _ e₂))
+    (kind-case k 1 _ _ e)
 
 -- equal names are equal messages
 pub same-name : (m n : Msg) → nameOf m ≡ nameOf n → m ≡ n
@@ -109,7 +111,8 @@ pub same-eq : (m n : Msg) → T (sameMsg m n) → m ≡ n
 unfolding sameMsg
 same-eq m n t = same-name m n (λ i. name (k i) (to i) (a i) (l i) (s i))
   where
-    t₁ : T (eqb (nameOf m .to) (nameOf n .to) && (eqb (nameOf m .about) (nameOf n .about) && (eqb (nameOf m .level) (nameOf n .level) && eqb (nameOf m .side) (nameOf n .side))))
+    t₁ : T (eqb (nameOf m .to) (nameOf n .to)
+        && (eqb (nameOf m .about) (nameOf n .about) && (eqb (nameOf m .level) (nameOf n .level) && eqb (nameOf m .side) (nameOf n .side))))
     t₁ = and-snd (eqb (nameOf m .kind) (nameOf n .kind)) _ t
 
     t₂ : T (eqb (nameOf m .about) (nameOf n .about) && (eqb (nameOf m .level) (nameOf n .level) && eqb (nameOf m .side) (nameOf n .side)))

@@ -232,7 +232,12 @@ module _ (G : World) (S : State) (st : SeatState) where
 
   right-up : {x y k : ℕ} → k < share G x y → Is (probe x y k) (sending (meet x y (suc k) ∷ []))
   right-up {x} {y} {k} q =
-      record { all = λ s. by s; mem = λ m. subst (Sends G S (probe x y k)) (sym (List·Memᴰ·eq-of-singleton m)) (up q); puts = λ s. elim s [ ]; sets = λ e. keep-set e }
+      record {
+        all = λ s. by s;
+        mem = λ m. subst (Sends G S (probe x y k)) (sym (List·Memᴰ·eq-of-singleton m)) (up q);
+        puts = λ s. elim s [ ];
+        sets = λ e. keep-set e;
+      }
     where
       by : {n : Msg} → Sends G S (probe x y k) n → List·Memᴰ n (meet x y (suc k) ∷ [])
       by (up p) = List·Memᴰ·head refl

@@ -93,7 +93,8 @@ weight-less {N} {W} {M} h (in-open i) m t =
 weight-less {N} {W} {M} h (in-clearing L a c) m t =
     let l = sound-laws h in
     let v = clearing-effect W M m t l (c l) in
-    clearing-less (worldOf W (M .roster) l) (Stayer (M .roster)) N W M (delivered W M m) (a l) (c l) (clearing-delivery W M m t l (c l)) (ClearingEffect.view-right v) v (pending-exists h m t)
+    clearing-less (worldOf W (M .roster) l) (Stayer (M .roster)) N W M (delivered W M m) (a l) (c l) (clearing-delivery W M m t l (c l))
+    (ClearingEffect.view-right v) v (pending-exists h m t)
 
 pub bound-less : {N W : ℕ} {M : Meaning} → Reached N W M → (m : Msg) → T (M .pending m) → bound N W (delivered W M m) < bound N W M
 unfolding bound

@@ -124,7 +124,8 @@ module _ {N W : ℕ} {M : Meaning} (h : Sound N W M) (s n v c : ℕ) (ok : Joins
       by : Dec (c < N) → Sane W (accept N W M (join s n v c)) open-phase
       by (yes p) = in-open (λ l′. invariant-join (grows l l′) (meets (ltb c N) (lt-ltb c N p)) (ok .contact p) (i l))
       by (no p) =
-          in-open (λ l′. invariant-first (worldOf W r′ l′) _ alone (λ x k d. same-link x k d ∙ bare x k d (M .link x k d) refl) (λ m t. silent (ltb c N) (le-ltb c N (omega arith)) m t))
+          in-open (λ l′. invariant-first (worldOf W r′ l′) _ alone (λ x k d. same-link x k d ∙ bare x k d (M .link x k d) refl)
+          (λ m t. silent (ltb c N) (le-ltb c N (omega arith)) m t))
         where
           nobody-in : (x : ℕ) → T (seated r x) → ⊥
           nobody-in x t = ok .alone (omega arith) x (h .seats x t) t
@@ -172,7 +173,8 @@ module _ (W : ℕ) (num vec : ℕ → ℕ) (L : Links) (small : (x : ℕ) → nu
 
   abbrev Holds : (ℕ → Bool) → (Msg → Bool) → Type 0
   Holds f p =
-      (a : Differ f) → Invariant (record { W = W; Seated = λ x. T (f x); num = num; vec = vec; comp = λ x. 0; small = small; differ = a }) (record { link = L; pend = λ m. T (p m) })
+      (a : Differ f) → Invariant (record { W = W; Seated = λ x. T (f x); num = num; vec = vec; comp = λ x. 0; small = small; differ = a })
+      (record { link = L; pend = λ m. T (p m) })
 
   same-holds : {f g : ℕ → Bool} {p q : Msg → Bool} → f ≡ g → p ≡ q → Holds f p → Holds g q
   same-holds e e′ h = subst₂ Holds e e′ h
@@ -181,5 +183,6 @@ module _ {N W : ℕ} (M : Meaning) (s : ℕ) (ok : Leaves N W (M .roster) (M .pe
   pub sane-leave : Sane W M open-phase → Sane W (accept N W M (leave s)) open-phase
   unfolding accept linksAfter sends takes rosterAfter
   sane-leave (in-open i) =
-      in-open (λ l. same-holds W (M .roster .number) (M .roster .vector) (M .link) (l .small) (sym (seated-leave N (M .roster) s (ok .occupied))) (sym (after-none (M .pending)))
+      in-open (λ l. same-holds W (M .roster .number) (M .roster .vector) (M .link) (l .small) (sym (seated-leave N (M .roster) s (ok .occupied)))
+      (sym (after-none (M .pending)))
       (λ a. i (record { small = l .small; differ = a })) (l .differ))

@@ -46,7 +46,8 @@ each-nothing (suc n) f h = rw (each-nothing n f (λ i l. h i (omega arith)), h n
 farewells-none : (N W : ℕ) (r : Roster) (L : Links) → any N (leaves r) ≡ false → farewells N W r L ≡ []
 unfolding farewells
 farewells-none N W r L e =
-    each-nothing N (λ y. cond (leaves r y) (each (suc W) (λ k. farewell L y k left ++ farewell L y k right)) []) (λ y l. by (leaves r y) (not-T-false (λ t. any-none N (leaves r) e y l t)) y)
+    each-nothing N (λ y. cond (leaves r y) (each (suc W) (λ k. farewell L y k left ++ farewell L y k right)) [])
+    (λ y l. by (leaves r y) (not-T-false (λ t. any-none N (leaves r) e y l t)) y)
   where
     by : (b : Bool) → b ≡ false → (y : ℕ) → cond b (each (suc W) (λ k. farewell L y k left ++ farewell L y k right)) [] ≡ []
     by true f y = true-false refl f
@@ -57,7 +58,12 @@ pub turn-idle : (N W : ℕ) (M : Meaning) → M .roster .phase ≡ open-phase �
 unfolding afterTurn turnLinks turnSends
 turn-idle N W M p e = λ i. record {
   roster =
-      record { phase = (ap (λ (b : Bool). cond b clearing open-phase) e ∙ sym p) i; state = M .roster .state; number = M .roster .number; vector = M .roster .vector };
+      record {
+        phase = (ap (λ (b : Bool). cond b clearing open-phase) e ∙ sym p) i;
+        state = M .roster .state;
+        number = M .roster .number;
+        vector = M .roster .vector;
+      };
   link = M .link;
   pending = (ap (λ (l : List Msg). pendingAfter l none (M .pending)) (farewells-none N W (M .roster) (M .link) e) ∙ after-none (M .pending)) i;
 }
@@ -97,7 +103,8 @@ module _ {N W : ℕ} {M : Meaning} (h : Sound N W M) (q : Quiet (stateOf M)) whe
   sane-shut : Sane W M open-phase → Sane W (turned N W M open-phase) clearing
   unfolding afterTurn turnLinks turnSends
   sane-shut (in-open i) =
-      in-clearing (M .link) (λ l. exact-links (Stayer (M .roster)) (exact l)) (λ l. clearing-start (Stayer (M .roster)) (exact l) (λ z. dec-T (stays (M .roster) z)) (λ x k d. refl) only told)
+      in-clearing (M .link) (λ l. exact-links (Stayer (M .roster)) (exact l))
+      (λ l. clearing-start (Stayer (M .roster)) (exact l) (λ z. dec-T (stays (M .roster) z)) (λ x k d. refl) only told)
     where
       sent : List Msg
       sent = farewells N W (M .roster) (M .link)

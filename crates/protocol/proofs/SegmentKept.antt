@@ -84,7 +84,8 @@ todo-step {G} {S} {S′} {n} {k} {d} {u} {m} {a} {b} h s t = by
 
     pf : (j : ℕ) → 0 < j → j ≤ m → (pull (u j) (bitOf G k a) k d ≡ n) ⊎ S′ .pend (pull (u j) (bitOf G k a) k d) → Done G S′ k d u m a b
     pf j p l (inl e) =
-        let f : pull (rev u m (m - j)) (bitOf G k b) k (opp (opp d)) ≡ n = rw (opp-opp d, seg-bits s) (ap (λ (z : ℕ). pull (u z) (bitOf G k a) k d) (omega arith)) ∙ e in
+        let f : pull (rev u m (m - j)) (bitOf G k b) k (opp (opp d)) ≡ n =
+        rw (opp-opp d, seg-bits s) (ap (λ (z : ℕ). pull (u z) (bitOf G k a) k d) (omega arith)) ∙ e in
         done-rev (seg-bits s) (pull-step h r (m - j) (omega arith) (at f))
     pf j p l (inr q) = todo (pullf j p l q)
 

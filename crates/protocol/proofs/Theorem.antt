@@ -47,7 +47,11 @@ module _ (N W : ℕ) where
   reached-opened : Reached N W opened
   unfolding opened nobody
   reached-opened =
-      record { sound = opened-sound N W; sane = in-open (λ l. invariant-first (worldOf W nobody l) (stateOf opened) (λ x y p q. absurd p) (λ x k d. refl) (λ m p. p)) }
+      record {
+        sound = opened-sound N W;
+        sane = in-open
+            (λ l. invariant-first (worldOf W nobody l) (stateOf opened) (λ x y p q. absurd p) (λ x k d. refl) (λ m p. p));
+      }
 
   -- nothing pending, as the table tests it and as a fact
   quiet-none : {M : Meaning} → Sound N W M → somePending N W (M .pending) ≡ false → Quiet (stateOf M)
@@ -69,7 +73,8 @@ module _ (N W : ℕ) where
       → Sane W (accept N W M c) (accept N W M c .roster .phase)
   sane-accept {M} g (join s n v c) e =
       let ok = join-rows N W (M .roster) (M .pending) s n v c e in
-      subst (Sane W (accept N W M (join s n v c))) (sym (phase-join M s n v c ∙ ok .opens)) (sane-join (g .sound) s n v c ok (subst (Sane W M) (ok .opens) (g .sane)))
+      subst (Sane W (accept N W M (join s n v c))) (sym (phase-join M s n v c ∙ ok .opens))
+      (sane-join (g .sound) s n v c ok (subst (Sane W M) (ok .opens) (g .sane)))
   sane-accept {M} g (leave s) e =
       let ok = leave-rows N W (M .roster) (M .pending) s e in
       subst (Sane W (accept N W M (leave s))) (sym (phase-leave M s ∙ ok .opens)) (sane-leave M s ok (subst (Sane W M) (ok .opens) (g .sane)))

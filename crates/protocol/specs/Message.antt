@@ -62,7 +62,8 @@ named n =
     let s = n .side in
     cond (eqb (n .kind) 1) (ifZero s (some (meet t a l)))
     (cond (eqb (n .kind) 2) (ifZero s (some (probe t a l)))
-    (cond (eqb (n .kind) 3) (ifBit a (ifBit s (some (pull t false l left)) (some (pull t false l right))) (ifBit s (some (pull t true l left)) (some (pull t true l right))))
+    (cond (eqb (n .kind) 3) (ifBit a (ifBit s (some (pull t false l left)) (some (pull t false l right)))
+    (ifBit s (some (pull t true l left)) (some (pull t true l right))))
     (cond (eqb (n .kind) 4) (ifZero a (ifBit s (some (going t l left)) (some (going t l right))))
     (cond (eqb (n .kind) 5) (ifZero s (some (seek t a l)))
     (cond (eqb (n .kind) 6) (ifZero s (some (found t a l)))

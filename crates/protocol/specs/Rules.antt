@@ -59,7 +59,8 @@ module _ (W : ℕ) (number vector : ℕ → ℕ) (e : Entry) (to : ℕ) where
 
   -- 2 PROBE: more bits shared than the level: MEET one level up; otherwise on to the link away from `about`
   unfoldable pub probing : (about level : ℕ) → List Msg
-  probing a l = cond (ltb l (shared W (e .vector) (vector a))) (meet to a (suc l) ∷ []) (toLink (e .link l (opp (sideOf (e .number) (number a)))) (λ z. probe z a l))
+  probing a l = cond (ltb l (shared W (e .vector) (vector a))) (meet to a (suc l) ∷ [])
+      (toLink (e .link l (opp (sideOf (e .number) (number a)))) (λ z. probe z a l))
 
   -- 3 PULL: the bit is the wanted one: PROBE about itself to the link on the opposite side; otherwise on along the side
   unfoldable pub pulling : (want : Bool) (level : ℕ) (d : Side) → List Msg

@@ -53,7 +53,8 @@ module _ (N W : ℕ) where
   -- pending from the sending by an accepted call until an accepted delivery takes it away
   unfoldable pub pendingOf : List Event → Msg → Bool
   pendingOf [] m = false
-  pendingOf (e ∷ es) m = unlessRefused (e .logged .refused) (pendingOf es m) (pendingAfter (sends N W (e .before) (e .logged .made)) (takes (e .logged .made)) (pendingOf es) m)
+  pendingOf (e ∷ es) m = unlessRefused (e .logged .refused) (pendingOf es m)
+      (pendingAfter (sends N W (e .before) (e .logged .made)) (takes (e .logged .made)) (pendingOf es) m)
 
   -- each refusal number is the table's, from the roster and the pending messages before the call
   abbrev pub RefusedByTable : List Event → Type 0

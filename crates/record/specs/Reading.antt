@@ -90,5 +90,10 @@ pub record CountAnswer : Type 0 where
 
 unfoldable pub readCounts : List ℕ → CountAnswer
 readCounts l = let r = recordRefusal l in
-    cond (eqb r 0) (record { refused = 0; lots = count seats (seated (rosterIn l)); phase = phaseByte (rosterIn l .phase); pending = count messages (λ i. bitSet l pendingFrom i) })
+    cond (eqb r 0) (record {
+      refused = 0;
+      lots = count seats (seated (rosterIn l));
+      phase = phaseByte (rosterIn l .phase);
+      pending = count messages (λ i. bitSet l pendingFrom i);
+    })
     (record { refused = r; lots = 0; phase = 0; pending = 0 })

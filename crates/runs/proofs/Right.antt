@@ -86,5 +86,6 @@ module _ (l : List ℕ) (e : openRefusal l ≡ 0) (cs : List Call) (r : AllInRan
       let g = find-holder (members-laws (both .fine)) right (λ y z u v. refl) x s (rw o n) in (
         ap (λ (f : FindAnswer). f .refused) a,
         subst (λ (r : Roster). RightHolder (seated r) (r .number) x (findIn (run l cs .now) s x .holder)) who
-            (rw (ap (λ (f : FindAnswer). f .holder) a) (subst (λ (t : ℕ → Bool). RightHolder t (M .roster .number) x (find (M .roster .number) (M .link) x seats width s .holder)) o g)),
+            (rw (ap (λ (f : FindAnswer). f .holder) a)
+            (subst (λ (t : ℕ → Bool). RightHolder t (M .roster .number) x (find (M .roster .number) (M .link) x seats width s .holder)) o g)),
       )

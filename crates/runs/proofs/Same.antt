@@ -42,7 +42,8 @@ step-same s t h c r = record {
     both : made (s .now) c ≡ record { refused = call seats width (t .now) c .refused; bytes = bytesOf (call seats width (t .now) c .meaning) }
     both = ap (λ (l : List ℕ). made l c) (h .now) ∙ made-call (t .now) (h .fine) c
 
-steps-same : (s : Standing) (t : protocol.Standing) → Same s t → (cs : List Call) → AllInRange seats width cs → Same (steps s cs) (protocol.steps seats width t cs)
+steps-same : (s : Standing) (t : protocol.Standing) → Same s t → (cs : List Call) → AllInRange seats width cs
+    → Same (steps s cs) (protocol.steps seats width t cs)
 unfolding steps protocol.steps
 steps-same s t h [] r = h
 steps-same s t h (c ∷ cs) r = steps-same (step s c) (protocol.step seats width t c) (step-same s t h c (r .0)) cs (r .1)

@@ -52,14 +52,16 @@ carried s t h D = record {
   phase = at (λ l. readCounts l .phase) ∙ ap (λ (a : CountAnswer). a .phase) counts ∙ ap (λ (r : Roster). phaseByte (r .phase)) who;
   seated = at (λ l. readCounts l .lots) ∙ ap (λ (a : CountAnswer). a .lots) counts ∙ ap (λ (r : Roster). count seats (seated r)) who;
   messages = λ n. at (λ l. readMessage l n) ∙ read-message M (h .fine) n
-      ∙ ap (λ (p : Msg → Bool). record { refused = 0; pending = oneIf (isPending p (named n)) }) (fun-ext (D .messages) ∙ ap (pendingOf seats width) (sym (h .history)));
+      ∙ ap (λ (p : Msg → Bool). record { refused = 0; pending = oneIf (isPending p (named n)) })
+      (fun-ext (D .messages) ∙ ap (pendingOf seats width) (sym (h .history)));
   none-left = (
     λ e. subst (Settled seats width) (sym (h .history)) (D .none-left .0 (count-none M (h .fine) .0 (sym left ∙ e))),
     λ q. left ∙ count-none M (h .fine) .1 (D .none-left .1 (subst (Settled seats width) (h .history) q)),
   );
   links = λ q x k d m p.
       let here : T (seated (t .now .roster) x) = member-seated (t .now .roster) x (subst (λ (r : Roster). T (member r x)) (sym who) m) in
-      at (λ l. readLink l x k (sideNumber d)) ∙ read-link M (h .fine) x k d (h .fine .seats x here) p (not-T-false (T-not (isFree (t .now .roster .state x)) here))
+      at (λ l. readLink l x k (sideNumber d))
+      ∙ read-link M (h .fine) x k d (h .fine .seats x here) p (not-T-false (T-not (isFree (t .now .roster .state x)) here))
       ∙ ap (λ (o : Option ℕ). record { refused = 0; seat = linkByte o }) (linked q x k d m p);
   ends = λ ns. rw (h .now, meaning-bytes (h .fine), accepted-same (t .now) (h .fine) ns) (D .ends ns);
 }
@@ -82,7 +84,8 @@ carried s t h D = record {
     linked : Settled seats width (meant (s .history)) → (x k : ℕ) (d : Side) → T (member (rosterOf seats width (logOf (meant (s .history)))) x) → k < levels
         → t .now .link x k d ≡ graph seats width (members (rosterOf seats width (logOf (meant (s .history))))) x k d
     linked q x k d m p =
-        subst (λ (es : List protocol.Event). Settled seats width es → IsGraph seats width (members (rosterOf seats width (logOf es))) (t .now .link)) (sym (h .history)) (D .graph) q
+        subst (λ (es : List protocol.Event). Settled seats width es → IsGraph seats width (members (rosterOf seats width (logOf es))) (t .now .link))
+        (sym (h .history)) (D .graph) q
         .link x k d m (omega arith)
 
 pub every-list : (l : List ℕ) → openRefusal l ≡ 0 → (cs : List Call) → AllInRange seats width cs → Demand3 bound (run l cs)

@@ -71,7 +71,8 @@ pub record Demand3 (bound : List ℕ → ℕ) (s : Standing) : Type 0 where
   pub phase : readCounts (s .now) .phase ≡ phaseByte (roster (s .history) .phase)
   pub seated : readCounts (s .now) .lots ≡ count seats (seated (roster (s .history)))
   -- a message reads as pending exactly if it is, and the count reads 0 exactly if none is
-  pub messages : (n : Name) → readMessage (s .now) n ≡ record { refused = 0; pending = oneIf (isPending (pendingOf seats width (meant (s .history))) (named n)) }
+  pub messages : (n : Name) → readMessage (s .now) n
+      ≡ record { refused = 0; pending = oneIf (isPending (pendingOf seats width (meant (s .history))) (named n)) }
   pub none-left : (readCounts (s .now) .pending ≡ 0) ↔ Settled seats width (meant (s .history))
   -- with none pending, each link of each member reads as in the graph of the members
   pub links : Settled seats width (meant (s .history)) → (x k : ℕ) (d : Side) → T (member (roster (s .history)) x) → k < levels

@@ -38,7 +38,8 @@ module _ (number : ℕ → ℕ) (L : Links) (x : ℕ) where
   -- the lots that the walk moves to from s at level k, in at most f moves and drops; below level 0 it ends
   unfoldable pub walk : (f s k : ℕ) → List ℕ
   walk zero s k = []
-  walk (suc f) s k = elim (stepAt s k) as (λ t. List ℕ) [ stop ↦ [] | move y ↦ y ∷ walk f y k | drop ↦ elim k as (λ j. List ℕ) [ zero ↦ [] | suc j ↦ walk f s j ] ]
+  walk (suc f) s k = elim (stepAt s k) as (λ t. List ℕ)
+      [ stop ↦ [] | move y ↦ y ∷ walk f y k | drop ↦ elim k as (λ j. List ℕ) [ zero ↦ [] | suc j ↦ walk f s j ] ]
 
   -- from the top level W; on N seats there are at most N moves and W + 1 drops
   unfoldable pub path : (N W s : ℕ) → List ℕ

@@ -20,7 +20,8 @@ join-row-requires c κs = record-passed (c .before .before .before .args .rec .n
 returns-2 : tie.Need-returns-2
 returns-2 c v =
     let a = c .before .before .before .before .args in
-    made-late (a .rec .now) (join (a .seat) (a .number) v (a .contact)) (c .before .before .record-refusal .ensures) (c .before .if1 .left) (c .join-row .ensures v)
+    made-late (a .rec .now) (join (a .seat) (a .number) v (a .contact)) (c .before .before .record-refusal .ensures) (c .before .if1 .left)
+    (c .join-row .ensures v)
 
 pub join-refusal-spec : {M : Type 1} → statement M
 join-refusal-spec = tie.close (tie.spec record-refusal-requires returns join-row-requires returns-2)

@@ -116,7 +116,8 @@ returns-3 c =
     let s = d .before .before .before .before in
     let a = s .args in
     let e = named-pull _ _ _ _ (d .before .before .match .keys3) in
-    d .pull .ensures ∙ sym (named-ruled (ltb (a .about) 2 && ltb (a .side) 2) (pull (a .to) (eqb (a .about) 1) (a .level) (sideOfNumber (a .side))) _ e (s .pre .1))
+    d .pull .ensures ∙ sym (named-ruled (ltb (a .about) 2 && ltb (a .side) 2) (pull (a .to) (eqb (a .about) 1) (a .level) (sideOfNumber (a .side))) _
+    e (s .pre .1))
 
 same-length-4 : tie.Need-same-length-4
 same-length-4 c = search needs

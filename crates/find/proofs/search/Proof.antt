@@ -18,7 +18,8 @@ sub-t6 c = search needs
 -- src/lib.rt:145:9
 advance-requires : tie.Need-advance-requires
 advance-requires c κs = let b = c .before in
-    start-ready (b .args .rec .now) (b .args .x) (b .args .s) (b .pre .0) (b .pre .1) _ (omega arith) (λ j. omega (arith, c .shared-slice-known .given j)) (omega arith)
+    start-ready (b .args .rec .now) (b .args .x) (b .args .s) (b .pre .0) (b .pre .1) _ (omega arith)
+    (λ j. omega (arith, c .shared-slice-known .given j)) (omega arith)
 
 -- src/lib.rt:146:5
 held-requires : tie.Need-held-requires

@@ -35,7 +35,8 @@ returns-2 c = λ M f e.
     let a = c .before in
     let b = a .before .before in
     let s = b .before .before .before .args in
-    uncut-link M f (s .x) (s .k) (omega arith) (omega arith) (s .d) (b .link .result) (omega arith) e (b .link .ensures) (sym (a .parts .ensures) ∙ c .if1 .left)
+    uncut-link M f (s .x) (s .k) (omega arith) (omega arith) (s .d) (b .link .result) (omega arith) e (b .link .ensures)
+    (sym (a .parts .ensures) ∙ c .if1 .left)
 
 pub unlink-spec : {M : Type 1} → statement M
 unlink-spec =

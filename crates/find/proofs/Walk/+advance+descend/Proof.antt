@@ -88,8 +88,13 @@ advance-step-requires t c κs = let b = c .before .before .before in
     let l = b .args .rec .now in
     let x = b .args .x in
     let w = b .args .self in
-    let h = b .pre .1 in
-    (h .fit .sized, lot-seat l x w h, h .level, λ e. c .if1 .left (sym (number-read l (w .seat) (c .before .number .result) (lot-seat l x w h) (c .before .number .ensures)) ∙ e))
+    let h = b .pre .1 in (
+      h .fit .sized,
+      lot-seat l x w h,
+      h .level,
+      λ e. c .if1 .left
+          (sym (number-read l (w .seat) (c .before .number .result) (lot-seat l x w h) (c .before .number .ensures)) ∙ e),
+    )
 
 -- src/lib.rt:88:23
 advance-add-t12 : (t : ℕ) → advance-lts.Need-add-t12 (
