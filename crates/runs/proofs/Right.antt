@@ -27,7 +27,8 @@ use Rattle.record.proofs.Round.{meaning-bytes}
 use Rattle.record.proofs.Sound.{bytes-sound}
 use Rattle.search.specs.Walk.{find}
 use Rattle.search.specs.Check.{check}
-use Rattle.search.proofs.Holder.{RightHolder, find-holder}
+use Rattle.search.specs.Right.{RightHolder}
+use Rattle.search.proofs.Holder.{find-holder}
 use Rattle.search.proofs.Check.{check-graph}
 use Rattle.find.specs.Find.{FindAnswer, findIn}
 use Rattle.audit.specs.Check.{checkIn}

@@ -16,7 +16,8 @@ use Rattle.search.specs.Check.{sameLink, every, levelRight, check}
 use Rattle.search.specs.Walk.{find}
 use Rattle.search.proofs.Count.{when-T, T-when, every-at, all-every}
 use Rattle.search.proofs.Ordered.{OneComponent}
-use Rattle.search.proofs.Holder.{RightHolder, find-holder}
+use Rattle.search.specs.Right.{RightHolder}
+use Rattle.search.proofs.Holder.{find-holder}
 
 pub link-eq : (a b : Option ℕ) → T (sameLink a b) → a ≡ b
 unfolding sameLink

@@ -15,22 +15,12 @@ use Rattle.graph.proofs.Order.{Lt, toL, toR, lt-asym, lt-irr, lt-side}
 use Rattle.graph.proofs.Neighbour.{InList, Nearest, nobody-there, nearest-first, nearest-list, nearest-side}
 use Rattle.graph.proofs.SkipGraph.{link-nearest}
 use Rattle.search.specs.Walk.{stop, drop, lastOf, Found, find}
+use Rattle.search.specs.Right.{Holds, RightHolder, holds, nobody}
 use Rattle.search.proofs.Ordered.{OneComponent, graph-ordered}
 use Rattle.search.proofs.Step.{Beyond, Upto, uptoL, uptoR, upto-not, Stepped, is-found, is-past, is-last, at-stepped}
 use Rattle.search.proofs.Step.{Held, is-end, is-left, is-none, at-held}
 use Rattle.search.proofs.Search.{Search, found, moves, drops, ends, path-search}
 use Rattle.search.proofs.Hops.{search-seated}
-
--- h is the holder of x: the member with the largest number that is not above x
-pub record Holds (member : ℕ → Bool) (number : ℕ → ℕ) (x h : ℕ) : Type 0 where
-  pub seated : T (member h)
-  pub below : number h ≤ x
-  pub largest : (z : ℕ) → T (member z) → number z ≤ x → number z ≤ number h
-
--- the right answer to a search for x: the holder, or none if no member has a number that is not above x
-pub data RightHolder (member : ℕ → Bool) (number : ℕ → ℕ) (x : ℕ) : Option ℕ → Type 0 where
-  holds : {h : ℕ} → Holds member number x h → RightHolder member number x (some h)
-  nobody : ((z : ℕ) → T (member z) → number z ≤ x → ⊥) → RightHolder member number x none
 
 -- none exactly if there is none
 pub none-exactly : {member : ℕ → Bool} {number : ℕ → ℕ} {x : ℕ} {o : Option ℕ} → RightHolder member number x o

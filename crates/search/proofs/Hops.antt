@@ -1,6 +1,6 @@
 -- The lots of a search: each lies beyond the one before it and none beyond x. So none comes twice, all lie between the start and x,
 -- and there are fewer hops than seated lots. Assumes ordered links.
-use Prim.Native.Nat.{ℕ, suc, _+_, _≤_, _<_, min, max}
+use Prim.Native.Nat.{ℕ, suc, _+_, _≤_, _<_}
 use mathlib.Core.Path.{_≡_, sym}
 use mathlib.Core.Logic.{_⊎_, inl, inr}
 use mathlib.Core.Option.{some}
@@ -13,6 +13,7 @@ use Rattle.graph.specs.Side.{Side, left}
 use Rattle.graph.specs.Graph.{Links}
 use Rattle.graph.proofs.Order.{Lt, toL, toR, lt-trans, lt-irr, lt-eq}
 use Rattle.search.specs.Walk.{lastOf, path, holderAt, Found, find}
+use Rattle.search.specs.Right.{Once, nothing, new, Between}
 use Rattle.search.proofs.Count.{count}
 use Rattle.search.proofs.Ordered.{Ordered, rank, rank-less, rank-most}
 use Rattle.search.proofs.Step.{Upto, uptoL, uptoR, upto-some, Held, is-end, is-left, is-none, at-held}
@@ -23,16 +24,6 @@ pub data Toward (seated : ℕ → Bool) (number : ℕ → ℕ) (x : ℕ) (d : Si
   stay : {s : ℕ} → Toward seated number x d s []
   onward : {s y : ℕ} {p : List ℕ} → T (seated y) → Lt number d s y → Upto d (number y) x → Toward seated number x d y p
       → Toward seated number x d s (y ∷ p)
-
--- no lot stands twice in a list
-pub data Once : List ℕ → Type 0 where
-  nothing : Once []
-  new : {y : ℕ} {p : List ℕ} → ¬ (List·Memᴰ y p) → Once p → Once (y ∷ p)
-
--- n lies between a and b, both included
-pub record Between (a b n : ℕ) : Type 0 where
-  pub low : min a b ≤ n
-  pub high : n ≤ max a b
 
 module _ {seated : ℕ → Bool} {number : ℕ → ℕ} {x : ℕ} {d : Side} where
   toward-last : {s : ℕ} {p : List ℕ} → T (seated s) → Toward seated number x d s p → T (seated (lastOf s p))
