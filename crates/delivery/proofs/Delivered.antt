@@ -30,7 +30,7 @@ use Rattle.record.proofs.Pending.{after-taken}
 use Rattle.record.proofs.Update.{withChange, withoutMessage, bytes-withLink, bytes-keep}
 use Rattle.record.proofs.Sent.{sentBits, bytes-withoutMessage, bytes-sent}
 use Rattle.places.specs.Places.{placeOf}
-use Rattle.delivery.specs.Done.{changed, done, ruled}
+use Rattle.rules.specs.Done.{changed, done, ruled}
 use Rattle.places.proofs.Named.{two-below, three-below}
 use Rattle.places.proofs.Placed.{placed}
 

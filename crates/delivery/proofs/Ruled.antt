@@ -11,7 +11,7 @@ use Rattle.protocol.specs.Calls.{rule}
 use Rattle.record.specs.Meaning.{meaning}
 use Rattle.places.specs.Places.{isMessage}
 use Rattle.places.proofs.Named.{when}
-use Rattle.delivery.specs.Done.{done, ruled}
+use Rattle.rules.specs.Done.{done, ruled}
 
 pub named-ruled : {o : Option Msg} (b : Bool) (m : Msg) (l : List ℕ) → o ≡ when b m → T (isMessage o) → ruled o l
     ≡ done (nameOf m .to) (rule width (meaning l) m) l

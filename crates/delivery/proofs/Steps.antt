@@ -20,7 +20,7 @@ use Rattle.outcome.specs.Answer.{told, answered}
 use Rattle.outcome.specs.declared.Answer.the-variants.{Done, Refused}
 use Rattle.outcome.proofs.Accepted.{record-refused}
 use Rattle.places.specs.Places.{placeOf, isMessage}
-use Rattle.delivery.specs.Done.{ruled}
+use Rattle.rules.specs.Done.{ruled}
 use Rattle.places.proofs.Placed.{place-message, message-place, pending-bit, no-place}
 use Rattle.delivery.proofs.Answers.{not-pending, delivered}
 use Rattle.delivery.proofs.Delivered.{deliver-bytes}

@@ -9,12 +9,7 @@ ghost use Rattle.record.specs.Layout.{size};
 ghost use Rattle.outcome.specs.Made.{made};
 ghost use Rattle.outcome.specs.Answer.{told, answered};
 ghost use Rattle.places.specs.Places.{isMessage};
-ghost use Rattle.delivery.specs.Done.{ruled};
-
-mod reads;
-mod rules;
-mod writes;
-
+ghost use Rattle.rules.specs.Done.{ruled};
 use outcome::Answer;
 use places::place_of;
 use record::MESSAGES;

@@ -7,7 +7,7 @@ use Rattle.graph.proofs.Tests.{and-snd}
 use Rattle.protocol.specs.Message.{meet, probe, pull, going, seek, found, none-found, named}
 use Rattle.protocol.specs.Numbering.{exists}
 use Rattle.record.specs.Reading.{sideOfNumber}
-use Rattle.delivery.specs.Done.{ruled}
+use Rattle.rules.specs.Done.{ruled}
 use Rattle.places.proofs.Named.{named-meet, named-probe, named-pull, named-going, named-seek, named-found, named-none}
 use Rattle.places.proofs.Named.{named-rest, named-fits, two-below, three-below}
 use Rattle.delivery.proofs.Ruled.{named-ruled}

@@ -1,0 +1,50 @@
+-- `rules::going` meets its contract. Assumes nothing.
+use borrow.Author.Needs.{needs}
+use Rattle.protocol.specs.Rules.{effect, parting}
+use Rattle.protocol.specs.Calls.{rule}
+use Rattle.record.proofs.Sent.{sentBits}
+use Rattle.rules.specs.Done.{changed, done}
+use Rattle.rules.proofs.Sides.{staying-in}
+use Rattle.rules.proofs.going.Statement.{statement}
+use Rattle.rules.proofs.going.Tie as tie
+
+is-staying-requires : tie.Need-is-staying-requires
+is-staying-requires c κs = search needs
+
+link-requires : tie.Need-link-requires
+link-requires c κs = search needs
+
+seek-link-requires : tie.Need-seek-link-requires
+seek-link-requires c κs = search needs
+
+same-length : tie.Need-same-length
+same-length c = search needs
+
+returns : tie.Need-returns
+unfolding done sentBits changed rule effect parting
+returns c =
+    rw (
+      staying-in,
+      ← c .before .before .before .before .before .before .before .is-staying .ensures,
+      c .before .before .before .before .before .before .if1 .taken,
+      ← c .before .before .before .before .link .ensures,
+    ) (c .before .before .seek-link .ensures)
+
+same-length-2 : tie.Need-same-length-2
+same-length-2 c = search needs
+
+returns-2 : tie.Need-returns-2
+unfolding done sentBits changed rule effect parting
+returns-2 c = rw (staying-in, ← c .before .is-staying .ensures, c .if1 .left)
+
+pub going-spec : {M : Type 1} → statement M
+going-spec =
+    tie.close
+    (tie.spec
+    is-staying-requires
+    link-requires
+    seek-link-requires
+    same-length
+    returns
+    same-length-2
+    returns-2)

@@ -1,0 +1,21 @@
+-- `rules::none` meets its contract. Assumes nothing.
+use borrow.Author.Needs.{needs}
+use Rattle.protocol.specs.Rules.{effect}
+use Rattle.protocol.specs.Calls.{rule}
+use Rattle.record.proofs.Sent.{sentBits}
+use Rattle.rules.specs.Done.{changed, done}
+use Rattle.rules.proofs.none.Statement.{statement}
+use Rattle.rules.proofs.none.Tie as tie
+
+put-link-requires : tie.Need-put-link-requires
+put-link-requires c κs = search needs
+
+same-length : tie.Need-same-length
+same-length c = search needs
+
+returns : tie.Need-returns
+unfolding done sentBits changed rule effect
+returns c = c .before .before .put-link .ensures
+
+pub none-spec : {M : Type 1} → statement M
+none-spec = tie.close (tie.spec put-link-requires same-length returns)

@@ -1,0 +1,28 @@
+-- `rules::writes::seek_link` meets its contract: a byte that is a seat is a link. Assumes nothing.
+use borrow.Author.Needs.{needs}
+use Rattle.rules.proofs.Sends.{send-link, send-no-link}
+use Rattle.rules.proofs.writes.seek_link.Statement.{statement}
+use Rattle.rules.proofs.writes.seek_link.Tie as tie
+
+seek-place-requires : tie.Need-seek-place-requires
+seek-place-requires c κs = search needs
+
+send-requires : tie.Need-send-requires
+send-requires c κs = search needs
+
+same-length : tie.Need-same-length
+same-length c = search needs
+
+returns : tie.Need-returns
+returns c =
+    rw (
+      send-link _ _ _ (c .before .before .before .before .before .if1 .taken),
+      ← c .before .before .before .seek-place .ensures .0,
+    ) (c .before .before .send .ensures)
+
+returns-2 : tie.Need-returns-2
+returns-2 c = rw (send-no-link _ _ _ (c .if1 .left))
+
+pub seek-link-spec : {M : Type 1} → statement M
+seek-link-spec =
+    tie.close (tie.spec seek-place-requires send-requires same-length returns returns-2)
