@@ -1,10 +1,10 @@
 -- One step of the walk by comparisons, as code makes it, and the last one, to the holder: what `stepAt` and `holderAt` of specs/ are in each
 -- case. Assumes nothing.
 use Prim.Native.Nat.{ℕ, suc, _≤_, _<_}
-use mathlib.Core.Path.{_≡_, refl, sym, _∙_, subst}
+use mathlib.Core.Path.{_≡_, refl, sym, ap, _∙_, subst}
 use mathlib.Core.Logic.{_⊎_, inl, inr}
 use mathlib.Core.Option.{Option, none, some}
-use mathlib.Core.Bool.{true, false}
+use mathlib.Core.Bool.{Bool, true, false, cond}
 use native.Mathlib.Omega.{arith}
 use native.Mathlib.Decide.{ℕ-discrete, decLt}
 use borrow.Author.Tests.{eq-eqb, ne-eqb, le-leb, lt-leb}
@@ -53,6 +53,12 @@ upto-side (uptoL p) (toR q) = absurd (omega arith)
 upto-side (uptoR p) (toL q) = absurd (omega arith)
 upto-side (uptoR p) (toR q) = refl
 
+cond-yes : {A : Type 0} (x y : A) (b : Bool) → b ≡ true → cond b x y ≡ x
+cond-yes x y b e = rw e
+
+cond-no : {A : Type 0} (x y : A) (b : Bool) → b ≡ false → cond b x y ≡ y
+cond-no x y b e = rw e
+
 -- what the walk does at lot s and level k: it is found, or x lies on side d, where the link leads up to x or beyond it, or there is none
 pub data Stepped (number : ℕ → ℕ) (L : Links) (x s k : ℕ) : Step → Type 0 where
   is-found : number s ≡ x → Stepped number L x s k stop
@@ -64,6 +70,15 @@ module _ (number : ℕ → ℕ) (L : Links) (x s k : ℕ) where
   step-along : {d : Side} → Beyond d (number s) x → stepAt number L x s k ≡ along number L x d (L s k d)
   unfolding stepAt
   step-along {d} b = rw (ne-eqb (number s) x (λ e. lt-irr (rw e at b)), side-of (λ n. n) b)
+
+  -- the test of `along`, up to x and beyond it
+  along-move : (d : Side) (y : ℕ) → Upto d (number y) x → along number L x d (some y) ≡ move y
+  unfolding along
+  along-move d y u = cond-no drop (move y) (onSide d x (number y)) (not-T-false (λ v. upto-not u (on-lt (λ n. n) d x (number y) v)))
+
+  along-drop : (d : Side) (y : ℕ) → Beyond d x (number y) → along number L x d (some y) ≡ drop
+  unfolding along
+  along-drop d y l = cond-yes drop (move y) (onSide d x (number y)) (T-true (lt-on (λ n. n) l))
 
   -- some step is made
   stepped : (t : Step) × Stepped number L x s k t
@@ -87,13 +102,9 @@ module _ {number : ℕ → ℕ} {L : Links} {x s k : ℕ} where
   pub stepped-at : {t : Step} → Stepped number L x s k t → stepAt number L x s k ≡ t
   unfolding stepAt along
   stepped-at (is-found e) = rw (eq-eqb (number s) x e)
-  stepped-at (is-move {d} {y} b e u) =
-      let f : onSide d x (number y) ≡ false = not-T-false (λ v. upto-not u (on-lt (λ n. n) d x (number y) v)) in
-      step-along number L x s k b ∙ rw (e, f)
-  stepped-at (is-past {d} {y} b e l) =
-      let f : onSide d x (number y) ≡ true = T-true (lt-on (λ n. n) l) in
-      step-along number L x s k b ∙ rw (e, f)
-  stepped-at (is-last b e) = step-along number L x s k b ∙ rw e
+  stepped-at (is-move {d} {y} b e u) = step-along number L x s k b ∙ ap (along number L x d) e ∙ along-move number L x s k d y u
+  stepped-at (is-past {d} {y} b e l) = step-along number L x s k b ∙ ap (along number L x d) e ∙ along-drop number L x s k d y l
+  stepped-at (is-last {d} b e) = step-along number L x s k b ∙ ap (along number L x d) e
 
   -- and no other
   pub at-stepped : {t : Step} → stepAt number L x s k ≡ t → Stepped number L x s k t

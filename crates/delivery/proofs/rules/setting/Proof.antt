@@ -1,10 +1,6 @@
 -- `delivery::rules::setting` meets its contract: what it writes follows from what it read first. Assumes nothing.
 use borrow.Author.Needs.{needs}
-use Rattle.protocol.specs.Rules.{setting}
-use Rattle.record.proofs.Sent.{sentBits, sentBits-append}
-use Rattle.record.proofs.Form.{meaning-vector}
-use Rattle.delivery.specs.Done.{changed, done}
-use Rattle.delivery.proofs.Sides.{side-opp}
+use Rattle.delivery.proofs.Setting.{setting-done}
 use Rattle.delivery.proofs.rules.setting.Statement.{statement}
 use Rattle.delivery.proofs.rules.setting.Tie as tie
 
@@ -42,25 +38,24 @@ same-length : tie.Need-same-length
 same-length c = search needs
 
 returns : tie.Need-returns
-unfolding done sentBits changed setting
 returns c =
     let m = c .before .before .before .before .before .before in
     let s = m .before .before .before .before in
     let p = s .before .before .before .before .before in
     let v = p .before .before in
     let b = v .before .before .before .before .before .before .before in
-    rw (
-      sentBits-append,
-      ← v .before .before .before .before .link .ensures,
-      ← side-opp _ (b .pre .4),
-      ← v .before .before .link2 .ensures,
-      meaning-vector _ _ (b .pre .1),
-      ← v .vector .ensures,
-      ← s .before .meet-place .ensures .0,
-      ← p .put-link .ensures,
-      ← s .send .ensures,
-      ← m .meet-about-link .ensures,
-    ) (c .before .before .spread .ensures)
+    let a = b .args in
+    setting-done (a .rec .now) (a .about) (a .level) _ _
+    (b .pre .1)
+    (b .pre .4)
+    (v .before .before .before .before .link .ensures)
+    (v .before .before .link2 .ensures)
+    (v .vector .ensures)
+    (p .put-link .ensures)
+    (s .before .meet-place .ensures .0)
+    (s .send .ensures)
+    (m .meet-about-link .ensures)
+    (c .before .before .spread .ensures)
 
 pub setting-spec : {M : Type 1} → statement M
 setting-spec =

@@ -1,9 +1,8 @@
 -- `delivery::rules::spread` meets its contract. Assumes nothing.
-use borrow.Author.Tests.{lt-ltb, le-ltb}
+use borrow.Author.Tests.{le-ltb}
 use borrow.Author.Needs.{needs}
 use Rattle.record.proofs.Sent.{sentBits}
-use Rattle.delivery.proofs.Sends.{send-more}
-use Rattle.delivery.proofs.Sides.{bit-not}
+use Rattle.delivery.proofs.Setting.{spread-sent}
 use Rattle.delivery.proofs.rules.spread.Statement.{statement}
 use Rattle.delivery.proofs.rules.spread.Tie as tie
 
@@ -29,14 +28,14 @@ returns : tie.Need-returns
 returns c =
     let d = c .before .before .before in
     let b = d .before .before .before .before .before in
-    rw (
-      lt-ltb _ _ (b .before .before .if1 .taken),
-      send-more,
-      ← b .probe-place .ensures .0,
-      ← d .before .before .before .before .send .ensures,
-      ← d .bit .ensures .0,
-      ← bit-not _ (d .bit .ensures .1),
-    ) (c .before .before .pull-link .ensures)
+    let a = b .before .before .before .before .args in
+    spread-sent (a .rec .now) (a .to) (a .about) (a .vector) (a .other) (a .side)
+    (b .before .before .if1 .taken)
+    (b .probe-place .ensures .0)
+    (d .before .before .before .before .send .ensures)
+    (d .bit .ensures .0)
+    (d .bit .ensures .1)
+    (c .before .before .pull-link .ensures)
 
 returns-2 : tie.Need-returns-2
 unfolding sentBits

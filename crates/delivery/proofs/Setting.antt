@@ -1,0 +1,49 @@
+-- MEET where the link is set: from what its handlers read and did, step by step, to the effect of the rule on the bytes. Assumes nothing.
+use Prim.Native.Nat.{ℕ, _-_, _<_}
+use mathlib.Core.Path.{_≡_}
+use mathlib.Core.Bool.{not, cond}
+use mathlib.Core.List.{List, [], _∷_}
+use borrow.Author.Tests.{lt-ltb}
+use lib.Dec.{eqb, ltb}
+use lib.ListN.{length, getD, set}
+use Rattle.memory.specs.Bits.{setBit}
+use Rattle.graph.specs.Vector.{width, bit}
+use Rattle.protocol.specs.Message.{meet, probe, pull}
+use Rattle.protocol.specs.Numbering.{place}
+use Rattle.protocol.specs.Rules.{toLink, setting}
+use Rattle.protocol.specs.State.{entry}
+use Rattle.record.specs.Layout.{seats, pendingFrom, size, linkAt, vectorAt}
+use Rattle.record.specs.Meaning.{meaning, linkOf}
+use Rattle.record.specs.Reading.{sideOfNumber}
+use Rattle.record.proofs.Sent.{sentBits, sentBits-append}
+use Rattle.record.proofs.Form.{meaning-vector}
+use Rattle.delivery.specs.Done.{changed, done}
+use Rattle.delivery.proofs.Sends.{send-more}
+use Rattle.delivery.proofs.Sides.{side-opp, bit-not}
+
+-- PROBE and PULL after a set below the highest level: b is the bit of `to`, x the record with the PROBE sent, y with the PULL
+pub spread-sent : (l : List ℕ) (to about v other d : ℕ) {x y : List ℕ} {level i b : ℕ} → level < width
+    → i ≡ place seats width (probe about to level)
+    → x ≡ setBit l pendingFrom i
+    → eqb b 1 ≡ bit width level v
+    → b < 2
+    → y ≡ sentBits (toLink (linkOf other) (λ z. pull z (eqb (1 - b) 1) level (sideOfNumber d))) x
+    → y ≡ sentBits (cond (ltb level width) (probe about to level ∷ toLink (linkOf other) (λ z. pull z (not (bit width level v)) level (sideOfNumber d))) []) l
+spread-sent l to about v other d h ei ex eb hb ey = rw (lt-ltb _ _ h, send-more, ← ei, ← ex, ← eb, ← bit-not _ hb) ey
+
+-- the set: old and other are the links read first, v the vector; w has the link, x the MEET about `to`, y that about the old link, z the rest
+pub setting-done : (l : List ℕ) (about level old other : ℕ) {w x y z : List ℕ} {to d v i : ℕ} → to < seats
+    → d < 2
+    → linkOf old ≡ meaning l .link to level (sideOfNumber d)
+    → linkOf other ≡ meaning l .link to level (sideOfNumber (1 - d))
+    → v ≡ getD l (vectorAt to) 0
+    → w ≡ set l (linkAt to level (sideOfNumber d)) about
+    → i ≡ place seats width (meet about to level)
+    → x ≡ setBit w pendingFrom i
+    → y ≡ sentBits (toLink (linkOf old) (λ o. meet about o level)) x
+    → z ≡ sentBits (cond (ltb level width)
+    (probe about to level ∷ toLink (linkOf other) (λ o. pull o (not (bit width level v)) level (sideOfNumber (1 - d)))) []) y
+    → z ≡ done to (setting width (meaning l .roster .number) (meaning l .roster .vector) (entry (meaning l) to) to about level (sideOfNumber d)) l
+unfolding done sentBits changed setting
+setting-done l about level old other ht hd eo en ev ew ei ex ey ez =
+    rw (sentBits-append, ← eo, ← side-opp _ hd, ← en, meaning-vector l _ ht, ← ev, ← ei, ← ew, ← ex, ← ey) ez

@@ -1,0 +1,2 @@
+-- The answers of the calls as numbers.
+pub mod Numbers
