@@ -12,3 +12,6 @@ pub mod report;
 pub mod round;
 pub mod sys;
 pub mod tally;
+
+#[cfg(test)]
+mod faults;

@@ -90,3 +90,22 @@ impl fmt::Display for Tally {
         writeln!(f)
     }
 }
+
+#[cfg(test)]
+mod tests {
+    use super::*;
+
+    #[test]
+    fn gaps_are_answers_that_the_table_allows_and_others() {
+        let mut tally = Tally::default();
+        let all = tally.gaps().len();
+        let allowed: usize = REFUSALS.iter().map(|rows| rows.len() + 1).sum();
+        assert_eq!(all, allowed + CASES.len());
+        tally.count(Call::Turn, Answer::refused(11));
+        assert_eq!(tally.gaps().len(), all - 1);
+        tally.count(Call::Check, Answer::accepted([1, 0, 0]));
+        assert_eq!(tally.gaps().len(), all - 3);
+        tally.count(Call::Turn, Answer::refused(5));
+        assert!(tally.gaps().contains(&String::from("turn met 5")));
+    }
+}
