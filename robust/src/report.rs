@@ -2,7 +2,11 @@
 
 use crate::judge::{Difference, Judge};
 use crate::round::{opened, Failure};
+use compare::graph::SEATS;
+use compare::lent;
+use compare::lent::place::{ENTRIES_AT, ENTRY, PENDING_AT};
 use compare::shrink::shrink;
+use std::collections::BTreeMap;
 use std::fmt::Write as _;
 use std::path::Path;
 use std::time::{Duration, Instant};
@@ -12,38 +16,52 @@ use std::{fs, io, mem};
 const SHRINK_TIME: Duration = Duration::from_secs(20);
 
 /// Puts as many bytes as possible back to what open writes, as long as the call
-/// shows a difference of the same sort.
+/// shows a difference of the same sort: byte by byte, then whole entries.
 pub fn shrunk(judge: &mut Judge, failure: &Failure) -> Failure {
-    let start = opened();
-    let Failure { call, fill, .. } = *failure;
     let mut small = Failure {
         record: failure.record.clone(),
         ..*failure
     };
-    if failure.record.len() != start.len() {
-        return small;
+    if small.record.len() == lent::SIZE {
+        let until = Instant::now() + SHRINK_TIME;
+        let each = |place| place;
+        let by_entry = |place| match place {
+            ENTRIES_AT..PENDING_AT => (place - ENTRIES_AT) / ENTRY,
+            other => other + SEATS,
+        };
+        shrink_by(each, judge, &mut small, until);
+        shrink_by(by_entry, judge, &mut small, until);
+        shrink_by(each, judge, &mut small, until);
     }
-    let differs = |at: &usize| failure.record[*at] != start[*at];
-    let places: Vec<usize> = (0..start.len()).filter(differs).collect();
-    let begun = Instant::now();
-    let mut fails = |kept: &[usize]| {
-        let record = with(&start, kept, &failure.record);
-        let same = same_sort(judge, &record, &small);
-        if let Some(difference) = same {
-            small = Failure {
-                record,
-                call,
-                fill,
-                difference,
-            };
-        }
-        same.is_some() && begun.elapsed() < SHRINK_TIME
-    };
-    shrink(&places, &mut fails);
     small
 }
 
-fn with(start: &[u8], places: &[usize], record: &[u8]) -> Vec<u8> {
+/// Puts back all bytes of a group together; `group` names that of a place.
+fn shrink_by(
+    group: impl Fn(usize) -> usize,
+    judge: &mut Judge,
+    small: &mut Failure,
+    until: Instant,
+) {
+    let start = opened();
+    let mut groups: BTreeMap<usize, Vec<usize>> = BTreeMap::new();
+    for place in (0..start.len()).filter(|&place| small.record[place] != start[place]) {
+        groups.entry(group(place)).or_default().push(place);
+    }
+    let groups: Vec<Vec<usize>> = groups.into_values().collect();
+    let mut fails = |kept: &[Vec<usize>]| {
+        let record = with(&start, kept.iter().flatten(), &small.record);
+        let Some(difference) = same_sort(judge, &record, small) else {
+            return false;
+        };
+        small.record = record;
+        small.difference = difference;
+        Instant::now() < until
+    };
+    shrink(&groups, &mut fails);
+}
+
+fn with<'a>(start: &[u8], places: impl Iterator<Item = &'a usize>, record: &[u8]) -> Vec<u8> {
     let mut with = start.to_vec();
     for &place in places {
         with[place] = record[place];
