@@ -14,7 +14,7 @@ pub struct Times {
     pub pass: f64,
 }
 
-const TURNS: usize = 400;
+const TURNS: usize = 1000;
 /// What is timed at once takes about as long as so many calls.
 const CALLS: usize = 32;
 
