@@ -69,7 +69,9 @@ fn main() -> ExitCode {
     print!("{tally}");
     let seconds = start.elapsed().as_secs_f64();
     let (calls, passed) = (tally.total(), rounds.end - rounds.start);
-    println!("{calls} calls in {passed} rounds, {seconds:.1} seconds; a round passes when each of its calls does");
+    let on_model = tally.on_model;
+    println!("{calls} calls, {on_model} of them on the model too, {seconds:.1} seconds");
+    println!("{passed} rounds of {CALLS} calls; a round passes when each of its calls does");
     let gaps = tally.gaps();
     if calls >= DEFAULT_CALLS && !gaps.is_empty() {
         println!("{}", gaps.join(", "));

@@ -97,6 +97,7 @@ impl Round<'_> {
         if let (Ok(answer), true) = (made, self.random.one_in(MODEL)) {
             let tied = self.judge.tie_to_model(record, call, answer);
             made = tied.map(|()| answer);
+            self.tally.on_model += 1;
         }
         match made {
             Ok(answer) => {

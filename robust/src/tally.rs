@@ -26,6 +26,8 @@ const CASES: [&str; 13] = [
 pub struct Tally {
     calls: [[u64; ANSWERS]; NAMES.len()],
     cases: [u64; CASES.len()],
+    /// Calls that were made on the model too.
+    pub on_model: u64,
 }
 
 impl Tally {
