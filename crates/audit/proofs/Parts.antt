@@ -19,7 +19,8 @@ use Rattle.record.specs.Reading.{sideOfNumber}
 use Rattle.search.specs.Check.{sameLink}
 use Rattle.search.proofs.LocalCheck.{backOf, leftmost, follow, upOn}
 use Rattle.roster.proofs.Bytes.{clearing-byte, seated-byte, stays-byte}
-use Rattle.audit.proofs.Read.{linkOf-some, linkOf-none, link-read, link-back}
+use Rattle.record.proofs.Links.{linkOf-some, linkOf-none, link-read}
+use Rattle.audit.proofs.Read.{link-back}
 
 -- two links by their bytes
 same-seat : (y x : ℕ) → x < seats → sameLink (linkOf y) (some x) ≡ eqb y x

@@ -1,38 +1,15 @@
--- Links of the meaning, from what code reads. Assumes nothing.
-use Prim.Native.Nat.{ℕ, zero, suc, _+_, _-_, _*_, _≤_, _<_}
-use mathlib.Core.Path.{_≡_, refl, sym, ap, _∙_}
-use mathlib.Core.Option.{none, some}
+-- A link back, from what code reads. Assumes nothing.
+use Prim.Native.Nat.{ℕ, _+_, _-_, _*_, _<_}
+use mathlib.Core.Path.{_≡_}
 use mathlib.Core.List.{List}
 use native.Mathlib.Omega.{arith}
 use lib.ListN.{getD}
-use borrow.Author.Tests.{lt-ltb, le-ltb}
 use Rattle.graph.specs.Side.{opp}
 use Rattle.record.specs.Layout.{seats, levels, entryAt}
 use Rattle.record.specs.Meaning.{linkOf, meaning}
 use Rattle.record.specs.Reading.{sideOfNumber}
-use Rattle.record.proofs.Places.{sideNumber-side}
-use Rattle.record.proofs.Form.{meaning-link}
-
--- a link's byte
-pub linkOf-some : (y : ℕ) → y < seats → linkOf y ≡ some y
-unfolding linkOf
-linkOf-some y q = rw (lt-ltb y seats q)
-
-pub linkOf-none : (y : ℕ) → seats ≤ y → linkOf y ≡ none
-unfolding linkOf
-linkOf-none y q = rw (le-ltb y seats q)
-
--- the other side, by number
-opp-side : (d : ℕ) → d < 2 → opp (sideOfNumber d) ≡ sideOfNumber (1 - d)
-opp-side zero h = refl
-opp-side (suc zero) h = refl
-opp-side (suc (suc d)) h = absurd (omega arith)
-
-pub link-read : (l : List ℕ) (s k d y : ℕ) → s < seats → k < levels → d < 2 → y ≡ getD l (entryAt s + 10 + 2 * k + d) 0
-    → meaning l .link s k (sideOfNumber d) ≡ linkOf y
-link-read l s k d y h g b e =
-    meaning-link l s k (sideOfNumber d) h g ∙ ap (λ (n : ℕ). linkOf (getD l (entryAt s + 10 + 2 * k + n) 0)) (sideNumber-side d b) ∙ ap linkOf (sym e)
+use Rattle.record.proofs.Links.{side-opp, link-read}
 
 pub link-back : (l : List ℕ) (s k d y : ℕ) → s < seats → k < levels → d < 2 → y ≡ getD l (entryAt s + 10 + 2 * k + (1 - d)) 0
     → meaning l .link s k (opp (sideOfNumber d)) ≡ linkOf y
-link-back l s k d y h g b e = rw (opp-side d b) (link-read l s k (1 - d) y h g (omega arith) e)
+link-back l s k d y h g b e = rw (← side-opp d b) (link-read l s k (1 - d) y h g (omega arith) e)

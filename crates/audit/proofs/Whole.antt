@@ -3,10 +3,10 @@ use Prim.Native.Nat.{ℕ, zero, suc}
 use mathlib.Core.Path.{_≡_, refl, sym, ap, _∙_}
 use mathlib.Core.Logic.{_≢_}
 use mathlib.Core.Bool.{Bool, true, not, _&&_, _||_}
-use mathlib.Core.List.{List, [], _∷_}
-use lib.Dec.{eqb, leb}
+use mathlib.Core.List.{List}
+use lib.Dec.{leb}
 use lib.ListN.{length}
-use borrow.Author.Tests.{eqb-true, eq-eqb, ne-eqb, not-false}
+use borrow.Author.Tests.{eq-eqb, ne-eqb}
 use Rattle.memory.specs.Bytes.{AreBytes}
 use Rattle.memory.proofs.Cases.{and-assoc}
 use Rattle.graph.specs.Side.{onSide}
@@ -17,16 +17,16 @@ use Rattle.graph.proofs.Order.{on-lt}
 use Rattle.protocol.specs.State.{members}
 use Rattle.protocol.specs.Sound.{Sound, pairOk, linkOk}
 use Rattle.protocol.proofs.Reached.{members-laws}
-use Rattle.protocol.proofs.Calls.{no-row}
 use Rattle.record.specs.Layout.{seats, size}
 use Rattle.record.specs.Meaning.{rosterIn, meaning}
 use Rattle.record.specs.Sound.{sound}
-use Rattle.record.specs.Reading.{recordRefusal, unsound}
+use Rattle.record.specs.Reading.{recordRefusal}
 use Rattle.record.proofs.Sound.{sound-is}
 use Rattle.search.specs.Check.{every, check}
 use Rattle.search.proofs.Count.{count}
 use Rattle.search.proofs.LocalCheck.{backAt, leftmost, upAt, lotOk, localCheck}
 use Rattle.search.proofs.Local.{Sided, local-check}
+use Rattle.record.proofs.Refused.{record-passed}
 use Rattle.audit.specs.Check.{checkIn}
 use Rattle.audit.specs.Answer.{verdictOf, answered}
 use Rattle.audit.specs.declared.Verdict.the-variants.{Refused}
@@ -42,14 +42,6 @@ local-parts N W G L =
     let ups = every N (λ x. not (G .member x) || every W (upAt N W G L x)) in
     rw (every-parts N (G .member) (λ x. every (suc W) (backAt G L x)) (λ x. every W (upAt N W G L x)))
     (and-assoc backs ups (leb (count N (leftmost G L)) 1))
-
--- a record that refusals 1 and 2 pass
-pub passed : (l : List ℕ) {n : ℕ} → n ≡ recordRefusal l → n ≡ 0 → (length l ≡ size) × (sound l ≡ true)
-unfolding recordRefusal
-passed l e z =
-    let p = no-row 0 (not (eqb (length l) size)) (unsound l ∷ []) (sym e ∙ z) in
-    let q = no-row 1 (not (sound l)) [] (p .1) in
-    (eqb-true (length l) size (not-false (eqb (length l) size) (p .0)), not-false (sound l) (q .0))
 
 module _ (l : List ℕ) (e : length l ≡ size) (b : AreBytes l) (s : sound l ≡ true) where
   pub bytes-sound : Sound seats width (meaning l)
@@ -87,4 +79,4 @@ module _ (l : List ℕ) (n : ℕ) (e : n ≡ recordRefusal l) where
   -- from what the test of the links answered
   pub answer : AreBytes l → n ≡ 0 → {r : Bool} → r ≡ localCheck seats width (members (rosterIn l)) (meaning l .link)
       → verdictOf 0 r ≡ answered (checkIn l)
-  answer b z q = let (size, fine) = passed l e z in ap (verdictOf 0) (q ∙ local-right l size b fine) ∙ sym (check-answer z)
+  answer b z q = let p = record-passed l e z in ap (verdictOf 0) (q ∙ local-right l (p .sized) b (p .fine)) ∙ sym (check-answer z)

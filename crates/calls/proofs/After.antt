@@ -24,7 +24,7 @@ use Rattle.record.proofs.Pending.{after-nothing}
 use Rattle.record.proofs.Update.{withState, withPending, bytes-withState}
 use Rattle.record.proofs.Sent.{bytes-withMessage}
 use Rattle.record.proofs.Entry.{withLot, bytes-withLot-unlinked}
-use Rattle.calls.proofs.Accepted.{Accepted}
+use Rattle.outcome.proofs.Accepted.{Accepted}
 
 -- the bytes with a staying lot on seat s
 abbrev pub withLotBytes : List ℕ → (s n v : ℕ) → List ℕ

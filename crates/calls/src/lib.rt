@@ -10,7 +10,7 @@ ghost use Rattle.memory.specs.Bits.{setBit};
 ghost use Rattle.graph.specs.Vector.{width};
 ghost use Rattle.protocol.specs.Message.{meet};
 ghost use Rattle.protocol.specs.Numbering.{any, place};
-ghost use Rattle.protocol.specs.State.{isFree, seated, leaves};
+ghost use Rattle.protocol.specs.State.{isFree, seated};
 ghost use Rattle.protocol.specs.Table.{join as joining, leave as leaving, noContact, refusal};
 ghost use Rattle.protocol.specs.Calls.{accept};
 ghost use Rattle.record.specs.Layout.{seats, levels, size, stateAt, numberFrom, vectorAt, pendingFrom};
@@ -18,40 +18,22 @@ ghost use Rattle.record.specs.Meaning.{rosterIn, meaning, bytesOf};
 ghost use Rattle.outcome.specs.Made.{madeRefusal, made};
 ghost use Rattle.outcome.specs.Answer.{told, answered};
 use outcome::Answer;
+use record::LEAVING;
 use record::LEVELS;
 use record::NONE;
 use record::SEATS;
+use record::STAYING;
+use record::refusals::ALREADY_LEAVING;
+use record::refusals::CLEARING;
+use record::refusals::EMPTY_SEAT;
+use record::refusals::NO_CONTACT;
+use record::refusals::NO_SUCH_SEAT;
+use record::refusals::NUMBER_IN_USE;
+use record::refusals::SEAT_TAKEN;
 use roster::is_clearing;
+use roster::is_leaving;
 use roster::is_seated;
 use soundness::record_refusal;
-
-// The states of a seated lot.
-const STAYING: u8 = 1;
-
-const LEAVING: u8 = 2;
-
-// The refusals of the table.
-const NO_SUCH_SEAT: u8 = 3;
-
-const SEAT_TAKEN: u8 = 4;
-
-const NUMBER_IN_USE: u8 = 5;
-
-const NO_CONTACT: u8 = 6;
-
-const CLEARING: u8 = 7;
-
-const EMPTY_SEAT: u8 = 8;
-
-const ALREADY_LEAVING: u8 = 9;
-
-// Whether the lot on seat s is leaving. A state that is none of the three is read as leaving.
-fn is_leaving(rec: &[u8], s: usize) -> bool
-    requires { ⌜ (length (now rec) ≡ size) × (s < seats) ⌝ }
-    ensures { λ r. ⌜ r ≡ leaves (rosterIn (now (rec .entry))) s ⌝ }
-{
-    record::state(rec, s) > STAYING
-}
 
 // Whether some lot is seated.
 fn any_seated(rec: &[u8]) -> bool

@@ -4,11 +4,11 @@ use Prim.Native.Nat.{ℕ, _<_}
 use mathlib.Core.Path.{_≡_, refl, sym, ap, _∙_}
 use mathlib.Core.Logic.{⊎-elim}
 use mathlib.Core.Option.{Option, none, some}
-use mathlib.Core.Bool.{Bool, true, false, not, _&&_, _||_}
-use mathlib.Core.List.{List, [], _∷_}
+use mathlib.Core.Bool.{not, _&&_, _||_}
+use mathlib.Core.List.{List}
 use native.Mathlib.Omega.{arith}
-use lib.Dec.{T, eqb}
-use lib.ListN.{length, getD}
+use lib.Dec.{T}
+use lib.ListN.{getD}
 use Rattle.memory.specs.Bytes.{AreBytes}
 use Rattle.memory.specs.Bits.{bitSet}
 use Rattle.graph.specs.Side.{Side}
@@ -17,7 +17,7 @@ use Rattle.protocol.specs.Message.{Msg, Name, nameOf, named, sameMsg, among}
 use Rattle.protocol.specs.Numbering.{exists, place}
 use Rattle.protocol.specs.Rules.{Entry}
 use Rattle.protocol.specs.State.{Meaning}
-use Rattle.protocol.specs.Table.{deliver, Row, row, first, rows, isPending}
+use Rattle.protocol.specs.Table.{deliver, isPending}
 use Rattle.protocol.specs.Calls.{accept, rosterAfter, rule, unlessRefused}
 use Rattle.protocol.proofs.Message.{name-named}
 use Rattle.protocol.proofs.Numbering.{sideNumber-lt}
@@ -25,36 +25,26 @@ use Rattle.protocol.proofs.Accepted.{deliver-row}
 use Rattle.protocol.proofs.Local.{one-entry, pending-exactly}
 use Rattle.record.specs.Layout.{seats, levels, entrySize, entryAt, linkAt, pendingFrom, size}
 use Rattle.record.specs.Meaning.{meaning, bytesOf}
-use Rattle.record.specs.Sound.{sound}
-use Rattle.record.specs.Reading.{recordRefusal}
 use Rattle.record.proofs.Places.{getD-bytesOf}
 use Rattle.record.proofs.Form.{Form, meaning-pending}
 use Rattle.record.proofs.Round.{bytes-meaning, read-message}
 use Rattle.record.proofs.Frame.{Agree, frame, Outside}
 use Rattle.record.proofs.Sound.{sound-is}
+use Rattle.record.proofs.Refused.{Passed, rows-passed}
 use Rattle.outcome.specs.Made.{madeRefusal, made}
 use Rattle.outcome.proofs.Bridge.{record-accepted}
-use Rattle.delivery.proofs.Answers.{record-fine}
 
 -- an accepted call finds the record sound
-accepted-fine : (l : List ℕ) (n : Name) → made l (deliver n) .refused ≡ 0 → recordRefusal l ≡ 0
-unfolding made madeRefusal recordRefusal first
-accepted-fine l n e = by (eqb (length l) size) (sound l) e
-  where
-    rs : List Row
-    rs = rows seats width (meaning l .roster) (meaning l .pending) (deliver n)
-
-    by : (p q : Bool) → first (row 1 (not p) ∷ row 2 (not q) ∷ rs) ≡ 0 → first (row 1 (not p) ∷ row 2 (not q) ∷ []) ≡ 0
-    by true true f = refl
-    by true false f = f
-    by false q f = f
+accepted-passed : (l : List ℕ) (n : Name) → made l (deliver n) .refused ≡ 0 → Passed l
+unfolding made madeRefusal
+accepted-passed l n e = rows-passed l _ e .0
 
 -- an accepted delivery is one of a message, by its name
 pub accepted-named : (l : List ℕ) (n : Name) → made l (deliver n) .refused ≡ 0 → (m : Msg) × (nameOf m ≡ n)
 unfolding made isPending
 accepted-named l n e =
-    let f = record-fine l (accepted-fine l n e) in
-    by (named n) refl (deliver-row seats width (meaning l .roster) (meaning l .pending) n (sym (record-accepted l (f .0) (f .1) (deliver n)) ∙ e))
+    let f = accepted-passed l n e in
+    by (named n) refl (deliver-row seats width (meaning l .roster) (meaning l .pending) n (sym (record-accepted l (f .sized) (f .fine) (deliver n)) ∙ e))
   where
     by : (o : Option Msg) → named n ≡ o → T (isPending (meaning l .pending) o) → (m : Msg) × (nameOf m ≡ n)
     by none q t = absurd t
@@ -68,7 +58,7 @@ module _ (l : List ℕ) (b : AreBytes l) (m : Msg) (e : made l (deliver (nameOf 
   after = accept seats width (meaning l) (deliver (nameOf m))
 
   form : Form l
-  form = let f = record-fine l (accepted-fine l (nameOf m) e) in sound-is l (f .0) b .0 (f .1) .0
+  form = let f = accepted-passed l (nameOf m) e in sound-is l (f .sized) b .0 (f .fine) .0
 
   bytes-after : made l (deliver (nameOf m)) .bytes ≡ bytesOf (accept seats width (meaning l) (deliver (nameOf m)))
   unfolding made unlessRefused

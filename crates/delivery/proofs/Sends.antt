@@ -1,9 +1,7 @@
 -- Messages sent to a link by its byte: one if the byte is a seat, none if not. Assumes nothing.
 use Prim.Native.Nat.{ℕ, _≤_, _<_}
 use mathlib.Core.Path.{_≡_, refl}
-use mathlib.Core.Option.{none, some}
 use mathlib.Core.List.{List, _∷_}
-use borrow.Author.Tests.{lt-ltb, le-ltb}
 use Rattle.memory.specs.Bits.{setBit}
 use Rattle.graph.specs.Vector.{width}
 use Rattle.protocol.specs.Message.{Msg}
@@ -11,15 +9,8 @@ use Rattle.protocol.specs.Numbering.{place}
 use Rattle.protocol.specs.Rules.{toLink}
 use Rattle.record.specs.Layout.{seats, pendingFrom}
 use Rattle.record.specs.Meaning.{linkOf}
+use Rattle.record.proofs.Links.{linkOf-some, linkOf-none}
 use Rattle.record.proofs.Sent.{sentBits}
-
-pub link-seat : (b : ℕ) → b < seats → linkOf b ≡ some b
-unfolding linkOf
-link-seat b h = rw (lt-ltb b seats h)
-
-pub link-none : (b : ℕ) → seats ≤ b → linkOf b ≡ none
-unfolding linkOf
-link-none b h = rw (le-ltb b seats h)
 
 pub send-more : (m : Msg) (ms : List Msg) (l : List ℕ) → sentBits (m ∷ ms) l ≡ sentBits ms (setBit l pendingFrom (place seats width m))
 unfolding sentBits
@@ -28,8 +19,8 @@ send-more m ms l = refl
 module _ (z : ℕ) (f : ℕ → Msg) (l : List ℕ) where
   pub send-link : z < seats → sentBits (toLink (linkOf z) f) l ≡ setBit l pendingFrom (place seats width (f z))
   unfolding sentBits toLink
-  send-link h = rw (link-seat z h)
+  send-link h = rw (linkOf-some z h)
 
   pub send-no-link : seats ≤ z → sentBits (toLink (linkOf z) f) l ≡ l
   unfolding sentBits toLink
-  send-no-link h = rw (link-none z h)
+  send-no-link h = rw (linkOf-none z h)

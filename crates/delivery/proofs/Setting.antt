@@ -5,21 +5,22 @@ use mathlib.Core.Bool.{not, cond}
 use mathlib.Core.List.{List, [], _∷_}
 use borrow.Author.Tests.{lt-ltb}
 use lib.Dec.{eqb, ltb}
-use lib.ListN.{length, getD, set}
+use lib.ListN.{getD, set}
 use Rattle.memory.specs.Bits.{setBit}
 use Rattle.graph.specs.Vector.{width, bit}
 use Rattle.protocol.specs.Message.{meet, probe, pull}
 use Rattle.protocol.specs.Numbering.{place}
 use Rattle.protocol.specs.Rules.{toLink, setting}
 use Rattle.protocol.specs.State.{entry}
-use Rattle.record.specs.Layout.{seats, pendingFrom, size, linkAt, vectorAt}
+use Rattle.record.specs.Layout.{seats, pendingFrom, linkAt, vectorAt}
 use Rattle.record.specs.Meaning.{meaning, linkOf}
 use Rattle.record.specs.Reading.{sideOfNumber}
 use Rattle.record.proofs.Sent.{sentBits, sentBits-append}
 use Rattle.record.proofs.Form.{meaning-vector}
+use Rattle.record.proofs.Links.{side-opp}
 use Rattle.delivery.specs.Done.{changed, done}
 use Rattle.delivery.proofs.Sends.{send-more}
-use Rattle.delivery.proofs.Sides.{side-opp, bit-not}
+use Rattle.delivery.proofs.Sides.{bit-not}
 
 -- PROBE and PULL after a set below the highest level: b is the bit of `to`, x the record with the PROBE sent, y with the PULL
 pub spread-sent : (l : List ℕ) (to about v other d : ℕ) {x y : List ℕ} {level i b : ℕ} → level < width

@@ -5,18 +5,10 @@ use mathlib.Core.Bool.{not}
 use mathlib.Core.List.{List}
 use native.Mathlib.Omega.{arith}
 use lib.Dec.{eqb}
-use Rattle.graph.specs.Side.{opp}
 use Rattle.graph.specs.Vector.{sameBit}
 use Rattle.protocol.specs.Rules.{isStaying}
 use Rattle.protocol.specs.State.{stays}
 use Rattle.record.specs.Meaning.{rosterIn, meaning}
-use Rattle.record.specs.Reading.{sideOfNumber}
-
--- the other side
-pub side-opp : (n : ℕ) → n < 2 → sideOfNumber (1 - n) ≡ opp (sideOfNumber n)
-side-opp zero h = refl
-side-opp (suc zero) h = refl
-side-opp (suc (suc n)) h = absurd (omega arith)
 
 -- the other bit
 pub bit-not : (n : ℕ) → n < 2 → eqb (1 - n) 1 ≡ not (eqb n 1)

@@ -14,18 +14,20 @@ use Rattle.record.specs.Layout.{messages, pendingFrom, size}
 use Rattle.record.specs.Meaning.{meaning}
 use Rattle.record.specs.Reading.{recordRefusal}
 use Rattle.record.proofs.Sound.{sound-is}
+use Rattle.record.proofs.Refused.{record-passed}
 use Rattle.outcome.specs.Made.{made}
 use Rattle.outcome.specs.Answer.{told, answered}
 use Rattle.outcome.specs.declared.Answer.the-variants.{Done, Refused}
+use Rattle.outcome.proofs.Accepted.{record-refused}
 use Rattle.places.specs.Places.{placeOf, isMessage}
 use Rattle.delivery.specs.Done.{ruled}
 use Rattle.places.proofs.Placed.{place-message, message-place, pending-bit, no-place}
-use Rattle.delivery.proofs.Answers.{record-refused, record-fine, not-pending, delivered}
+use Rattle.delivery.proofs.Answers.{not-pending, delivered}
 use Rattle.delivery.proofs.Delivered.{deliver-bytes}
 
 module _ (l : List ℕ) (n : Name) (r : ℕ) (er : r ≡ recordRefusal l) where
   pub refuse-record : r ≢ 0 → told (Refused r) l ≡ answered (made l (deliver n))
-  refuse-record ne = rw er (record-refused l (deliver n) (λ q. ne (er ∙ q)))
+  refuse-record ne = record-refused l (deliver n) er ne
 
   module _ (zero-r : r ≡ 0) (i : ℕ) (ei : i ≡ placeOf (named n)) where
     fine : recordRefusal l ≡ 0
@@ -39,7 +41,7 @@ module _ (l : List ℕ) (n : Name) (r : ℕ) (er : r ≡ recordRefusal l) where
       is-message = place-message (named n) (λ q. ne (ei ∙ q))
 
       pub place-fits : (length l ≡ size) × (i < messages)
-      place-fits = (record-fine l fine .0, rw ei (message-place (named n) is-message))
+      place-fits = (record-passed l refl fine .sized, rw ei (message-place (named n) is-message))
 
       pub taken-fits : (x : List ℕ) → x ≡ clearBit l pendingFrom i → length x ≡ size
       taken-fits x e = ap length e ∙ simp length-set (place-fits .0)
@@ -54,8 +56,8 @@ module _ (l : List ℕ) (n : Name) (r : ℕ) (er : r ≡ recordRefusal l) where
       pub do-message : AreBytes l → bitSet l pendingFrom i ≡ true → (x y : List ℕ) → x ≡ clearBit l pendingFrom i → y ≡ ruled (named n) x
           → told Done y ≡ answered (made l (deliver n))
       do-message b e x y ex ey =
-          let f = record-fine l fine in
-          let s = sound-is l (f .0) b .0 (f .1) in
+          let f = record-passed l refl fine in
+          let s = sound-is l (f .sized) b .0 (f .fine) in
           let p : isPending (meaning l .pending) (named n) ≡ true = bit-is ∙ e in
           ap (told Done) (ey ∙ ap (ruled (named n)) (ex ∙ ap (clearBit l pendingFrom) ei) ∙ deliver-bytes (s .0) (s .1) n (named n) refl p)
           ∙ delivered l fine n p

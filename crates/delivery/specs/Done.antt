@@ -2,16 +2,14 @@
 -- handlers cite it; the contract of `deliver` does not. Assumes nothing.
 use Prim.Native.Nat.{ℕ}
 use mathlib.Core.Option.{Option, none, some}
-use mathlib.Core.Bool.{Bool, false, cond}
 use mathlib.Core.List.{List}
 use lib.ListN.{set}
 use Rattle.graph.specs.Vector.{width}
 use Rattle.protocol.specs.Message.{Msg, nameOf}
-use Rattle.protocol.specs.Numbering.{exists, place}
 use Rattle.protocol.specs.Rules.{Change, keep, Effect}
 use Rattle.protocol.specs.Rules.{set as setLink}
 use Rattle.protocol.specs.Calls.{rule}
-use Rattle.record.specs.Layout.{seats, messages, linkAt}
+use Rattle.record.specs.Layout.{linkAt}
 use Rattle.record.specs.Meaning.{meaning, linkByte}
 use Rattle.record.proofs.Sent.{sentBits}
 

@@ -18,6 +18,7 @@ mod writes;
 use outcome::Answer;
 use places::place_of;
 use record::MESSAGES;
+use record::refusals::NO_SUCH_MESSAGE;
 use rules::found;
 use rules::going;
 use rules::meet;
@@ -26,9 +27,6 @@ use rules::probe;
 use rules::pull;
 use rules::seek;
 use soundness::record_refusal;
-
-// The refusals of the table.
-const NO_SUCH_MESSAGE: u8 = 10;
 
 // The rule of the message that five numbers name.
 fn handle(rec: &mut [u8], kind: u8, to: usize, about: usize, level: usize, side: usize)

@@ -10,7 +10,7 @@ ghost use Rattle.record.specs.Meaning.{meaning, linkOf};
 ghost use Rattle.record.specs.Reading.{sideOfNumber};
 
 // The last bit of a vector; bit 0 is the highest.
-const LAST_BIT: usize = 7;
+const LAST_BIT: usize = record::WIDTH - 1;
 
 // The side of seat x on which seat y lies.
 pub fn side_of(rec: &[u8], x: usize, y: usize) -> usize

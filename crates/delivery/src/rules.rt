@@ -26,7 +26,6 @@ use crate::writes::probe_link;
 use crate::writes::pull_link;
 use crate::writes::put_link;
 use crate::writes::seek_link;
-use places::WIDTH;
 use places::found_place;
 use places::meet_place;
 use places::none_place;
@@ -34,6 +33,7 @@ use places::probe_place;
 use places::seek_place;
 use record::NONE;
 use record::SEATS;
+use record::WIDTH;
 use roster::is_staying;
 
 // 1 MEET, after a set below the highest level: PROBE to `about`, and PULL to the link on the other side, along that side, for the opposite

@@ -29,12 +29,12 @@ use Rattle.reading.specs.declared.MessageRead.{MessageRead}
 use Rattle.reading.specs.declared.MessageRead.the-variants as message
 use Rattle.reading.specs.declared.CountsRead.{CountsRead}
 use Rattle.reading.specs.declared.CountsRead.the-variants as counts
-use Rattle.find.specs.Find.{FindAnswer, findIn}
+use Rattle.find.specs.Find.{FindAnswer}
 use Rattle.find.specs.Answer.{heldBy, foundOf}
 use Rattle.find.specs.Answer as find
 use Rattle.find.specs.declared.Found.{Found}
 use Rattle.find.specs.declared.Found.the-variants as found
-use Rattle.audit.specs.Check.{CheckAnswer, checkIn}
+use Rattle.audit.specs.Check.{checkIn}
 use Rattle.audit.specs.Answer.{verdictOf}
 use Rattle.audit.specs.Answer as audit
 use Rattle.audit.specs.declared.Verdict.{Verdict}

@@ -1,7 +1,7 @@
 // The search for the lot of a scanned number over a lent record (document 01, "Find"): from the top level toward the number, a level down
 // where the link is none or lies beyond it, and at the end the lot that is not above it.
 ghost use mathlib.Core.Path.{_≡_};
-ghost use Prim.Native.Nat.{ℕ, _+_, _^_, _<_};
+ghost use Prim.Native.Nat.{_+_, _^_, _<_};
 ghost use lib.Dec.{T};
 ghost use Rattle.graph.specs.Vector.{width};
 ghost use Rattle.protocol.specs.State.{seated};

@@ -1,7 +1,7 @@
 // Numbers and bits in lent bytes. A number is written highest byte first. Bit i of the bitmap at `base` is bit i % 8, the lowest is 0,
 // of byte base + i / 8. Each function asks that what it reads or writes lies within the bytes.
 ghost use mathlib.Core.Path.{_≡_};
-ghost use Prim.Native.Nat.{ℕ, _+_, _-_, _*_, _/_, _%_, _≤_, _<_};
+ghost use Prim.Native.Nat.{_+_, _-_, _*_, _/_, _%_, _≤_, _<_};
 ghost use lib.ListN.{length};
 ghost use Rattle.memory.specs.Loops.{firstFrom, count as countOf};
 ghost use Rattle.memory.specs.Bytes.{numberAt, putNumber, digit, nonZero, zeros};

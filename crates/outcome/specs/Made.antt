@@ -5,7 +5,6 @@ use mathlib.Core.List.{List, _∷_}
 use Rattle.graph.specs.Vector.{width}
 use Rattle.protocol.specs.Table.{Call, first, rows}
 use Rattle.protocol.specs.Calls.{accept, unlessRefused}
-use Rattle.protocol.specs.State.{Meaning}
 use Rattle.record.specs.Layout.{seats}
 use Rattle.record.specs.Meaning.{meaning, bytesOf}
 use Rattle.record.specs.Reading.{wrongSize, unsound}

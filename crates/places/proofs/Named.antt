@@ -4,7 +4,6 @@ use mathlib.Core.Path.{_≡_, refl}
 use mathlib.Core.Logic.{_≢_}
 use mathlib.Core.Option.{Option, none, some}
 use mathlib.Core.Bool.{Bool, true, false, cond, _&&_}
-use mathlib.Core.List.{List}
 use native.Mathlib.Omega.{arith}
 use lib.Dec.{T, eqb, ltb, ltb→lt}
 use borrow.Author.Tests.{ne-eqb, le-ltb}
@@ -13,9 +12,7 @@ use Rattle.graph.specs.Vector.{width}
 use Rattle.graph.proofs.Tests.{and-fst, and-snd}
 use Rattle.protocol.specs.Message.{Msg, meet, probe, pull, going, seek, found, none-found, name, ifZero, ifBit, named, bitNumber}
 use Rattle.protocol.specs.Numbering.{exists, place}
-use Rattle.protocol.specs.Calls.{rule}
 use Rattle.record.specs.Layout.{seats, messages}
-use Rattle.record.specs.Meaning.{meaning}
 use Rattle.record.specs.Reading.{sideOfNumber}
 use Rattle.places.specs.Places.{placeOf, isMessage}
 

@@ -12,9 +12,7 @@ ghost use Rattle.places.specs.Places.{placeOf};
 use record::LEVELS;
 use record::MESSAGES;
 use record::SEATS;
-
-// The levels of PROBE and PULL: the width of the vectors.
-pub const WIDTH: usize = 8;
+use record::WIDTH;
 
 // How many messages name two lots and a level, or a lot, a level and a side; and how many PULL there are.
 const PAIRS: usize = SEATS * SEATS * LEVELS;

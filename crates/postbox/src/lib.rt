@@ -15,20 +15,18 @@ use record::LEVELS;
 use record::MESSAGES;
 use record::PENDING;
 use record::SEATS;
+use record::WIDTH;
 use roster::is_clearing;
 use roster::is_seated;
 use roster::is_staying;
 use roster::pair_fits;
 
-// The levels of PROBE and PULL, one less than those of the other kinds.
-const BELOW: usize = LEVELS - 1;
-
 // How many messages a kind has: MEET, SEEK and FOUND; PROBE; PULL; GOING and NONE.
 const MEETS: usize = SEATS * SEATS * LEVELS;
 
-const PROBES: usize = SEATS * SEATS * BELOW;
+const PROBES: usize = SEATS * SEATS * WIDTH;
 
-const PULLS: usize = SEATS * 2 * BELOW * 2;
+const PULLS: usize = SEATS * 2 * WIDTH * 2;
 
 const GOINGS: usize = SEATS * LEVELS * 2;
 
@@ -95,11 +93,11 @@ fn message_fits(rec: &[u8], i: usize) -> bool
     }
     let p = i - MEETS;
     if p < PROBES {
-        return probe_fits(rec, p / BELOW / SEATS, p / BELOW % SEATS, p % BELOW);
+        return probe_fits(rec, p / WIDTH / SEATS, p / WIDTH % SEATS, p % WIDTH);
     }
     let q = p - PROBES;
     if q < PULLS {
-        return pull_fits(rec, q / 2 / BELOW / 2, q / 2 % BELOW);
+        return pull_fits(rec, q / 2 / WIDTH / 2, q / 2 % WIDTH);
     }
     let g = q - PULLS;
     if g < GOINGS {

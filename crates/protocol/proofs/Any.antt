@@ -1,12 +1,13 @@
 -- A test of every number below n. Assumes nothing.
-use Prim.Native.Nat.{ℕ, zero, suc, _<_}
-use mathlib.Core.Path.{_≡_, subst}
+use Prim.Native.Nat.{ℕ, zero, suc, _+_, _<_}
+use mathlib.Core.Path.{_≡_, refl, subst}
 use mathlib.Core.Logic.{_⊎_, inl, inr}
-use mathlib.Core.Bool.{Bool, false, _||_}
+use mathlib.Core.Bool.{Bool, true, false, _||_}
+use native.Mathlib.Numerals.{add-one}
 use native.Mathlib.Omega.{arith}
 use native.Mathlib.Decide.{ℕ-discrete}
 use lib.Dec.{T}
-use Rattle.graph.proofs.Tests.{or-cases, or-left, or-right, false-T, not-T-false}
+use Rattle.graph.proofs.Tests.{or-cases, or-left, or-right, T-true, true-T, false-T, not-T-false}
 use Rattle.protocol.specs.Numbering.{any}
 
 pub any-in : (n : ℕ) (p : ℕ → Bool) (i : ℕ) → i < n → T (p i) → T (any n p)
@@ -32,3 +33,20 @@ any-none n p e i l t = false-T e (any-in n p i l t)
 
 pub none-any : (n : ℕ) (p : ℕ → Bool) → ((i : ℕ) → i < n → T (p i) → ⊥) → any n p ≡ false
 none-any n p h = not-T-false (λ t. let r = any-out n p t in h (r .0) (r .1) (r .2))
+
+-- the steps of a loop that looks for one that passes: before the first, past one more, at one
+pub any-start : (p : ℕ → Bool) → any 0 p ≡ false
+unfolding any
+any-start p = refl
+
+pub any-more : (n : ℕ) (p : ℕ → Bool) → any n p ≡ false → p n ≡ false → any (n + 1) p ≡ false
+unfolding any
+any-more n p e f = rw (add-one, f, e)
+
+pub any-here : (n i : ℕ) (p : ℕ → Bool) → i < n → p i ≡ true → any n p ≡ true
+any-here n i p h t = T-true {b = any n p} (any-in n p i h (true-T {b = p i} t))
+
+pub any-same : (n : ℕ) (p q : ℕ → Bool) → ((i : ℕ) → i < n → p i ≡ q i) → any n p ≡ any n q
+unfolding any
+any-same zero p q h = refl
+any-same (suc n) p q h = rw (h n (omega arith), any-same n p q (λ i l. h i (omega arith)))

@@ -7,9 +7,9 @@ use mathlib.Core.Bool.{Bool, true, false}
 use mathlib.Core.List.{List, [], _∷_}
 use Rattle.graph.specs.Side.{Side, left, right, onSide, sideOf}
 use Rattle.graph.specs.Vector.{bit, equalBits, shared}
-use Rattle.protocol.specs.Message.{Msg, meet, probe, Name, name, nameOf, ifZero, ifBit, named, sameMsg, among}
+use Rattle.protocol.specs.Message.{meet, probe, name, nameOf, ifZero, ifBit, named, sameMsg, among}
 use Rattle.protocol.specs.Numbering.{any, count, pairAt, pullAt, sideAt, split, messageAt, somePending}
-use Rattle.protocol.specs.Rules.{Entry, staying, Effect, keep, set, toLink}
+use Rattle.protocol.specs.Rules.{Entry, staying, keep, set, toLink}
 use Rattle.protocol.specs.Rules.{setting, meeting, probing, pulling, parting, passing, seeking, effect}
 use Rattle.protocol.specs.State.{Meaning, nobody, opened}
 use Rattle.protocol.specs.Table.{Call, join, leave, deliver, turn, first, isPending, rows, refusal}

@@ -1,81 +1,48 @@
 -- The refusals of the readings, row after row, and what holds where no row applies. Assumes nothing.
-use Prim.Native.Nat.{ℕ, suc, _<_}
+use Prim.Native.Nat.{ℕ, _<_}
 use mathlib.Core.Path.{_≡_, refl, sym, ap, _∙_}
-use mathlib.Core.Logic.{_≢_}
-use mathlib.Core.Bool.{Bool, true, false, not, cond, _||_}
-use mathlib.Core.List.{List, [], _∷_, _++_}
+use mathlib.Core.Bool.{Bool, true, false, not, _||_}
+use mathlib.Core.List.{List, [], _∷_}
 use native.Mathlib.Omega.{arith}
-use lib.Dec.{T, eqb, ltb}
-use lib.ListN.{length}
-use borrow.Author.Tests.{lt-ltb, eqb-true, ltb-true, not-false}
+use lib.Dec.{T, ltb}
+use borrow.Author.Tests.{lt-ltb, ltb-true, not-false}
 use Rattle.graph.proofs.Tests.{true-T}
 use Rattle.protocol.specs.State.{isFree, seated}
-use Rattle.protocol.specs.Table.{Row, row, first}
+use Rattle.protocol.specs.Table.{Row, first}
 use Rattle.protocol.proofs.Calls.{no-row}
-use Rattle.record.specs.Layout.{seats, levels, size}
+use Rattle.record.specs.Layout.{seats, levels}
 use Rattle.record.specs.Meaning.{rosterIn}
-use Rattle.record.specs.Sound.{sound}
-use Rattle.record.specs.Reading.{wrongSize, unsound, noSuchSeat, noSuchLevel, emptySeat, recordRefusal, lotRefusal, linkRefusal}
+use Rattle.record.specs.Reading.{wrongSize, unsound, noSuchSeat, noSuchLevel, emptySeat, lotRefusal, linkRefusal}
 use Rattle.record.proofs.Reading.{lotRefusal-is, linkRefusal-is}
-
--- n is what the first rows gave: a refusal, and the rows after them do not matter
-stops : (b : Bool) (k m p : ℕ) {n : ℕ} → (n ≡ m → n ≡ p) → n ≡ cond b k m → n ≡ cond b k p
-stops true k m p f e = e
-stops false k m p f e = f e
-
-pub first-stops : (rs ss : List Row) {n : ℕ} → n ≡ first rs → n ≢ 0 → n ≡ first (rs ++ ss)
-unfolding first
-first-stops [] ss e h = absurd (h e)
-first-stops (r ∷ rs) ss e h = stops (r .applies) (r .number) (first rs) (first (rs ++ ss)) (λ z. first-stops rs ss z h) e
-
--- or 0, and the rows after it decide
-pub first-goes : (k : ℕ) (b : Bool) (rs : List Row) {n : ℕ} → n ≡ first (row (suc k) b ∷ []) → n ≡ 0 → first (row (suc k) b ∷ rs) ≡ first rs
-unfolding first
-first-goes k b rs e z = rw (no-row k b [] (sym e ∙ z) .0)
+use Rattle.record.proofs.Refused.{Passed, rows-passed}
 
 or-false : (a b : Bool) → a || b ≡ false → (a ≡ false) × (b ≡ false)
 or-false true b e = absurd (let z : _≡_ {A = ℕ} 0 1 = cc in omega arith)
 or-false false b e = (refl, e)
 
--- a record that no call refuses
-pub record Accepted (l : List ℕ) : Type 0 where
-  pub sized : length l ≡ size
-  pub fine : sound l ≡ true
-
--- a lot of such a record
+-- a lot of a record that 1 and 2 let pass
 pub record Lot (l : List ℕ) (s : ℕ) : Type 0 where
-  pub accepted : Accepted l
+  pub accepted : Passed l
   pub seat : s < seats
   pub lot : T (seated (rosterIn l) s)
 
 module _ (l : List ℕ) where
-  -- neither 1 nor 2
-  rows-passed : (rs : List Row) → first (wrongSize l ∷ unsound l ∷ rs) ≡ 0 → Accepted l × (first rs ≡ 0)
-  rows-passed rs e =
-      let p = no-row 0 (not (eqb (length l) size)) (unsound l ∷ rs) e in
-      let q = no-row 1 (not (sound l)) rs (p .1) in
-      (record { sized = eqb-true (length l) size (not-false (eqb (length l) size) (p .0)); fine = not-false (sound l) (q .0) }, q .1)
-
-  pub record-passed : {n : ℕ} → n ≡ recordRefusal l → n ≡ 0 → Accepted l
-  unfolding recordRefusal
-  record-passed e z = rows-passed [] (sym e ∙ z) .0
-
   module _ (s : ℕ) where
-    -- nor 3
-    seat-rows-passed : (rs : List Row) → first (wrongSize l ∷ unsound l ∷ noSuchSeat s ∷ rs) ≡ 0 → Accepted l × (s < seats) × (first rs ≡ 0)
+    -- nor does 3 apply
+    seat-rows-passed : (rs : List Row) → first (wrongSize l ∷ unsound l ∷ noSuchSeat s ∷ rs) ≡ 0 → Passed l × (s < seats) × (first rs ≡ 0)
     seat-rows-passed rs e =
-        let p = rows-passed (noSuchSeat s ∷ rs) e in
+        let p = rows-passed l (noSuchSeat s ∷ rs) e in
         let q = no-row 2 (not (ltb s seats)) rs (p .1) in
         (p .0, ltb-true s seats (not-false (ltb s seats) (q .0)), q .1)
 
-    pub seat-passed : {n : ℕ} → n ≡ first (wrongSize l ∷ unsound l ∷ noSuchSeat s ∷ []) → n ≡ 0 → Accepted l × (s < seats)
+    pub seat-passed : {n : ℕ} → n ≡ first (wrongSize l ∷ unsound l ∷ noSuchSeat s ∷ []) → n ≡ 0 → Passed l × (s < seats)
     seat-passed e z = let p = seat-rows-passed [] (sym e ∙ z) in (p .0, p .1)
 
-    pub lot-rest : Accepted l × (s < seats) → lotRefusal l s ≡ first (emptySeat l s ∷ [])
+    pub lot-rest : Passed l × (s < seats) → lotRefusal l s ≡ first (emptySeat l s ∷ [])
     unfolding first
     lot-rest (a, h) = lotRefusal-is l (a .sized) (a .fine) s ∙ rw (lt-ltb s seats h)
 
-    pub link-rest : (k d : ℕ) → Accepted l × (s < seats) → linkRefusal l s k d ≡ first (noSuchLevel k d ∷ emptySeat l s ∷ [])
+    pub link-rest : (k d : ℕ) → Passed l × (s < seats) → linkRefusal l s k d ≡ first (noSuchLevel k d ∷ emptySeat l s ∷ [])
     unfolding first
     link-rest k d (a, h) = linkRefusal-is l (a .sized) (a .fine) s k d ∙ rw (lt-ltb s seats h)
 

@@ -27,10 +27,11 @@ use Rattle.reading.specs.declared.LinkRead.the-variants as link
 use Rattle.reading.specs.declared.MessageRead.the-variants as message
 use Rattle.reading.specs.declared.CountsRead.the-variants as counts
 use Rattle.reading.specs.Answer.{lotOf, lotAnswered, linkOf, linkAnswered, messageOf, messageAnswered, countsOf, countsAnswered}
-use Rattle.reading.proofs.Refusals.{Accepted, Lot}
+use Rattle.record.proofs.Refused.{Passed}
+use Rattle.reading.proofs.Refusals.{Lot}
 
 module _ (l : List ℕ) where
-  fits : Accepted l → Fits l
+  fits : Passed l → Fits l
   fits a = sound-fits l .0 (a .fine)
 
   -- a lot
@@ -72,7 +73,7 @@ module _ (l : List ℕ) where
   message-refused m zero e h = absurd (h refl)
   message-refused m (suc n) e h = rw (← e, ne-eqb (suc n) 0 h)
 
-  pub message-value : (m : Name) → Accepted l → message.Pending (isPending (meaning l .pending) (named m)) ≡ messageAnswered (readMessage l m)
+  pub message-value : (m : Name) → Passed l → message.Pending (isPending (meaning l .pending) (named m)) ≡ messageAnswered (readMessage l m)
   unfolding messageAnswered messageOf
   message-value m a = rw (message-read l (a .sized) (a .fine) m) (ap message.Pending (one (isPending (meaning l .pending) (named m))))
     where
@@ -86,7 +87,7 @@ module _ (l : List ℕ) where
   counts-refused zero e h = absurd (h refl)
   counts-refused (suc n) e h = rw (← e, ne-eqb (suc n) 0 h)
 
-  pub counts-values : Accepted l
+  pub counts-values : Passed l
       → counts.Counted (count seats (seated (rosterIn l))) (getD l phaseAt 0) (count messages (bitSet l pendingFrom)) ≡ countsAnswered (readCounts l)
   unfolding readCounts countsAnswered countsOf rosterIn
   counts-values a = rw (record-accepted l (a .sized) (a .fine), phaseByte-phaseOf (getD l phaseAt 0) (fits a .phase))

@@ -18,13 +18,11 @@ use places::place_of;
 use record::MESSAGES;
 use record::PENDING;
 use record::SIZE;
+use record::refusals::WRONG_SIZE;
 use rows::empty_refusal;
 use rows::level_refusal;
 use rows::seat_refusal;
 use soundness::record_refusal;
-
-// The refusal that open meets.
-const WRONG_SIZE: u8 = 1;
 
 // State, number and vector of a lot.
 pub enum LotRead {

@@ -8,14 +8,11 @@ ghost use Rattle.record.specs.Layout.{seats, size};
 ghost use Rattle.record.specs.Reading.{wrongSize, unsound, noSuchSeat, noSuchLevel, emptySeat};
 use record::LEVELS;
 use record::SEATS;
+use record::refusals::EMPTY_SEAT;
+use record::refusals::NO_SUCH_LEVEL;
+use record::refusals::NO_SUCH_SEAT;
 use roster::is_seated;
 use soundness::record_refusal;
-
-const NO_SUCH_SEAT: u8 = 3;
-
-const EMPTY_SEAT: u8 = 8;
-
-const NO_SUCH_LEVEL: u8 = 12;
 
 // The sides, left and right.
 const SIDES: usize = 2;

@@ -2,6 +2,7 @@
 pub mod Places
 pub mod Values
 pub mod Form
+pub mod Links
 pub mod Round
 pub mod Frame
 pub mod Pending
@@ -12,4 +13,5 @@ pub mod Entry
 pub mod Clauses
 pub mod Sound
 pub mod Opened
+pub mod Refused
 pub mod Reading

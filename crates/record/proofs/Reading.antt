@@ -7,7 +7,7 @@ use mathlib.Core.Bool.{true, false, not}
 use mathlib.Core.List.{List, [], _∷_}
 use lib.Dec.{T}
 use lib.ListN.{length}
-use borrow.Author.Tests.{lt-ltb, eq-eqb, not-true}
+use borrow.Author.Tests.{lt-ltb, not-true}
 use Rattle.memory.specs.Loops.{oneIf, all}
 use Rattle.memory.specs.Loops.{count as howMany}
 use Rattle.memory.specs.Bytes.{AreBytes, zeros}
@@ -22,16 +22,17 @@ use Rattle.graph.proofs.Tests.{T-true}
 use Rattle.protocol.specs.Message.{Msg, Name, nameOf, named, sideNumber}
 use Rattle.protocol.specs.Numbering.{place, messageAt, somePending}
 use Rattle.protocol.specs.State.{Meaning, isFree, seated}
-use Rattle.protocol.specs.Table.{Row, first, isPending}
+use Rattle.protocol.specs.Table.{first, isPending}
 use Rattle.protocol.proofs.Message.{named-name}
 use Rattle.protocol.proofs.Numbering.{sideNumber-lt, messageAt-place, none-pending, pending-none}
 use Rattle.record.specs.Layout.{seats, levels, messages, pendingFrom, pendingSize, size}
 use Rattle.record.specs.Meaning.{meaning, rosterIn, phaseByte, stateByte, linkByte}
 use Rattle.record.specs.Sound.{sound}
-use Rattle.record.specs.Reading.{wrongSize, unsound, noSuchSeat, emptySeat, noSuchLevel}
+use Rattle.record.specs.Reading.{noSuchSeat, emptySeat, noSuchLevel}
 use Rattle.record.specs.Reading.{lotRefusal, linkRefusal, recordRefusal, readLot, readLink, readMessage, readCounts}
 use Rattle.record.proofs.Places.{place-within, exists-at, side-sideNumber}
 use Rattle.record.proofs.Form.{meaning-pending, meaning-bit}
+use Rattle.record.proofs.Refused.{Passed, record-goes}
 
 -- how many messages are pending
 abbrev pub pendingCount : Meaning → ℕ
@@ -72,22 +73,21 @@ module _ (l : List ℕ) where
           bits ∙ all-from messages _ (λ i h. ap not (sym (meaning-bit l i h) ∙ quiet (messageAt seats width i) (exists-at i h)))
 
 module _ (l : List ℕ) (e : length l ≡ size) (s : sound l ≡ true) where
-  -- refusals 1 and 2 do not apply
-  pub refusals-pass : (rs : List Row) → first (wrongSize l ∷ unsound l ∷ rs) ≡ first rs
-  unfolding first
-  refusals-pass rs = rw (eq-eqb (length l) size e, s)
+  passed : Passed l
+  passed = record { sized = e; fine = s }
 
+  -- refusals 1 and 2 do not apply
   pub record-accepted : recordRefusal l ≡ 0
   unfolding recordRefusal first
-  record-accepted = refusals-pass []
+  record-accepted = record-goes l [] passed
 
   pub lotRefusal-is : (x : ℕ) → lotRefusal l x ≡ first (noSuchSeat x ∷ emptySeat l x ∷ [])
   unfolding lotRefusal
-  lotRefusal-is x = refusals-pass (noSuchSeat x ∷ emptySeat l x ∷ [])
+  lotRefusal-is x = record-goes l (noSuchSeat x ∷ emptySeat l x ∷ []) passed
 
   pub linkRefusal-is : (x k d : ℕ) → linkRefusal l x k d ≡ first (noSuchSeat x ∷ noSuchLevel k d ∷ emptySeat l x ∷ [])
   unfolding linkRefusal
-  linkRefusal-is x k d = refusals-pass (noSuchSeat x ∷ noSuchLevel k d ∷ emptySeat l x ∷ [])
+  linkRefusal-is x k d = record-goes l (noSuchSeat x ∷ noSuchLevel k d ∷ emptySeat l x ∷ []) passed
 
   -- a seated lot
   module _ (x : ℕ) (h : x < seats) (t : T (seated (meaning l .roster) x)) where

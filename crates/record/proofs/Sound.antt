@@ -9,7 +9,6 @@ use native.Mathlib.Omega.{arith}
 use lib.Dec.{T}
 use lib.Pow.{pow-pos}
 use lib.ListN.{length, getD}
-use borrow.Author.Tests.{lt-ltb}
 use Rattle.memory.specs.Bytes.{AreBytes}
 use Rattle.memory.proofs.Cases.{lt-or-ge}
 use Rattle.memory.proofs.Bytes.{numberAt-lt}
@@ -26,19 +25,16 @@ use Rattle.record.specs.Layout.{seats, levels, noLink, messages, numberF
 use Rattle.record.specs.Meaning.{linkOf, rosterIn, meaning, bytesOf}
 use Rattle.record.specs.Sound.{sound}
 use Rattle.record.proofs.Places.{place-within}
+use Rattle.record.proofs.Links.{linkOf-some}
 use Rattle.record.proofs.Form.{Form, meaning-number, meaning-vector, meaning-link, meaning-pending, meaning-bit}
 use Rattle.record.proofs.Form.{no-seat-state, no-seat-number, no-seat-vector, no-seat-link, no-level-link, exists-pending}
 use Rattle.record.proofs.Round.{same-bytes, meaning-bytes, bytes-form}
 use Rattle.record.proofs.Clauses.{AsOpened, LinkFits, Fits, sound-fits}
 
 -- a link's byte that is a seat, and one that is none
-linkOf-seat : (b : ℕ) → b < seats → linkOf b ≡ some b
+linkOf-noLink : (b : ℕ) → b ≡ noLink → linkOf b ≡ none
 unfolding linkOf
-linkOf-seat b h = rw (lt-ltb b seats h)
-
-linkOf-none : (b : ℕ) → b ≡ noLink → linkOf b ≡ none
-unfolding linkOf
-linkOf-none b e = rw e
+linkOf-noLink b e = rw e
 
 module _ {l : List ℕ} (bytes : AreBytes l) (f : Fits l) where
   fits-form : length l ≡ size → Form l
@@ -79,7 +75,7 @@ module _ {l : List ℕ} (bytes : AreBytes l) (f : Fits l) where
         u .0,
         u .1,
         λ k d. ⊎-elim
-            (λ q. meaning-link l x k d p q ∙ linkOf-none (getD l (linkAt x k d) 0) (u .2 k d q))
+            (λ q. meaning-link l x k d p q ∙ linkOf-noLink (getD l (linkAt x k d) 0) (u .2 k d q))
             (no-level-link l x k d)
             (lt-or-ge k levels),
       ))
@@ -101,8 +97,8 @@ module _ {l : List ℕ} (bytes : AreBytes l) (f : Fits l) where
       let b = getD l (linkAt x k d) 0 in
       let m = meaning-link l x k d p q in
       ⊎-elim
-      (λ u. none-some (m ∙ linkOf-none b u) e)
-      (λ u. subst (λ (z : ℕ). T (linkOk width (rosterIn l) x k d z)) (some-inj (sym (m ∙ linkOf-seat b (u .0)) ∙ e)) (u .1))
+      (λ u. none-some (m ∙ linkOf-noLink b u) e)
+      (λ u. subst (λ (z : ℕ). T (linkOk width (rosterIn l) x k d z)) (some-inj (sym (m ∙ linkOf-some b (u .0)) ∙ e)) (u .1))
       (f .links x k d p q)
 
   message-fits : (m : Msg) → T (meaning l .pending m) → T (messageOk width (meaning l .roster) m)
@@ -131,7 +127,7 @@ module _ {l : List ℕ} (f : Form l) (h : Sound seats width (meaning l)) where
     u .1,
     λ k d q. ⊎-elim
         (λ e. e)
-        (λ e. none-some (sym (meaning-link l s k d p q) ∙ u .2 k d) (linkOf-seat (getD l (linkAt s k d) 0) e))
+        (λ e. none-some (sym (meaning-link l s k d p q) ∙ u .2 k d) (linkOf-some (getD l (linkAt s k d) 0) e))
         (f .links s k d p q),
   )
 
@@ -139,7 +135,7 @@ module _ {l : List ℕ} (f : Form l) (h : Sound seats width (meaning l)) where
   unfolding meaning
   sound-link x k d p q = let b = getD l (linkAt x k d) 0 in ⊎-elim
       (λ e. inl e)
-      (λ e. inr (e, h .links x k b d (meaning-link l x k d p q ∙ linkOf-seat b e)))
+      (λ e. inr (e, h .links x k b d (meaning-link l x k d p q ∙ linkOf-some b e)))
       (f .links x k d p q)
 
   form-fits : Fits l

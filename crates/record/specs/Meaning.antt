@@ -1,14 +1,14 @@
 -- What the bytes of a record mean, and the bytes of a meaning. Assumes nothing.
 use Prim.Native.Nat.{ℕ, _+_, _-_, _*_, _/_, _%_}
 use mathlib.Core.Option.{Option, none, some}
-use mathlib.Core.Bool.{Bool, cond, _&&_}
+use mathlib.Core.Bool.{cond, _&&_}
 use mathlib.Core.List.{List}
 use lib.Dec.{eqb, ltb}
 use lib.ListN.{getD}
 use Rattle.memory.specs.Bytes.{numberAt, digit}
 use Rattle.memory.specs.Bits.{bitSet, packed}
 use Rattle.memory.specs.Loops.{tabulate}
-use Rattle.graph.specs.Side.{Side, left, right}
+use Rattle.graph.specs.Side.{left, right}
 use Rattle.graph.specs.Vector.{width}
 use Rattle.protocol.specs.Numbering.{exists, place, messageAt}
 use Rattle.protocol.specs.Rules.{SeatState, free, staying, leaving}

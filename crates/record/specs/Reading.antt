@@ -1,18 +1,17 @@
 -- What open and the readings answer (document 01, "Calls"): the refusal number or 0, then the values; a refused answer's values are 0.
 -- Assumes nothing.
-use Prim.Native.Nat.{ℕ, zero, suc}
-use mathlib.Core.Bool.{Bool, not, cond, _||_, _&&_}
-use mathlib.Core.Option.{Option}
+use Prim.Native.Nat.{ℕ}
+use mathlib.Core.Bool.{not, cond, _||_}
 use mathlib.Core.List.{List, [], _∷_}
 use lib.Dec.{eqb, ltb}
-use lib.ListN.{length, getD}
+use lib.ListN.{length}
 use Rattle.memory.specs.Loops.{oneIf, count}
 use Rattle.memory.specs.Bits.{bitSet}
 use Rattle.graph.specs.Side.{Side, left, right}
 use Rattle.protocol.specs.Message.{Name, named}
-use Rattle.protocol.specs.State.{Meaning, opened, isFree, seated}
+use Rattle.protocol.specs.State.{opened, isFree, seated}
 use Rattle.protocol.specs.Table.{Row, row, first, isPending}
-use Rattle.record.specs.Layout.{seats, levels, messages, phaseAt, stateAt, linkAt, pendingFrom, size}
+use Rattle.record.specs.Layout.{seats, levels, messages, pendingFrom, size}
 use Rattle.record.specs.Meaning.{rosterIn, meaning, bytesOf, phaseByte, stateByte, linkByte}
 use Rattle.record.specs.Sound.{sound}
 

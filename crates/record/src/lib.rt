@@ -7,9 +7,14 @@ ghost use Rattle.memory.specs.Bytes.{numberAt, putNumber};
 ghost use Rattle.memory.specs.Bits.{bitSet, setBit, clearBit};
 ghost use Rattle.record.specs.Layout.{seats, levels, messages, size, phaseAt, entryAt, stateAt, numberFrom, vectorAt, pendingFrom};
 
+pub mod refusals;
+
 pub const SEATS: usize = 64;
 
-pub const LEVELS: usize = 9;
+// The width of a vector, and the levels that it gives.
+pub const WIDTH: usize = 8;
+
+pub const LEVELS: usize = WIDTH + 1;
 
 pub const SIZE: usize = 20257;
 

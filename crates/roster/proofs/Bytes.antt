@@ -1,16 +1,17 @@
 -- The roster of a record by its bytes: phase, and state, number and vector of a seat that exists. Assumes nothing.
-use Prim.Native.Nat.{ℕ, _<_}
-use mathlib.Core.Path.{_≡_}
+use Prim.Native.Nat.{ℕ, zero, suc, _<_}
+use mathlib.Core.Path.{_≡_, refl}
 use mathlib.Core.Logic.{⊎-elim}
 use mathlib.Core.Bool.{not}
 use mathlib.Core.List.{List}
-use lib.Dec.{eqb}
+use native.Mathlib.Omega.{arith}
+use lib.Dec.{eqb, ltb}
 use lib.ListN.{getD}
 use borrow.Author.Tests.{lt-ltb, eq-eqb, ne-eqb}
 use Rattle.memory.specs.Bytes.{numberAt}
 use Rattle.memory.proofs.Cases.{eq-or-ne}
 use Rattle.protocol.specs.Rules.{isStaying}
-use Rattle.protocol.specs.State.{isClearing, isFree, seated, stays}
+use Rattle.protocol.specs.State.{isClearing, isFree, isLeaving, seated, stays, leaves}
 use Rattle.record.specs.Layout.{seats, phaseAt, stateAt, numberFrom, vectorAt}
 use Rattle.record.specs.Meaning.{phaseOf, stateOf, rosterIn}
 
@@ -32,6 +33,14 @@ staying-of b = ⊎-elim
     (λ e. ⊎-elim (λ q. rw (ne-eqb b 0 e, eq-eqb b 1 q)) (λ q. rw (ne-eqb b 0 e, ne-eqb b 1 q)) (eq-or-ne b 1))
     (eq-or-ne b 0)
 
+leaving-of : (b : ℕ) → isLeaving (stateOf b) ≡ ltb 1 b
+unfolding stateOf
+leaving-of zero = refl
+leaving-of (suc zero) = refl
+leaving-of (suc (suc b)) =
+    let c = suc (suc b) in
+    rw (ne-eqb c 0 (λ e. omega arith), ne-eqb c 1 (λ e. omega arith), lt-ltb 1 c (omega arith))
+
 module _ (l : List ℕ) where
   pub clearing-byte : isClearing (rosterIn l .phase) ≡ not (eqb (getD l phaseAt 0) 0)
   unfolding rosterIn
@@ -45,6 +54,10 @@ module _ (l : List ℕ) where
     pub stays-byte : stays (rosterIn l) s ≡ eqb (getD l (stateAt s) 0) 1
     unfolding rosterIn
     stays-byte = rw (lt-ltb s seats h, staying-of (getD l (stateAt s) 0))
+
+    pub leaves-byte : leaves (rosterIn l) s ≡ ltb 1 (getD l (stateAt s) 0)
+    unfolding rosterIn
+    leaves-byte = rw (lt-ltb s seats h, leaving-of (getD l (stateAt s) 0))
 
     pub number-bytes : rosterIn l .number s ≡ numberAt l (numberFrom s) 8
     unfolding rosterIn

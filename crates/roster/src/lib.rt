@@ -4,7 +4,7 @@ ghost use Prim.Native.Nat.{_<_};
 ghost use lib.Dec.{leb};
 ghost use lib.ListN.{length};
 ghost use Rattle.graph.specs.Vector.{width, shared};
-ghost use Rattle.protocol.specs.State.{isClearing, seated, stays};
+ghost use Rattle.protocol.specs.State.{isClearing, seated, stays, leaves};
 ghost use Rattle.protocol.specs.Sound.{pairOk};
 ghost use Rattle.record.specs.Layout.{seats, size};
 ghost use Rattle.record.specs.Meaning.{rosterIn};
@@ -31,6 +31,14 @@ pub fn is_staying(rec: &[u8], s: usize) -> bool
     ensures { λ r. ⌜ r ≡ stays (rosterIn (now (rec .entry))) s ⌝ }
 {
     record::state(rec, s) == record::STAYING
+}
+
+// Whether a leaving lot sits on seat s. A state that is none of the three is read as leaving.
+pub fn is_leaving(rec: &[u8], s: usize) -> bool
+    requires { ⌜ (length (now rec) ≡ size) × (s < seats) ⌝ }
+    ensures { λ r. ⌜ r ≡ leaves (rosterIn (now (rec .entry))) s ⌝ }
+{
+    record::state(rec, s) > record::STAYING
 }
 
 // Whether the vectors of two seats share at least k bits.

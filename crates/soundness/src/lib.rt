@@ -11,11 +11,8 @@ mod entries;
 mod links;
 
 use record::SIZE;
-
-// The first refusals of the table.
-const WRONG_SIZE: u8 = 1;
-
-const UNSOUND: u8 = 2;
+use record::refusals::UNSOUND;
+use record::refusals::WRONG_SIZE;
 
 // The clauses on seated lots. Their numbers are read once.
 fn lots_fit(rec: &[u8]) -> bool

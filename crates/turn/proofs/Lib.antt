@@ -4,5 +4,4 @@ pub mod Telling
 pub mod Unlinking
 pub mod Freeing
 pub mod Accepted
-pub mod Told
 pub mod Refused

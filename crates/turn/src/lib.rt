@@ -3,8 +3,7 @@ ghost use mathlib.Core.Path.{_≡_};
 ghost use Prim.Native.Nat.{_+_, _*_, _-_, _<_};
 ghost use lib.ListN.{length, getD};
 ghost use Rattle.graph.specs.Vector.{width};
-ghost use Rattle.protocol.specs.Message.{going};
-ghost use Rattle.protocol.specs.Numbering.{any, place, somePending};
+ghost use Rattle.protocol.specs.Numbering.{any, somePending};
 ghost use Rattle.protocol.specs.Table.{turn as turning};
 ghost use Rattle.protocol.specs.State.{leaves};
 ghost use Rattle.protocol.specs.Calls.{farewell, farewells, accept};
@@ -15,42 +14,22 @@ ghost use Rattle.outcome.specs.Made.{madeRefusal, made};
 ghost use Rattle.outcome.specs.Answer.{told, answered};
 ghost use Rattle.turn.specs.Steps.{Step, same, saying, lotFarewells, farewellsFrom, linkGoes, linkPlace, relinked, freedTo, begun, ended};
 use outcome::Answer;
+use places::going_place;
+use record::CLEARING;
+use record::FREE;
 use record::LEVELS;
 use record::NONE;
+use record::OPEN;
 use record::PENDING;
 use record::SEATS;
 use record::SIZE;
-
-// The width of a vector, one less than the levels.
-const WIDTH: usize = LEVELS - 1;
-
-// The phases.
-const OPEN: u8 = 0;
-
-const CLEARING: u8 = 1;
-
-// The states up to staying; above it is leaving.
-const FREE: u8 = 0;
-
-const STAYING: u8 = 1;
-
-// The refusal of a turn while messages are pending.
-const MESSAGES_LEFT: u8 = 11;
+use record::refusals::MESSAGES_LEFT;
+use roster::is_leaving;
 
 // The sides.
 const LEFT: usize = 0;
 
 const RIGHT: usize = 1;
-
-// Where the places of GOING start: after MEET, PROBE and PULL.
-const GOING: usize = SEATS * SEATS * LEVELS + SEATS * SEATS * WIDTH + SEATS * 2 * WIDTH * 2;
-
-fn is_leaving(rec: &[u8], s: usize) -> bool
-    requires { ⌜ (length (now rec) ≡ size) × (s < seats) ⌝ }
-    ensures { λ r. ⌜ r ≡ leaves (rosterIn (now (rec .entry))) s ⌝ }
-{
-    record::state(rec, s) > STAYING
-}
 
 fn has_leaver(rec: &[u8]) -> bool
     requires { ⌜ length (now rec) ≡ size ⌝ }
@@ -70,14 +49,6 @@ fn link(rec: &[u8], s: usize, k: usize, d: usize) -> usize
     ensures { λ r. ⌜ r ≡ getD (now (rec .entry)) (entryAt s + 10 + 2 * k + d) 0 ⌝ }
 {
     record::link(rec, s, k, d) as usize
-}
-
-// The place of GOING to a lot, with the side where the leaver sits.
-fn going_place(to: usize, k: usize, d: usize) -> usize
-    requires { ⌜ (to < seats) × (k < levels) × (d < 2) ⌝ }
-    ensures { λ r. ⌜ r ≡ place seats width (going to k (sideOfNumber d)) ⌝ }
-{
-    GOING + (to * LEVELS + k) * 2 + d
 }
 
 // Sends GOING from y to its link at level k on side d, if there is one, with the side on which the receiver has y.

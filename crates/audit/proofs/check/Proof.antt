@@ -3,7 +3,8 @@ use mathlib.Core.Path.{_≡_, sym, ap, _∙_}
 use native.Mathlib.Omega.{arith}
 use Rattle.audit.specs.Check.{checkIn}
 use Rattle.audit.specs.Answer.{verdictOf, answered}
-use Rattle.audit.proofs.Whole.{passed, refused-answer, answer}
+use Rattle.record.proofs.Refused.{record-passed}
+use Rattle.audit.proofs.Whole.{refused-answer, answer}
 use borrow.Author.Needs.{needs}
 use Rattle.audit.proofs.check.Statement.{statement}
 use Rattle.audit.proofs.check.Tie as tie
@@ -23,7 +24,7 @@ returns : tie.Need-returns
 returns c = refused-answer _ (c .before .record-refusal .result) (c .before .record-refusal .ensures) (c .if1 .taken)
 
 links-fit-requires : tie.Need-links-fit-requires
-links-fit-requires c κs = passed _ (c .before .record-refusal .ensures) (c .if1 .left) .0
+links-fit-requires c κs = record-passed _ (c .before .record-refusal .ensures) (c .if1 .left) .sized
 
 returns-2 : tie.Need-returns-2
 unfolding verdictOf

@@ -10,7 +10,7 @@ use Rattle.protocol.specs.Numbering.{any}
 use Rattle.protocol.specs.State.{seated}
 use Rattle.record.specs.Layout.{seats}
 use Rattle.record.specs.Meaning.{rosterIn}
-use Rattle.calls.proofs.Any.{any-start, any-more, any-here}
+use Rattle.protocol.proofs.Any.{any-start, any-more, any-here}
 use Rattle.calls.proofs.has_number.Statement.{statement}
 use Rattle.calls.proofs.has_number.Tie as tie
 

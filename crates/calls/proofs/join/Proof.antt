@@ -2,7 +2,7 @@
 use mathlib.Core.Path.{sym, _∙_}
 use borrow.Author.Needs.{needs}
 use Rattle.protocol.specs.Table.{join}
-use Rattle.calls.proofs.Accepted.{told-refused, told-done}
+use Rattle.outcome.proofs.Accepted.{told-refused, told-done}
 use Rattle.calls.proofs.join.Statement.{statement}
 use Rattle.calls.proofs.join.Tie as tie
 

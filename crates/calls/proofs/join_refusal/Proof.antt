@@ -1,7 +1,8 @@
 -- `calls::join_refusal` meets its contract: the record's rows, then the table's. Assumes nothing.
 use borrow.Author.Needs.{needs}
 use Rattle.protocol.specs.Table.{join}
-use Rattle.calls.proofs.Accepted.{made-early, made-late, record-sized}
+use Rattle.record.proofs.Refused.{record-passed}
+use Rattle.outcome.proofs.Accepted.{made-early, made-late}
 use Rattle.calls.proofs.join_refusal.Statement.{statement}
 use Rattle.calls.proofs.join_refusal.Tie as tie
 
@@ -14,7 +15,7 @@ returns c v =
     made-early (a .rec .now) (join (a .seat) (a .number) v (a .contact)) (c .before .record-refusal .ensures) (c .if1 .taken)
 
 join-row-requires : tie.Need-join-row-requires
-join-row-requires c κs = record-sized (c .before .before .before .args .rec .now) (c .before .record-refusal .ensures) (c .if1 .left)
+join-row-requires c κs = record-passed (c .before .before .before .args .rec .now) (c .before .record-refusal .ensures) (c .if1 .left) .sized
 
 returns-2 : tie.Need-returns-2
 returns-2 c v =

@@ -3,7 +3,7 @@ use mathlib.Core.Path.{sym, _∙_}
 use native.Mathlib.Omega.{arith}
 use borrow.Author.Needs.{needs}
 use Rattle.protocol.specs.Table.{leave}
-use Rattle.calls.proofs.Accepted.{Accepted, accepted, told-refused, told-done}
+use Rattle.outcome.proofs.Accepted.{Accepted, accepted, told-refused, told-done}
 use Rattle.calls.proofs.After.{leave-seat, leave-bytes}
 use Rattle.calls.proofs.leave.Statement.{statement}
 use Rattle.calls.proofs.leave.Tie as tie

@@ -1,7 +1,8 @@
 -- `calls::leave_refusal` meets its contract: the record's rows, then the table's. Assumes nothing.
 use borrow.Author.Needs.{needs}
 use Rattle.protocol.specs.Table.{leave}
-use Rattle.calls.proofs.Accepted.{made-early, made-late, record-sized}
+use Rattle.record.proofs.Refused.{record-passed}
+use Rattle.outcome.proofs.Accepted.{made-early, made-late}
 use Rattle.calls.proofs.leave_refusal.Statement.{statement}
 use Rattle.calls.proofs.leave_refusal.Tie as tie
 
@@ -14,7 +15,7 @@ returns c =
     made-early (a .rec .now) (leave (a .seat)) (c .before .record-refusal .ensures) (c .if1 .taken)
 
 leave-row-requires : tie.Need-leave-row-requires
-leave-row-requires c κs = record-sized (c .before .before .before .args .rec .now) (c .before .record-refusal .ensures) (c .if1 .left)
+leave-row-requires c κs = record-passed (c .before .before .before .args .rec .now) (c .before .record-refusal .ensures) (c .if1 .left) .sized
 
 returns-2 : tie.Need-returns-2
 returns-2 c =

@@ -3,7 +3,7 @@ use mathlib.Core.Path.{sym, _∙_}
 use native.Mathlib.Omega.{arith}
 use borrow.Author.Needs.{needs}
 use Rattle.protocol.specs.Table.{join}
-use Rattle.calls.proofs.Accepted.{Accepted, accepted}
+use Rattle.outcome.proofs.Accepted.{Accepted, accepted}
 use Rattle.calls.proofs.After.{join-seat, join-alone, join-contact}
 use Rattle.calls.proofs.seat_lot.Statement.{statement}
 use Rattle.calls.proofs.seat_lot.Tie as tie

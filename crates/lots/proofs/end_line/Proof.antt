@@ -1,6 +1,5 @@
 -- `end_line` is safe: the part of the line lies within it. Assumes nothing.
 use mathlib.Core.Path.{sym}
-use native.Mathlib.Omega.{arith}
 use lib.Seq.{length-take-le}
 use borrow.Author.Needs.{needs}
 use Rattle.lots.proofs.end_line.Statement.{statement}

@@ -1,6 +1,5 @@
 -- `read_all` is safe and ends: the turns are counted. Assumes nothing.
 use mathlib.Core.Path.{_≡_, refl}
-use native.Mathlib.Omega.{arith}
 use lib.ListN.{length}
 use borrow.Author.Needs.{needs}
 use Rattle.lots.proofs.read_all.Statement.{statement}

@@ -2,8 +2,7 @@
 use Prim.Native.Nat.{ℕ, zero, suc}
 use mathlib.Core.Path.{_≡_, refl, sym, ap}
 use mathlib.Core.Logic.{_≢_}
-use Rattle.outcome.specs.declared.Answer.{Answer}
-use Rattle.outcome.specs.declared.Answer.the-variants.{Done, Refused}
+use Rattle.outcome.specs.declared.Answer.the-variants.{Refused}
 use Rattle.outcome.specs.Answer.{answerOf}
 use Rattle.outcome.proofs.answer_of.Statement.{statement}
 use Rattle.outcome.proofs.answer_of.Tie as tie

@@ -7,12 +7,13 @@ use mathlib.Core.List.{[], _∷_}
 use lib.Dec.{ltb}
 use Rattle.record.specs.Layout.{seats, levels}
 use Rattle.record.specs.Reading.{linkRefusal, wrongSize, unsound, noSuchSeat, noSuchLevel, emptySeat}
-use Rattle.reading.proofs.Refusals.{Accepted, first-stops, first-goes, seat-passed, link-rest}
+use Rattle.record.proofs.Refused.{Passed, first-stops, first-goes}
+use Rattle.reading.proofs.Refusals.{seat-passed, link-rest}
 use Rattle.reading.proofs.link_refusal.Statement.{statement}
 use Rattle.reading.proofs.link_refusal.Tie as tie
 
 -- past 1, 2 and 3
-passed : (c : tie.Else1) → Accepted (c .before .before .before .args .rec .now) × (c .before .before .before .args .seat < seats)
+passed : (c : tie.Else1) → Passed (c .before .before .before .args .rec .now) × (c .before .before .before .args .seat < seats)
 passed c = seat-passed _ _ (c .before .seat-refusal .ensures) (c .if1 .left)
 
 seat-refusal-requires : tie.Need-seat-refusal-requires

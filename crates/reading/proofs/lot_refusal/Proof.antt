@@ -5,12 +5,13 @@ use mathlib.Core.Path.{sym, _∙_}
 use mathlib.Core.List.{[], _∷_}
 use Rattle.record.specs.Layout.{seats}
 use Rattle.record.specs.Reading.{lotRefusal, wrongSize, unsound, noSuchSeat, emptySeat}
-use Rattle.reading.proofs.Refusals.{Accepted, first-stops, seat-passed, lot-rest}
+use Rattle.record.proofs.Refused.{Passed, first-stops}
+use Rattle.reading.proofs.Refusals.{seat-passed, lot-rest}
 use Rattle.reading.proofs.lot_refusal.Statement.{statement}
 use Rattle.reading.proofs.lot_refusal.Tie as tie
 
 -- past 1, 2 and 3
-passed : (c : tie.Else1) → Accepted (c .before .before .before .args .rec .now) × (c .before .before .before .args .seat < seats)
+passed : (c : tie.Else1) → Passed (c .before .before .before .args .rec .now) × (c .before .before .before .args .seat < seats)
 passed c = seat-passed _ _ (c .before .seat-refusal .ensures) (c .if1 .left)
 
 seat-refusal-requires : tie.Need-seat-refusal-requires

@@ -6,7 +6,7 @@ use native.Mathlib.Omega.{arith}
 use Rattle.memory.specs.Loops.{count}
 use Rattle.memory.proofs.Count.{count-le}
 use Rattle.record.specs.Layout.{messages}
-use Rattle.reading.proofs.Refusals.{Accepted, record-passed}
+use Rattle.record.proofs.Refused.{Passed, record-passed}
 use Rattle.reading.proofs.Values.{counts-refused, counts-values}
 use borrow.Author.Needs.{needs}
 use Rattle.reading.proofs.read_counts.Statement.{statement}
@@ -17,7 +17,7 @@ count-fits : (n : ℕ) (p : ℕ → Bool) {m : ℕ} → m ≡ count n p → n �
 count-fits n p e h = omega (arith, e, count-le n p)
 
 -- no row applies
-passed : (c : tie.Else1) → Accepted (c .before .before .before .args .rec .now)
+passed : (c : tie.Else1) → Passed (c .before .before .before .args .rec .now)
 passed c = record-passed _ (c .before .record-refusal .ensures) (c .if1 .left)
 
 record-refusal-requires : tie.Need-record-refusal-requires

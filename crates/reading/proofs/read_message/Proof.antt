@@ -3,13 +3,13 @@ use borrow.Author.Needs.{needs}
 use mathlib.Core.Path.{sym, ap, _∙_}
 use Rattle.reading.specs.declared.MessageRead.the-variants.{Pending}
 use Rattle.reading.proofs.Placed.{place-below, no-place, pending-at}
-use Rattle.reading.proofs.Refusals.{Accepted, record-passed}
+use Rattle.record.proofs.Refused.{Passed, record-passed}
 use Rattle.reading.proofs.Values.{message-refused, message-value}
 use Rattle.reading.proofs.read_message.Statement.{statement}
 use Rattle.reading.proofs.read_message.Tie as tie
 
 -- no row applies
-passed : (c : tie.Else1) → Accepted (c .before .before .before .args .rec .now)
+passed : (c : tie.Else1) → Passed (c .before .before .before .args .rec .now)
 passed c = record-passed _ (c .before .record-refusal .ensures) (c .if1 .left)
 
 record-refusal-requires : tie.Need-record-refusal-requires

@@ -8,7 +8,7 @@ use Rattle.protocol.specs.Numbering.{any}
 use Rattle.protocol.specs.State.{leaves}
 use Rattle.record.specs.Layout.{seats}
 use Rattle.record.specs.Meaning.{rosterIn}
-use Rattle.turn.proofs.Leaving.{any-start, any-more, any-found}
+use Rattle.protocol.proofs.Any.{any-start, any-more, any-here}
 use Rattle.turn.proofs.has_leaver.Statement.{statement}
 use Rattle.turn.proofs.has_leaver.Tie as tie
 
@@ -28,7 +28,7 @@ returns : tie.Need-returns Inv-loop μ-loop
 returns c =
     let a = c .before .before .before in
     let p = leaves (rosterIn (a .before .before .args .rec .now)) in
-    sym (any-found p seats (a .loop .s) (omega arith) (sym (c .before .is-leaving .ensures) ∙ c .if1 .taken))
+    sym (any-here seats (a .loop .s) p (omega arith) (sym (c .before .is-leaving .ensures) ∙ c .if1 .taken))
 
 add-s : tie.Need-add-s Inv-loop μ-loop
 add-s c = search needs
@@ -40,7 +40,7 @@ loop-again : tie.Need-loop-again Inv-loop μ-loop
 loop-again c =
     let a = c .before .before .before in
     let p = leaves (rosterIn (a .before .before .args .rec .now)) in
-    (search needs, any-more p (a .loop .s) (a .loop .inv .1) (sym (c .before .is-leaving .ensures) ∙ c .if1 .left))
+    (search needs, any-more (a .loop .s) p (a .loop .inv .1) (sym (c .before .is-leaving .ensures) ∙ c .if1 .left))
 
 returns-2 : tie.Need-returns-2 Inv-loop μ-loop
 returns-2 c =

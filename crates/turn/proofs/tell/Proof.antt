@@ -4,7 +4,7 @@ use native.Mathlib.Omega.{arith}
 use borrow.Author.Needs.{needs}
 use Rattle.memory.specs.Bits.{setBit}
 use Rattle.record.specs.Layout.{pendingFrom}
-use Rattle.turn.proofs.Telling.{going-lt, tell-sent, tell-none}
+use Rattle.turn.proofs.Telling.{tell-sent, tell-none}
 use Rattle.turn.proofs.tell.Statement.{statement}
 use Rattle.turn.proofs.tell.Tie as tie
 
@@ -18,7 +18,7 @@ going-place-requires : tie.Need-going-place-requires
 going-place-requires c κs = search needs
 
 send-requires : tie.Need-send-requires
-send-requires c κs = (search needs, rw (c .going-place .ensures) (going-lt _ _ _ (omega arith) (omega arith)))
+send-requires c κs = search needs
 
 same-length : tie.Need-same-length
 same-length c = search needs
@@ -28,7 +28,7 @@ returns c = λ M f e.
     let a = c .before .before .before .before .before .before in
     let s = a .before .before .before .args in
     c .before .before .send .ensures
-    ∙ ap (setBit (s .rec .now) pendingFrom) (c .before .before .before .going-place .ensures)
+    ∙ ap (setBit (s .rec .now) pendingFrom) (c .before .before .before .going-place .ensures .0)
     ∙ tell-sent M f (s .y) (s .k) (omega arith) (omega arith) e (s .d) (a .link .result) (omega arith) (a .link .ensures) (omega arith)
 
 same-length-2 : tie.Need-same-length-2

@@ -6,8 +6,8 @@ use Rattle.protocol.specs.Table.{turn}
 use Rattle.record.specs.Meaning.{meaning}
 use Rattle.record.proofs.Form.{Form}
 use Rattle.record.proofs.Round.{bytes-meaning}
-use Rattle.turn.proofs.Told.{told-refused, told-done}
-use Rattle.turn.proofs.Refused.{accepted, meaning-linked}
+use Rattle.outcome.proofs.Accepted.{accepted, told-refused, told-done}
+use Rattle.turn.proofs.Refused.{meaning-linked}
 use Rattle.turn.proofs.turn.Statement.{statement}
 use Rattle.turn.proofs.turn.Tie as tie
 
@@ -28,7 +28,7 @@ returns c =
 known : (c : tie.Else1) → Form (c .before .before .before .before .args .rec .now)
 known c =
     let a = c .before .before .before in
-    accepted (a .before .args .rec .now) (λ i. omega (arith, a .slice-known .given i)) (sym (c .before .turn-refusal .ensures) ∙ c .if1 .left)
+    accepted (a .before .args .rec .now) turn (λ i. omega (arith, a .slice-known .given i)) (sym (c .before .turn-refusal .ensures) ∙ c .if1 .left) .form
 
 carry-out-requires : tie.Need-carry-out-requires
 carry-out-requires c κs = known (c .before) .sized

@@ -5,7 +5,7 @@ use Rattle.protocol.specs.Rules.{effect, meeting}
 use Rattle.protocol.specs.Calls.{rule}
 use Rattle.record.proofs.Sent.{sentBits}
 use Rattle.delivery.specs.Done.{changed, done}
-use Rattle.delivery.proofs.Sends.{link-seat, link-none}
+use Rattle.record.proofs.Links.{linkOf-some, linkOf-none}
 use Rattle.delivery.proofs.rules.meet.Statement.{statement}
 use Rattle.delivery.proofs.rules.meet.Tie as tie
 
@@ -28,7 +28,7 @@ returns c =
     rw (
       ← k .before .before .side-of .ensures .0,
       ← k .link .ensures,
-      link-none _ (c .before .before .before .before .if1 .taken),
+      linkOf-none _ (c .before .before .before .before .if1 .taken),
     ) (c .before .before .setting .ensures)
 
 same-length-2 : tie.Need-same-length-2
@@ -38,7 +38,7 @@ returns-2 : tie.Need-returns-2
 unfolding done sentBits changed rule effect meeting
 returns-2 c =
     let k = c .before .before in
-    rw (← k .before .before .side-of .ensures .0, ← k .link .ensures, link-seat _ (c .before .if1 .left), eq-eqb _ _ (c .if2 .taken))
+    rw (← k .before .before .side-of .ensures .0, ← k .link .ensures, linkOf-some _ (c .before .if1 .left), eq-eqb _ _ (c .if2 .taken))
 
 beyond-requires : tie.Need-beyond-requires
 beyond-requires c κs = search needs
@@ -61,7 +61,7 @@ returns-3 c =
     rw (
       ← k .before .before .side-of .ensures .0,
       ← k .link .ensures,
-      link-seat _ (b .before .before .before .if1 .left),
+      linkOf-some _ (b .before .before .before .if1 .left),
       ne-eqb _ _ (b .before .before .if2 .left),
       ← b .beyond .ensures,
       s .before .before .before .if3 .taken,
@@ -83,7 +83,7 @@ returns-4 c =
     rw (
       ← k .before .before .side-of .ensures .0,
       ← k .link .ensures,
-      link-seat _ (b .before .before .before .if1 .left),
+      linkOf-some _ (b .before .before .before .if1 .left),
       ne-eqb _ _ (b .before .before .if2 .left),
       ← b .beyond .ensures,
       s .before .before .if3 .left,

@@ -6,7 +6,7 @@ use Rattle.protocol.specs.Rules.{effect, probing}
 use Rattle.protocol.specs.Calls.{rule}
 use Rattle.record.proofs.Sent.{sentBits}
 use Rattle.delivery.specs.Done.{changed, done}
-use Rattle.delivery.proofs.Sides.{side-opp}
+use Rattle.record.proofs.Links.{side-opp}
 use Rattle.delivery.proofs.rules.probe.Statement.{statement}
 use Rattle.delivery.proofs.rules.probe.Tie as tie
 

@@ -6,7 +6,8 @@ use Rattle.protocol.specs.Calls.{rule}
 use Rattle.record.proofs.Form.{meaning-vector}
 use Rattle.record.proofs.Sent.{sentBits}
 use Rattle.delivery.specs.Done.{changed, done}
-use Rattle.delivery.proofs.Sides.{side-opp, same-bits}
+use Rattle.record.proofs.Links.{side-opp}
+use Rattle.delivery.proofs.Sides.{same-bits}
 use Rattle.delivery.proofs.rules.pull.Statement.{statement}
 use Rattle.delivery.proofs.rules.pull.Tie as tie
 

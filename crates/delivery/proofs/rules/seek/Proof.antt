@@ -4,7 +4,7 @@ use Rattle.protocol.specs.Rules.{effect, seeking, passing}
 use Rattle.protocol.specs.Calls.{rule}
 use Rattle.record.proofs.Sent.{sentBits}
 use Rattle.delivery.specs.Done.{changed, done}
-use Rattle.delivery.proofs.Sends.{link-seat, link-none}
+use Rattle.record.proofs.Links.{linkOf-some, linkOf-none}
 use Rattle.delivery.proofs.Sides.{staying-in}
 use Rattle.delivery.proofs.rules.seek.Statement.{statement}
 use Rattle.delivery.proofs.rules.seek.Tie as tie
@@ -59,7 +59,7 @@ returns-2 c =
       d .before .before .if1 .left,
       ← d .side-of .ensures .0,
       ← k .link .ensures,
-      link-seat _ (s .before .before .before .if2 .taken),
+      linkOf-some _ (s .before .before .before .if2 .taken),
       ← s .before .seek-place .ensures .0,
     ) (s .send2 .ensures)
 
@@ -84,7 +84,7 @@ returns-3 c =
       d .before .before .if1 .left,
       ← d .side-of .ensures .0,
       ← k .link .ensures,
-      link-none _ (s .before .before .before .if2 .left),
+      linkOf-none _ (s .before .before .before .if2 .left),
       ← s .before .none-place .ensures .0,
     ) (s .send3 .ensures)
 

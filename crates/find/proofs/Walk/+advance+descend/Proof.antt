@@ -1,10 +1,8 @@
 -- `Walk::advance` and `Walk::descend` meet their contracts, in one proof; the falling number is the distance and the level. Assumes nothing.
 use Prim.Native.Nat.{ℕ, _<_, _*_, _+_}
-use mathlib.Core.Path.{_≡_, sym, _∙_}
+use mathlib.Core.Path.{sym, _∙_}
 use native.Mathlib.Omega.{arith}
-use borrow.Author.Needs.{needs}
-use Rattle.record.specs.Meaning.{rosterIn}
-use Rattle.find.specs.Steps.{remains, Ready, Walked}
+use Rattle.find.specs.Steps.{remains}
 use Rattle.find.proofs.Read.{number-read}
 use Rattle.find.proofs.Steps.{lot-seat, stop-walked, move-ready, move-less, move-fits, move-walked}
 use Rattle.find.proofs.Steps.{to-drop, end-walked, drop-ready, drop-walked}

@@ -1,6 +1,5 @@
 -- `listing::head` is safe and ends. Assumes nothing.
 use Prim.Native.Nat.{_-_, _≤_}
-use native.Mathlib.Omega.{arith}
 use borrow.Author.Needs.{needs}
 use Rattle.lots.proofs.listing.head.Statement.{statement}
 use Rattle.lots.proofs.listing.head.Tie as tie

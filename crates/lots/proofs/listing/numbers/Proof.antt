@@ -1,6 +1,5 @@
 -- `listing::numbers` is safe and ends: the turns are counted. Assumes nothing.
 use Prim.Native.Nat.{_-_, _≤_}
-use native.Mathlib.Omega.{arith}
 use borrow.Author.Needs.{needs}
 use Rattle.lots.proofs.listing.numbers.Statement.{statement}
 use Rattle.lots.proofs.listing.numbers.Tie as tie

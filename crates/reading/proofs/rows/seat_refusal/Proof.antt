@@ -6,8 +6,7 @@ use mathlib.Core.List.{[], _∷_}
 use Rattle.protocol.specs.Table.{first}
 use Rattle.record.specs.Layout.{seats}
 use Rattle.record.specs.Reading.{recordRefusal, wrongSize, unsound, noSuchSeat}
-use Rattle.record.proofs.Reading.{refusals-pass}
-use Rattle.reading.proofs.Refusals.{first-stops, record-passed}
+use Rattle.record.proofs.Refused.{first-stops, record-passed, record-goes}
 use Rattle.reading.proofs.rows.seat_refusal.Statement.{statement}
 use Rattle.reading.proofs.rows.seat_refusal.Tie as tie
 
@@ -15,7 +14,7 @@ use Rattle.reading.proofs.rows.seat_refusal.Tie as tie
 rest : (c : tie.Else1)
     → let a = c .before .before .before .args in
     first (wrongSize (a .rec .now) ∷ unsound (a .rec .now) ∷ noSuchSeat (a .seat) ∷ []) ≡ first (noSuchSeat (a .seat) ∷ [])
-rest c = let p = record-passed _ (c .before .record-refusal .ensures) (c .if1 .left) in refusals-pass _ (p .sized) (p .fine) _
+rest c = let p = record-passed _ (c .before .record-refusal .ensures) (c .if1 .left) in record-goes _ _ p
 
 record-refusal-requires : tie.Need-record-refusal-requires
 record-refusal-requires c κs = search needs

@@ -1,9 +1,9 @@
--- `calls::is_leaving` meets its contract. Assumes nothing.
+-- `roster::is_leaving` meets its contract. Assumes nothing.
 use mathlib.Core.Path.{sym}
 use borrow.Author.Needs.{needs}
-use Rattle.calls.proofs.Roster.{leaves-byte}
-use Rattle.calls.proofs.is_leaving.Statement.{statement}
-use Rattle.calls.proofs.is_leaving.Tie as tie
+use Rattle.roster.proofs.Bytes.{leaves-byte}
+use Rattle.roster.proofs.is_leaving.Statement.{statement}
+use Rattle.roster.proofs.is_leaving.Tie as tie
 
 state-requires : tie.Need-state-requires
 state-requires c κs = search needs

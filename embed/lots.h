@@ -1,0 +1,125 @@
+/* A record of lots in lent memory, whose calls are proved.
+ *
+ * The record holds 64 seats (0 to 63), a phase and the pending messages. Link
+ * with libexports.a, which `rt staticlib exports` writes to target/staticlib.
+ *
+ * Every function answers 0 if the call is accepted, else the refusal number.
+ * A refused call changes no byte of the record. Each comment lists the refusals
+ * that the function meets; if several apply, the first in its list is given.
+ * Every output is written in each case, with 0 where the call is refused.
+ *
+ * What the caller owes: `record` points to `length` bytes of any content, and is
+ * not null even if `length` is 0; outputs are not null, and overlap neither the
+ * record nor each other; nothing else writes these bytes during a call, and
+ * nothing else reads them during a call that changes them. No function keeps a
+ * pointer, allocates, or touches a byte outside the record and the outputs.
+ */
+#ifndef LOTS_H
+#define LOTS_H
+
+#include <stddef.h>
+#include <stdint.h>
+
+#ifdef __cplusplus
+extern "C" {
+#endif
+
+/* The bytes of a record. */
+#define LOTS_RECORD_SIZE 20257
+
+/* In the place of a seat: no contact, no link, no holder. */
+#define LOTS_NO_SEAT 255
+
+/* The refusal numbers. */
+enum lots_refusal {
+    LOTS_WRONG_SIZE = 1,       /* the memory is not LOTS_RECORD_SIZE bytes long */
+    LOTS_UNSOUND = 2,          /* the bytes are no sound record */
+    LOTS_NO_SUCH_SEAT = 3,     /* a seat above 63 */
+    LOTS_SEAT_TAKEN = 4,       /* a lot joins at a seat that is not free */
+    LOTS_NUMBER_IN_USE = 5,    /* a seated lot has the number of the lot that joins */
+    LOTS_NO_CONTACT = 6,       /* the contact's seat is free, or no contact while lots are seated */
+    LOTS_CLEARING = 7,         /* no lot joins or leaves in phase clearing */
+    LOTS_EMPTY_SEAT = 8,       /* no lot has this seat */
+    LOTS_ALREADY_LEAVING = 9,  /* the lot is leaving */
+    LOTS_NO_SUCH_MESSAGE = 10, /* the five numbers are no pending message */
+    LOTS_MESSAGES_LEFT = 11,   /* no turn while messages are pending */
+    LOTS_NO_SUCH_LEVEL = 12    /* a level above 8 or a side above 1 */
+};
+
+/* Writes an empty record in phase open over any bytes.
+ * Refusals: 1 wrong size. */
+uint8_t lots_open(uint8_t *record, size_t length);
+
+/* Seats a lot, staying and without links, and sends its contact a MEET about it
+ * at level 0. Any number and any vector are allowed; bit 0 of the vector is the
+ * highest. The first lot has the contact LOTS_NO_SEAT, and nothing is sent.
+ * Refusals: 1 wrong size, 2 unsound, 3 no such seat (also of the contact),
+ * 7 clearing, 4 seat taken, 5 number in use, 6 no contact. */
+uint8_t lots_join(uint8_t *record, size_t length, uint8_t seat, uint64_t number,
+                  uint8_t vector, uint8_t contact);
+
+/* Marks a staying lot as leaving. It goes on taking part until turns clear it.
+ * Refusals: 1 wrong size, 2 unsound, 3 no such seat, 7 clearing, 8 empty seat,
+ * 9 already leaving. */
+uint8_t lots_leave(uint8_t *record, size_t length, uint8_t seat);
+
+/* Takes a pending message away and does its rule: of the lots it changes at most
+ * the links of `to`, and it may send further messages. Any five numbers may be
+ * given. Kinds are 1 MEET, 2 PROBE, 3 PULL, 4 GOING, 5 SEEK, 6 FOUND, 7 NONE.
+ * Refusals: 1 wrong size, 2 unsound, 10 no such message. */
+uint8_t lots_deliver(uint8_t *record, size_t length, uint8_t kind, uint8_t to,
+                     uint8_t about, uint8_t level, uint8_t side);
+
+/* Goes from open to clearing if a lot is leaving, when every leaver sends GOING
+ * to each of its links; and from clearing to open, when the leavers' seats become
+ * free. Open and without leavers, nothing changes.
+ * Refusals: 1 wrong size, 2 unsound, 11 messages left. */
+uint8_t lots_turn(uint8_t *record, size_t length);
+
+/* Looks up a scanned number from the lot on a seat. `holder` is the seat of the
+ * lot with the largest number not above it, or LOTS_NO_SEAT; `hops` counts the
+ * moves between lots. That the holder is right is promised in phase open with
+ * nothing pending and lots_check saying yes; else the answer is where the walk
+ * along the links ends.
+ * Refusals: 1 wrong size, 2 unsound, 3 no such seat, 8 empty seat. */
+uint8_t lots_find(const uint8_t *record, size_t length, uint8_t seat,
+                  uint64_t number, uint8_t *holder, uint64_t *hops);
+
+/* Whether the links of all lots, while clearing of the staying ones, are those of
+ * the skip graph: `yes` is 1 or 0.
+ * Refusals: 1 wrong size, 2 unsound. */
+uint8_t lots_check(const uint8_t *record, size_t length, uint8_t *yes);
+
+/* Reads the lot on a seat; `state` is 1 staying or 2 leaving.
+ * Refusals: 1 wrong size, 2 unsound, 3 no such seat, 8 empty seat. */
+uint8_t lots_read_lot(const uint8_t *record, size_t length, uint8_t seat,
+                      uint8_t *state, uint64_t *number, uint8_t *vector);
+
+/* Reads a link of the lot on a seat, at level 0 to 8, on side 0 left or 1 right:
+ * the neighbour's seat, or LOTS_NO_SEAT.
+ * Refusals: 1 wrong size, 2 unsound, 3 no such seat, 12 no such level, 8 empty
+ * seat. */
+uint8_t lots_read_link(const uint8_t *record, size_t length, uint8_t seat,
+                       uint8_t level, uint8_t side, uint8_t *link);
+
+/* Whether five numbers are a pending message: `pending` is 1 or 0.
+ * Refusals: 1 wrong size, 2 unsound. */
+uint8_t lots_read_message(const uint8_t *record, size_t length, uint8_t kind,
+                          uint8_t to, uint8_t about, uint8_t level, uint8_t side,
+                          uint8_t *pending);
+
+/* Reads the count of seated lots, the phase (0 open, 1 clearing) and the count of
+ * pending messages.
+ * Refusals: 1 wrong size, 2 unsound. */
+uint8_t lots_read_counts(const uint8_t *record, size_t length, uint8_t *lots,
+                         uint8_t *phase, uint32_t *pending);
+
+/* The test that stands in front of every call but lots_open.
+ * Refusals: 1 wrong size, 2 unsound. */
+uint8_t lots_record_refusal(const uint8_t *record, size_t length);
+
+#ifdef __cplusplus
+}
+#endif
+
+#endif

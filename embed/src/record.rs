@@ -1,0 +1,452 @@
+//! The record and its calls.
+
+use crate::reading::{seat_or_none, Counts, Found, Lot, Message, Phase, State};
+use crate::refusal::Refusal;
+use crate::{sys, NO_SEAT, SIZE};
+use core::fmt;
+
+/// A record of lots in the bytes of `B`, owned or borrowed.
+///
+/// Every call tests the bytes first, so they may be any bytes of any length:
+/// what is no sound record is refused. Nothing else is kept here, so a record
+/// may be stored and taken up again as its bytes. Two sound records with the
+/// same meaning have the same bytes.
+#[derive(Clone, PartialEq, Eq)]
+pub struct Record<B> {
+    bytes: B,
+}
+
+impl Record<[u8; SIZE]> {
+    /// A record of its own, opened: no lots, phase open, nothing pending.
+    ///
+    /// It lies where its variable lies. For one on the heap lend a vector of
+    /// [`SIZE`] bytes to [`Record::over`], and [open](Record::open) it.
+    ///
+    /// ```
+    /// use lots_record::{Counts, Phase, Record};
+    ///
+    /// let record = Record::new();
+    /// assert_eq!(record.counts(), Ok(Counts { lots: 0, phase: Phase::Open, pending: 0 }));
+    /// ```
+    pub fn new() -> Self {
+        let mut record = Record::over([0; SIZE]);
+        record.open().expect("open refuses only a wrong size");
+        record
+    }
+}
+
+impl Default for Record<[u8; SIZE]> {
+    fn default() -> Self {
+        Record::new()
+    }
+}
+
+impl<B> Record<B> {
+    /// A record over these bytes as they are; none is read or written.
+    ///
+    /// ```
+    /// use lots_record::{Record, Refusal, SIZE};
+    ///
+    /// let mut memory = vec![0xff; SIZE];
+    /// let mut record = Record::over(&mut memory);
+    /// assert_eq!(record.counts(), Err(Refusal::Unsound));
+    /// record.open()?;
+    /// record.join(0, 100, 0, None)?;
+    ///
+    /// // To read, borrowed bytes are enough.
+    /// assert_eq!(Record::over(&memory[..]).lot(0)?.number, 100);
+    /// # Ok::<(), Refusal>(())
+    /// ```
+    pub fn over(bytes: B) -> Self {
+        Record { bytes }
+    }
+
+    /// Gives the bytes back.
+    ///
+    /// ```
+    /// use lots_record::{Record, SIZE};
+    ///
+    /// let bytes: [u8; SIZE] = Record::new().into_inner();
+    /// assert_eq!(Record::over(bytes), Record::new());
+    /// ```
+    pub fn into_inner(self) -> B {
+        self.bytes
+    }
+}
+
+impl<B: AsMut<[u8]>> Record<B> {
+    /// Writes an empty record in phase open over any bytes.
+    ///
+    /// Refusals: 1 wrong size.
+    ///
+    /// ```
+    /// use lots_record::{Record, Refusal, SIZE};
+    ///
+    /// assert_eq!(Record::over(vec![7; SIZE]).open(), Ok(()));
+    /// assert_eq!(Record::over(vec![7; 100]).open(), Err(Refusal::WrongSize));
+    /// ```
+    #[doc(alias = "lots_open")]
+    pub fn open(&mut self) -> Result<(), Refusal> {
+        let bytes = self.bytes.as_mut();
+        // SAFETY: the slice is ours to write for its length.
+        accepted(unsafe { sys::lots_open(bytes.as_mut_ptr(), bytes.len()) })
+    }
+
+    /// Seats a lot, staying and without links, and sends its contact a MEET about
+    /// it at level 0. The first lot has no contact, and nothing is sent.
+    ///
+    /// `Some(255)` is the same as `None`.
+    ///
+    /// Refusals: 1 wrong size, 2 unsound, 3 no such seat (also of the contact),
+    /// 7 clearing, 4 seat taken, 5 number in use, 6 no contact.
+    ///
+    /// ```
+    /// use lots_record::{Message, Record, Refusal};
+    ///
+    /// let mut record = Record::new();
+    /// record.join(0, 100, 0, None)?;
+    /// record.join(1, 200, 128, Some(0))?;
+    /// assert!(record.is_pending(Message::new(1, 0, 1, 0, 0))?);
+    /// assert_eq!(record.join(1, 300, 64, Some(0)), Err(Refusal::SeatTaken));
+    /// # Ok::<(), Refusal>(())
+    /// ```
+    #[doc(alias = "lots_join")]
+    pub fn join(
+        &mut self,
+        seat: u8,
+        number: u64,
+        vector: u8,
+        contact: Option<u8>,
+    ) -> Result<(), Refusal> {
+        let bytes = self.bytes.as_mut();
+        let (record, length) = (bytes.as_mut_ptr(), bytes.len());
+        let contact = contact.unwrap_or(NO_SEAT);
+        // SAFETY: the slice is ours to write for its length.
+        accepted(unsafe { sys::lots_join(record, length, seat, number, vector, contact) })
+    }
+
+    /// Marks a staying lot as leaving. It goes on taking part until the turns
+    /// clear it.
+    ///
+    /// Refusals: 1 wrong size, 2 unsound, 3 no such seat, 7 clearing, 8 empty
+    /// seat, 9 already leaving.
+    ///
+    /// ```
+    /// use lots_record::{Record, Refusal, State};
+    ///
+    /// let mut record = Record::new();
+    /// record.join(0, 100, 0, None)?;
+    /// record.leave(0)?;
+    /// assert_eq!(record.lot(0)?.state, State::Leaving);
+    /// assert_eq!(record.leave(0), Err(Refusal::AlreadyLeaving));
+    /// # Ok::<(), Refusal>(())
+    /// ```
+    #[doc(alias = "lots_leave")]
+    pub fn leave(&mut self, seat: u8) -> Result<(), Refusal> {
+        let bytes = self.bytes.as_mut();
+        // SAFETY: the slice is ours to write for its length.
+        accepted(unsafe { sys::lots_leave(bytes.as_mut_ptr(), bytes.len(), seat) })
+    }
+
+    /// Takes a pending message away and does its rule: of the lots it changes at
+    /// most the links of `to`, and it may send further messages.
+    ///
+    /// Refusals: 1 wrong size, 2 unsound, 10 no such message.
+    ///
+    /// ```
+    /// use lots_record::{Message, Record, Refusal, RIGHT};
+    ///
+    /// let mut record = Record::new();
+    /// record.join(0, 100, 0, None)?;
+    /// record.join(1, 200, 128, Some(0))?;
+    /// let meet = Message::new(1, 0, 1, 0, 0);
+    /// record.deliver(meet)?;
+    /// assert_eq!(record.link(0, 0, RIGHT)?, Some(1));
+    /// assert_eq!(record.deliver(meet), Err(Refusal::NoSuchMessage));
+    /// # Ok::<(), Refusal>(())
+    /// ```
+    #[doc(alias = "lots_deliver")]
+    pub fn deliver(&mut self, message: Message) -> Result<(), Refusal> {
+        let bytes = self.bytes.as_mut();
+        let (record, length) = (bytes.as_mut_ptr(), bytes.len());
+        let Message {
+            kind,
+            to,
+            about,
+            level,
+            side,
+        } = message;
+        // SAFETY: the slice is ours to write for its length.
+        accepted(unsafe { sys::lots_deliver(record, length, kind, to, about, level, side) })
+    }
+
+    /// Goes from open to clearing if a lot is leaving, and from clearing to open,
+    /// when the leavers' seats become free. Open and without leavers, nothing
+    /// changes.
+    ///
+    /// On the way to clearing every leaver sends GOING to each of its links.
+    ///
+    /// Refusals: 1 wrong size, 2 unsound, 11 messages left.
+    ///
+    /// ```
+    /// use lots_record::{Phase, Record};
+    ///
+    /// let mut record = Record::new();
+    /// record.join(0, 100, 0, None)?;
+    /// record.leave(0)?;
+    /// record.turn()?;
+    /// assert_eq!(record.counts()?.phase, Phase::Clearing);
+    /// record.turn()?;
+    /// assert_eq!(record, Record::new());
+    /// # Ok::<(), lots_record::Refusal>(())
+    /// ```
+    #[doc(alias = "lots_turn")]
+    pub fn turn(&mut self) -> Result<(), Refusal> {
+        let bytes = self.bytes.as_mut();
+        // SAFETY: the slice is ours to write for its length.
+        accepted(unsafe { sys::lots_turn(bytes.as_mut_ptr(), bytes.len()) })
+    }
+}
+
+impl<B: AsRef<[u8]>> Record<B> {
+    /// The bytes, as docs/RECORD.md lays them out.
+    ///
+    /// ```
+    /// use lots_record::Record;
+    ///
+    /// let mut record = Record::new();
+    /// record.join(0, 100, 0, None)?;
+    /// assert_eq!(record.as_bytes()[1..10], [1, 0, 0, 0, 0, 0, 0, 0, 100]);
+    /// # Ok::<(), lots_record::Refusal>(())
+    /// ```
+    pub fn as_bytes(&self) -> &[u8] {
+        self.bytes.as_ref()
+    }
+
+    /// Looks up a scanned number from the lot on a seat: the holder is the lot
+    /// with the largest number not above it.
+    ///
+    /// That the holder is right is promised on a settled record: phase open,
+    /// nothing pending, and [`check`](Record::check) says yes. On another the
+    /// answer is where the walk along the links ends.
+    ///
+    /// Refusals: 1 wrong size, 2 unsound, 3 no such seat, 8 empty seat.
+    ///
+    /// ```
+    /// use lots_record::{Found, Message, Record};
+    ///
+    /// let mut record = Record::new();
+    /// record.join(0, 100, 0, None)?;
+    /// assert_eq!(record.find(0, 99)?, Found { holder: None, hops: 0 });
+    ///
+    /// record.join(1, 200, 128, Some(0))?;
+    /// assert_eq!(record.find(0, 250)?, Found { holder: Some(0), hops: 0 });
+    /// record.deliver(Message::new(1, 0, 1, 0, 0))?;
+    /// assert_eq!(record.find(0, 250)?, Found { holder: Some(1), hops: 1 });
+    /// # Ok::<(), lots_record::Refusal>(())
+    /// ```
+    #[doc(alias = "lots_find")]
+    pub fn find(&self, start: u8, number: u64) -> Result<Found, Refusal> {
+        let bytes = self.as_bytes();
+        let (record, length) = (bytes.as_ptr(), bytes.len());
+        let (mut holder, mut hops) = (0, 0);
+        // SAFETY: the slice is ours to read for its length; the outputs are local.
+        accepted(unsafe { sys::lots_find(record, length, start, number, &mut holder, &mut hops) })?;
+        let holder = seat_or_none(holder);
+        Ok(Found { holder, hops })
+    }
+
+    /// Whether the links of all lots, while clearing of the staying ones, are
+    /// those of the skip graph: Constraints 1 to 6 hold, in one level-0 list.
+    ///
+    /// Refusals: 1 wrong size, 2 unsound.
+    ///
+    /// ```
+    /// use lots_record::Record;
+    ///
+    /// let mut record = Record::new();
+    /// record.join(0, 100, 0, None)?;
+    /// assert!(record.check()?);
+    /// record.join(1, 200, 128, Some(0))?;
+    /// assert!(!record.check()?);
+    /// # Ok::<(), lots_record::Refusal>(())
+    /// ```
+    #[doc(alias = "lots_check")]
+    pub fn check(&self) -> Result<bool, Refusal> {
+        let bytes = self.as_bytes();
+        let mut yes = 0;
+        // SAFETY: the slice is ours to read for its length; the output is local.
+        accepted(unsafe { sys::lots_check(bytes.as_ptr(), bytes.len(), &mut yes) })?;
+        Ok(yes == 1)
+    }
+
+    /// Reads the lot on a seat.
+    ///
+    /// Refusals: 1 wrong size, 2 unsound, 3 no such seat, 8 empty seat.
+    ///
+    /// ```
+    /// use lots_record::{Lot, Record, Refusal, State};
+    ///
+    /// let mut record = Record::new();
+    /// record.join(63, 100, 64, None)?;
+    /// assert_eq!(record.lot(63)?, Lot { state: State::Staying, number: 100, vector: 64 });
+    /// assert_eq!(record.lot(0), Err(Refusal::EmptySeat));
+    /// # Ok::<(), Refusal>(())
+    /// ```
+    #[doc(alias = "lots_read_lot")]
+    pub fn lot(&self, seat: u8) -> Result<Lot, Refusal> {
+        let bytes = self.as_bytes();
+        let (record, length) = (bytes.as_ptr(), bytes.len());
+        let (mut state, mut number, mut vector) = (0, 0, 0);
+        // SAFETY: the slice is ours to read for its length; the outputs are local.
+        accepted(unsafe {
+            sys::lots_read_lot(record, length, seat, &mut state, &mut number, &mut vector)
+        })?;
+        let state = State::from_number(state);
+        Ok(Lot {
+            state,
+            number,
+            vector,
+        })
+    }
+
+    /// Reads a link of the lot on a seat: the neighbour's seat, or none. The side
+    /// is [`LEFT`](crate::LEFT) or [`RIGHT`](crate::RIGHT).
+    ///
+    /// Refusals: 1 wrong size, 2 unsound, 3 no such seat, 12 no such level (or
+    /// side), 8 empty seat.
+    ///
+    /// ```
+    /// use lots_record::{Message, Record, Refusal, LEFT, RIGHT};
+    ///
+    /// let mut record = Record::new();
+    /// record.join(0, 100, 0, None)?;
+    /// record.join(1, 50, 128, Some(0))?;
+    /// record.deliver(Message::new(1, 0, 1, 0, 0))?;
+    /// assert_eq!(record.link(0, 0, LEFT)?, Some(1));
+    /// assert_eq!(record.link(0, 0, RIGHT)?, None);
+    /// assert_eq!(record.link(0, 9, LEFT), Err(Refusal::NoSuchLevel));
+    /// # Ok::<(), Refusal>(())
+    /// ```
+    #[doc(alias = "lots_read_link")]
+    pub fn link(&self, seat: u8, level: u8, side: u8) -> Result<Option<u8>, Refusal> {
+        let bytes = self.as_bytes();
+        let (record, length) = (bytes.as_ptr(), bytes.len());
+        let mut link = 0;
+        // SAFETY: the slice is ours to read for its length; the output is local.
+        accepted(unsafe { sys::lots_read_link(record, length, seat, level, side, &mut link) })?;
+        Ok(seat_or_none(link))
+    }
+
+    /// Whether five numbers are a pending message.
+    ///
+    /// Refusals: 1 wrong size, 2 unsound.
+    ///
+    /// ```
+    /// use lots_record::{Message, Record};
+    ///
+    /// let mut record = Record::new();
+    /// record.join(0, 100, 0, None)?;
+    /// record.join(1, 200, 128, Some(0))?;
+    /// assert!(record.is_pending(Message::new(1, 0, 1, 0, 0))?);
+    /// assert!(!record.is_pending(Message::new(99, 0, 1, 0, 0))?);
+    /// # Ok::<(), lots_record::Refusal>(())
+    /// ```
+    #[doc(alias = "lots_read_message")]
+    pub fn is_pending(&self, message: Message) -> Result<bool, Refusal> {
+        let bytes = self.as_bytes();
+        let (record, length) = (bytes.as_ptr(), bytes.len());
+        let Message {
+            kind,
+            to,
+            about,
+            level,
+            side,
+        } = message;
+        let mut pending = 0;
+        // SAFETY: the slice is ours to read for its length; the output is local.
+        accepted(unsafe {
+            sys::lots_read_message(record, length, kind, to, about, level, side, &mut pending)
+        })?;
+        Ok(pending == 1)
+    }
+
+    /// Reads the count of seated lots, the phase and the count of pending
+    /// messages.
+    ///
+    /// Refusals: 1 wrong size, 2 unsound.
+    ///
+    /// ```
+    /// use lots_record::{Counts, Phase, Record};
+    ///
+    /// let mut record = Record::new();
+    /// record.join(0, 100, 0, None)?;
+    /// record.join(1, 200, 128, Some(0))?;
+    /// assert_eq!(record.counts()?, Counts { lots: 2, phase: Phase::Open, pending: 1 });
+    /// # Ok::<(), lots_record::Refusal>(())
+    /// ```
+    #[doc(alias = "lots_read_counts")]
+    pub fn counts(&self) -> Result<Counts, Refusal> {
+        let bytes = self.as_bytes();
+        let (record, length) = (bytes.as_ptr(), bytes.len());
+        let (mut lots, mut phase, mut pending) = (0, 0, 0);
+        // SAFETY: the slice is ours to read for its length; the outputs are local.
+        accepted(unsafe {
+            sys::lots_read_counts(record, length, &mut lots, &mut phase, &mut pending)
+        })?;
+        let phase = Phase::from_number(phase);
+        Ok(Counts {
+            lots,
+            phase,
+            pending,
+        })
+    }
+
+    /// Whether the bytes are a sound record: the test that stands in front of
+    /// every call but [`open`](Record::open).
+    ///
+    /// Refusals: 1 wrong size, 2 unsound.
+    ///
+    /// ```
+    /// use lots_record::{Record, Refusal, SIZE};
+    ///
+    /// assert_eq!(Record::new().validate(), Ok(()));
+    /// assert_eq!(Record::over([]).validate(), Err(Refusal::WrongSize));
+    /// // A free seat has no links, which is 255 and not 0.
+    /// assert_eq!(Record::over([0; SIZE]).validate(), Err(Refusal::Unsound));
+    /// ```
+    #[doc(alias = "lots_record_refusal")]
+    #[doc(alias = "refusal")]
+    pub fn validate(&self) -> Result<(), Refusal> {
+        let bytes = self.as_bytes();
+        // SAFETY: the slice is ours to read for its length.
+        accepted(unsafe { sys::lots_record_refusal(bytes.as_ptr(), bytes.len()) })
+    }
+}
+
+/// The counts in place of the bytes, or why they cannot be read.
+impl<B: AsRef<[u8]>> fmt::Debug for Record<B> {
+    fn fmt(&self, f: &mut fmt::Formatter<'_>) -> fmt::Result {
+        f.debug_tuple("Record").field(&self.counts()).finish()
+    }
+}
+
+/// The library's answer: a refusal number, or 0 for an accepted call.
+fn accepted(answer: u8) -> Result<(), Refusal> {
+    match (answer, Refusal::from_number(answer)) {
+        (0, _) => Ok(()),
+        (_, Some(refusal)) => Err(refusal),
+        (_, None) => panic!("the library answered with refusal {answer}"),
+    }
+}
+
+#[cfg(test)]
+mod tests {
+    use super::*;
+
+    #[test]
+    #[should_panic = "refusal 13"]
+    fn there_are_twelve_refusals() {
+        let _ = accepted(13);
+    }
+}

@@ -1,0 +1,113 @@
+//! The refusals of document 01's table.
+
+use core::error::Error;
+use core::fmt;
+
+/// Why a call was refused, by the number and term of the table.
+///
+/// A refused call changes no byte of the record. Of several refusals that
+/// apply, the first in this order is given: 1, 2, 3, 12, 7, 4, 8, 5, 6, 9, 10,
+/// 11.
+///
+/// ```
+/// use lots_record::{Record, Refusal};
+///
+/// let refusal = Record::new().leave(64).unwrap_err();
+/// assert_eq!(refusal, Refusal::NoSuchSeat);
+/// assert_eq!(refusal.number(), 3);
+/// assert_eq!(refusal.to_string(), "no such seat");
+/// ```
+#[derive(Clone, Copy, PartialEq, Eq, Hash, Debug)]
+#[repr(u8)]
+pub enum Refusal {
+    /// 1: the memory is not [`SIZE`](crate::SIZE) bytes long.
+    WrongSize = 1,
+    /// 2: the bytes are no sound record.
+    Unsound = 2,
+    /// 3: a seat above 63.
+    NoSuchSeat = 3,
+    /// 4: a lot joins at a seat that is not free.
+    SeatTaken = 4,
+    /// 5: a seated lot has the number of the lot that joins.
+    NumberInUse = 5,
+    /// 6: the contact's seat is free, or there is no contact while lots are seated.
+    NoContact = 6,
+    /// 7: no lot joins or leaves in phase clearing.
+    Clearing = 7,
+    /// 8: no lot has this seat.
+    EmptySeat = 8,
+    /// 9: the lot is leaving.
+    AlreadyLeaving = 9,
+    /// 10: these five numbers are no pending message.
+    NoSuchMessage = 10,
+    /// 11: no turn while messages are pending.
+    MessagesLeft = 11,
+    /// 12: a level above 8 or a side above 1.
+    NoSuchLevel = 12,
+}
+
+/// The table, ascending by number from 1.
+const TABLE: [(Refusal, &str); 12] = [
+    (Refusal::WrongSize, "wrong size"),
+    (Refusal::Unsound, "unsound"),
+    (Refusal::NoSuchSeat, "no such seat"),
+    (Refusal::SeatTaken, "seat taken"),
+    (Refusal::NumberInUse, "number in use"),
+    (Refusal::NoContact, "no contact"),
+    (Refusal::Clearing, "clearing"),
+    (Refusal::EmptySeat, "empty seat"),
+    (Refusal::AlreadyLeaving, "already leaving"),
+    (Refusal::NoSuchMessage, "no such message"),
+    (Refusal::MessagesLeft, "messages left"),
+    (Refusal::NoSuchLevel, "no such level"),
+];
+
+impl Refusal {
+    /// The number of the table, 1 to 12.
+    ///
+    /// ```
+    /// use lots_record::Refusal;
+    ///
+    /// assert_eq!(Refusal::WrongSize.number(), 1);
+    /// assert_eq!(Refusal::NoSuchLevel.number(), 12);
+    /// ```
+    pub fn number(self) -> u8 {
+        self as u8
+    }
+
+    /// The refusal of that number, or none outside 1 to 12.
+    ///
+    /// ```
+    /// use lots_record::Refusal;
+    ///
+    /// assert_eq!(Refusal::from_number(5), Some(Refusal::NumberInUse));
+    /// assert_eq!(Refusal::from_number(0), None);
+    /// assert_eq!(Refusal::from_number(13), None);
+    /// ```
+    pub fn from_number(number: u8) -> Option<Refusal> {
+        let row = usize::from(number).checked_sub(1)?;
+        TABLE.get(row).map(|&(refusal, _)| refusal)
+    }
+}
+
+impl fmt::Display for Refusal {
+    fn fmt(&self, f: &mut fmt::Formatter<'_>) -> fmt::Result {
+        let (_, term) = TABLE[usize::from(self.number()) - 1];
+        f.pad(term)
+    }
+}
+
+impl Error for Refusal {}
+
+#[cfg(test)]
+mod tests {
+    use super::*;
+
+    #[test]
+    fn the_table_is_in_the_order_of_its_numbers() {
+        for (number, (refusal, _)) in (1..).zip(TABLE) {
+            assert_eq!(refusal.number(), number);
+            assert_eq!(Refusal::from_number(number), Some(refusal));
+        }
+    }
+}

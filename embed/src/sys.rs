@@ -1,0 +1,136 @@
+//! The functions of the static library, as in `lots.h`.
+//!
+//! Each answers the refusal number, or 0, and keeps no pointer. A caller lends
+//! `length` bytes at `record`, writable where the pointer is `*mut`, and
+//! writable outputs that overlap neither them nor each other.
+
+extern "C" {
+    pub fn lots_open(record: *mut u8, length: usize) -> u8;
+
+    pub fn lots_join(
+        record: *mut u8,
+        length: usize,
+        seat: u8,
+        number: u64,
+        vector: u8,
+        contact: u8,
+    ) -> u8;
+
+    pub fn lots_leave(record: *mut u8, length: usize, seat: u8) -> u8;
+
+    pub fn lots_deliver(
+        record: *mut u8,
+        length: usize,
+        kind: u8,
+        to: u8,
+        about: u8,
+        level: u8,
+        side: u8,
+    ) -> u8;
+
+    pub fn lots_turn(record: *mut u8, length: usize) -> u8;
+
+    pub fn lots_find(
+        record: *const u8,
+        length: usize,
+        seat: u8,
+        number: u64,
+        holder: *mut u8,
+        hops: *mut u64,
+    ) -> u8;
+
+    pub fn lots_check(record: *const u8, length: usize, yes: *mut u8) -> u8;
+
+    pub fn lots_read_lot(
+        record: *const u8,
+        length: usize,
+        seat: u8,
+        state: *mut u8,
+        number: *mut u64,
+        vector: *mut u8,
+    ) -> u8;
+
+    pub fn lots_read_link(
+        record: *const u8,
+        length: usize,
+        seat: u8,
+        level: u8,
+        side: u8,
+        link: *mut u8,
+    ) -> u8;
+
+    pub fn lots_read_message(
+        record: *const u8,
+        length: usize,
+        kind: u8,
+        to: u8,
+        about: u8,
+        level: u8,
+        side: u8,
+        pending: *mut u8,
+    ) -> u8;
+
+    pub fn lots_read_counts(
+        record: *const u8,
+        length: usize,
+        lots: *mut u8,
+        phase: *mut u8,
+        pending: *mut u32,
+    ) -> u8;
+
+    pub fn lots_record_refusal(record: *const u8, length: usize) -> u8;
+}
+
+/// A refused call writes 0 to every output, which the safe calls do not show.
+#[cfg(test)]
+mod tests {
+    use super::*;
+    use crate::{Record, SIZE};
+
+    fn outputs_of_a_seat_are_0(record: &[u8], refusal: u8) {
+        let (start, length) = (record.as_ptr(), record.len());
+        let (mut find, mut lot, mut link) = ((9, 9), (9, 9, 9), 9);
+        // SAFETY: the slice is valid for its length, and the outputs are local.
+        let answers = unsafe {
+            [
+                lots_find(start, length, 0, 7, &mut find.0, &mut find.1),
+                lots_read_lot(start, length, 0, &mut lot.0, &mut lot.1, &mut lot.2),
+                lots_read_link(start, length, 0, 0, 0, &mut link),
+            ]
+        };
+        assert_eq!(answers, [refusal; 3]);
+        assert_eq!((find, lot, link), ((0, 0), (0, 0, 0), 0));
+    }
+
+    fn outputs_of_the_whole_are_0(record: &[u8], refusal: u8) {
+        let (start, length) = (record.as_ptr(), record.len());
+        let (mut yes, mut pending, mut counts) = (9, 9, (9, 9, 9));
+        // SAFETY: the slice is valid for its length, and the outputs are local.
+        let answers = unsafe {
+            [
+                lots_check(start, length, &mut yes),
+                lots_read_message(start, length, 1, 0, 1, 0, 0, &mut pending),
+                lots_read_counts(start, length, &mut counts.0, &mut counts.1, &mut counts.2),
+            ]
+        };
+        assert_eq!(answers, [refusal; 3]);
+        assert_eq!((yes, pending, counts), (0, 0, (0, 0, 0)));
+    }
+
+    #[test]
+    fn outputs_of_a_wrong_size_are_0() {
+        outputs_of_a_seat_are_0(&[0], 1);
+        outputs_of_the_whole_are_0(&[0], 1);
+    }
+
+    #[test]
+    fn outputs_of_an_unsound_record_are_0() {
+        outputs_of_a_seat_are_0(&[0; SIZE], 2);
+        outputs_of_the_whole_are_0(&[0; SIZE], 2);
+    }
+
+    #[test]
+    fn outputs_of_an_empty_seat_are_0() {
+        outputs_of_a_seat_are_0(Record::new().as_bytes(), 8);
+    }
+}

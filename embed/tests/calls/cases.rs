@@ -1,0 +1,117 @@
+//! The worked cases of document 01 that speak of calls: (b) to (h), (k), (l).
+
+use crate::common::{deliver_all, q, refused};
+use lots_record::{Counts, Found, Lot, Phase, Record, State, LEFT, RIGHT};
+
+fn find_in_q(start: u8, number: u64) -> (Option<u8>, u64) {
+    let Found { holder, hops } = q().find(start, number).unwrap();
+    (holder, hops)
+}
+
+#[test]
+fn q_reads_as_the_example_prints_it() {
+    let q = q();
+    let counts = Counts {
+        lots: 3,
+        phase: Phase::Open,
+        pending: 0,
+    };
+    assert_eq!(q.counts(), Ok(counts));
+    for (seat, number, vector) in [(0, 100, 0), (1, 200, 128), (2, 300, 64)] {
+        let state = State::Staying;
+        let lot = Lot {
+            state,
+            number,
+            vector,
+        };
+        assert_eq!(q.lot(seat), Ok(lot));
+    }
+    // 100 200 300 at level 0, 100 300 at level 1, and no list of two above.
+    let links = |seat, level| (q.link(seat, level, LEFT), q.link(seat, level, RIGHT));
+    assert_eq!(links(0, 0), (Ok(None), Ok(Some(1))));
+    assert_eq!(links(1, 0), (Ok(Some(0)), Ok(Some(2))));
+    assert_eq!(links(2, 0), (Ok(Some(1)), Ok(None)));
+    assert_eq!(links(0, 1), (Ok(None), Ok(Some(2))));
+    assert_eq!(links(1, 1), (Ok(None), Ok(None)));
+    assert_eq!(links(2, 1), (Ok(Some(0)), Ok(None)));
+    for (seat, level) in (0..3).flat_map(|seat| (2..=8).map(move |level| (seat, level))) {
+        assert_eq!(links(seat, level), (Ok(None), Ok(None)));
+    }
+    assert_eq!(q.check(), Ok(true));
+    assert_eq!(find_in_q(0, 250), (Some(1), 1));
+}
+
+#[test]
+fn case_b_below_all() {
+    assert_eq!(find_in_q(0, 99), (None, 0));
+}
+
+#[test]
+fn case_c_equal_by_level_1() {
+    assert_eq!(find_in_q(0, 300), (Some(2), 1));
+}
+
+#[test]
+fn case_d_from_above() {
+    assert_eq!(find_in_q(2, 250), (Some(1), 1));
+}
+
+#[test]
+fn case_e_leftward_equal() {
+    assert_eq!(find_in_q(2, 100), (Some(0), 1));
+}
+
+#[test]
+fn case_f_number_in_use() {
+    refused(q().as_bytes(), 5, |record| record.join(3, 200, 0, Some(0)));
+}
+
+#[test]
+fn case_g_no_such_seat() {
+    refused(q().as_bytes(), 3, |record| record.join(64, 400, 0, Some(0)));
+}
+
+#[test]
+fn case_h_no_contact() {
+    let empty = Record::new();
+    refused(empty.as_bytes(), 6, |record| record.join(0, 1, 0, Some(0)));
+}
+
+#[test]
+fn case_k_the_middle_lot_leaves() {
+    let mut record = q();
+    record.leave(1).unwrap();
+    record.turn().unwrap();
+    assert_eq!(record.counts().unwrap().phase, Phase::Clearing);
+    assert_eq!(record.check(), Ok(false));
+    deliver_all(&mut record);
+    assert_eq!(record.check(), Ok(true));
+    record.turn().unwrap();
+    let counts = Counts {
+        lots: 2,
+        phase: Phase::Open,
+        pending: 0,
+    };
+    assert_eq!(record.counts(), Ok(counts));
+    for level in [0, 1] {
+        assert_eq!(record.link(0, level, LEFT), Ok(None));
+        assert_eq!(record.link(0, level, RIGHT), Ok(Some(2)));
+        assert_eq!(record.link(2, level, LEFT), Ok(Some(0)));
+        assert_eq!(record.link(2, level, RIGHT), Ok(None));
+    }
+    // The freed seat is usable again.
+    record.join(1, 200, 128, Some(2)).unwrap();
+    deliver_all(&mut record);
+    assert_eq!(record, q());
+}
+
+#[test]
+fn case_l_a_sole_lot_leaves() {
+    let mut record = Record::new();
+    record.join(5, 7, 0, None).unwrap();
+    record.leave(5).unwrap();
+    record.turn().unwrap();
+    assert_eq!(record.counts().unwrap().phase, Phase::Clearing);
+    record.turn().unwrap();
+    assert_eq!(record, Record::new());
+}

@@ -1,0 +1,78 @@
+//! What the tests share: record Q, delivery in order, and a watch on refusals.
+
+use lots_record::{Message, Record, Refusal, SIZE};
+
+pub type Owned = Record<[u8; SIZE]>;
+
+/// Lots 100, 200 and 300 on seats 0 to 2, nothing delivered.
+pub fn three_lots() -> Owned {
+    let mut record = Record::new();
+    record.join(0, 100, 0, None).unwrap();
+    record.join(1, 200, 128, Some(0)).unwrap();
+    record.join(2, 300, 64, Some(0)).unwrap();
+    record
+}
+
+/// The settled record Q of document 01.
+pub fn q() -> Owned {
+    let mut record = three_lots();
+    deliver_all(&mut record);
+    record
+}
+
+/// Delivers the smallest pending message until none is pending.
+pub fn deliver_all(record: &mut Owned) {
+    while let Some(message) = smallest_pending(record.as_bytes()) {
+        assert_eq!(record.is_pending(message), Ok(true));
+        record.deliver(message).unwrap();
+    }
+    assert_eq!(record.counts().unwrap().pending, 0);
+}
+
+/// The first set bit of the pending bits, by docs/RECORD.md.
+pub fn smallest_pending(bytes: &[u8]) -> Option<Message> {
+    const PENDING: usize = 1793;
+    let (place, byte) = (0..).zip(&bytes[PENDING..]).find(|&(_, &byte)| byte != 0)?;
+    Some(message_at(8 * place + byte.trailing_zeros()))
+}
+
+/// The message at a place of the ascending order.
+fn message_at(mut place: u32) -> Message {
+    const SEATS: u32 = 64;
+    // How many values `about`, `level` and `side` have, by kind from 1.
+    const VALUES: [(u32, u32, u32); 7] = [
+        (SEATS, 9, 1),
+        (SEATS, 8, 1),
+        (2, 8, 2),
+        (1, 9, 2),
+        (SEATS, 9, 1),
+        (SEATS, 9, 1),
+        (1, 9, 2),
+    ];
+    for (kind, (abouts, levels, sides)) in (1..).zip(VALUES) {
+        let places = SEATS * abouts * levels * sides;
+        if place < places {
+            let mut take = |values: u32| {
+                let value = place % values;
+                place /= values;
+                value as u8
+            };
+            let (side, level, about, to) = (take(sides), take(levels), take(abouts), take(SEATS));
+            return Message::new(kind, to, about, level, side);
+        }
+        place -= places;
+    }
+    unreachable!("there are no more pending bits")
+}
+
+/// A call on lent bytes that is refused with this number and changes none.
+pub fn refused(
+    bytes: &[u8],
+    number: u8,
+    call: impl FnOnce(&mut Record<&mut [u8]>) -> Result<(), Refusal>,
+) {
+    let mut lent = bytes.to_vec();
+    let answer = call(&mut Record::over(&mut lent[..]));
+    assert_eq!(answer.map_err(Refusal::number), Err(number));
+    assert!(lent == bytes, "a call refused with {number} changed a byte");
+}

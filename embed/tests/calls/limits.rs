@@ -1,0 +1,116 @@
+//! The last seat, the ends of the numbers, a full record, and bytes lent in
+//! several ways.
+
+use crate::common::{deliver_all, q, smallest_pending, three_lots};
+use lots_record::{Counts, Found, Message, Phase, Record, LEFT, RIGHT, SIZE};
+
+#[test]
+fn the_last_seat_and_the_ends_of_the_numbers() {
+    let mut record = Record::new();
+    record.join(63, 0, 0, None).unwrap();
+    record.join(0, u64::MAX, 0, Some(63)).unwrap();
+    deliver_all(&mut record);
+    for level in 0..=8 {
+        assert_eq!(record.link(63, level, LEFT), Ok(None));
+        assert_eq!(record.link(63, level, RIGHT), Ok(Some(0)));
+        assert_eq!(record.link(0, level, LEFT), Ok(Some(63)));
+        assert_eq!(record.link(0, level, RIGHT), Ok(None));
+    }
+    assert_eq!(record.lot(63).unwrap().number, 0);
+    assert_eq!(record.lot(0).unwrap().number, u64::MAX);
+    let found = |start, number| {
+        let Found { holder, hops } = record.find(start, number).unwrap();
+        (holder, hops)
+    };
+    assert_eq!(found(63, u64::MAX), (Some(0), 1));
+    assert_eq!(found(63, u64::MAX - 1), (Some(63), 0));
+    assert_eq!(found(0, u64::MAX - 1), (Some(63), 1));
+    assert_eq!(found(0, 0), (Some(63), 1));
+}
+
+/// Every message that seats 0 to 2 can have in phase open and more, ascending.
+fn messages() -> Vec<Message> {
+    let mut messages = Vec::new();
+    for kind in 1..=3 {
+        for to in 0..3 {
+            for about in 0..3 {
+                for level in 0..=8 {
+                    messages.push(Message::new(kind, to, about, level, LEFT));
+                    messages.push(Message::new(kind, to, about, level, RIGHT));
+                }
+            }
+        }
+    }
+    messages
+}
+
+#[test]
+fn the_smallest_pending_is_the_first_bit_set() {
+    let (messages, mut record) = (messages(), three_lots());
+    while record.counts().unwrap().pending > 0 {
+        let pending = |message: &&Message| record.is_pending(**message).unwrap();
+        let smallest = messages.iter().find(pending).copied();
+        assert_eq!(smallest, smallest_pending(record.as_bytes()));
+        record.deliver(smallest.unwrap()).unwrap();
+    }
+    assert_eq!(record, q());
+}
+
+#[test]
+fn the_largest_first_settles_to_the_same_record() {
+    let (messages, mut record) = (messages(), three_lots());
+    while record.counts().unwrap().pending > 0 {
+        let pending = |message: &&Message| record.is_pending(**message).unwrap();
+        let largest = *messages.iter().rev().find(pending).unwrap();
+        record.deliver(largest).unwrap();
+    }
+    assert_eq!(record, q());
+}
+
+#[test]
+fn a_full_record_settles_and_finds_every_holder() {
+    let mut record = Record::new();
+    // Multiplying by an odd number reaches every seat, and spreads the vectors.
+    let lots: Vec<(u8, u64, u8)> = (0..64u8)
+        .map(|i| {
+            (
+                i.wrapping_mul(37) % 64,
+                10 * u64::from(i),
+                i.wrapping_mul(151),
+            )
+        })
+        .collect();
+    for (i, &(seat, number, vector)) in lots.iter().enumerate() {
+        let contact = (i > 0).then(|| lots[i / 2].0);
+        record.join(seat, number, vector, contact).unwrap();
+    }
+    deliver_all(&mut record);
+    let counts = Counts {
+        lots: 64,
+        phase: Phase::Open,
+        pending: 0,
+    };
+    assert_eq!(record.counts(), Ok(counts));
+    assert_eq!(record.check(), Ok(true));
+    for &(seat, number, _) in &lots {
+        for scanned in [number, number + 9] {
+            assert_eq!(record.find(0, scanned).unwrap().holder, Some(seat));
+        }
+    }
+}
+
+#[test]
+fn bytes_may_be_owned_or_borrowed() {
+    let mut array = [9; SIZE];
+    let mut lent = Record::over(&mut array);
+    lent.open().unwrap();
+    lent.join(0, 100, 0, None).unwrap();
+
+    let shared = Record::over(&array[..]);
+    assert_eq!(shared.lot(0).unwrap().number, 100);
+
+    let mut boxed = Record::over(array.to_vec().into_boxed_slice());
+    boxed.leave(0).unwrap();
+    assert_eq!(array[1], 1);
+    assert_eq!(boxed.into_inner()[1], 2);
+}

@@ -1,0 +1,6 @@
+//! The calls of a record against document 01.
+
+mod cases;
+mod common;
+mod limits;
+mod refusals;

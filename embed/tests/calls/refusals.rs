@@ -1,0 +1,227 @@
+//! Every refusal of document 01's table, and that it changes no byte.
+
+use crate::common::{q, refused, three_lots, Owned};
+use lots_record::{Message, Record, Refusal, SIZE};
+
+const NO_MESSAGE: Message = Message::new(1, 0, 63, 8, 0);
+
+type Call = fn(&mut Record<&mut [u8]>) -> Result<(), Refusal>;
+
+/// Every call but open, with arguments that Q accepts, or else refuses with 8 or
+/// 10: a later row than 1 and 2.
+const CALLS: [Call; 11] = [
+    |record| record.join(3, 400, 0, Some(0)),
+    |record| record.leave(9),
+    |record| record.deliver(NO_MESSAGE),
+    |record| record.turn(),
+    |record| record.find(9, 250).map(drop),
+    |record| record.check().map(drop),
+    |record| record.lot(9).map(drop),
+    |record| record.link(9, 0, 0).map(drop),
+    |record| record.is_pending(NO_MESSAGE).map(drop),
+    |record| record.counts().map(drop),
+    |record| record.validate(),
+];
+
+fn clearing() -> Owned {
+    let mut record = q();
+    record.leave(1).unwrap();
+    record.turn().unwrap();
+    record
+}
+
+#[test]
+fn wrong_size_of_every_call() {
+    let q = q();
+    let long = [q.as_bytes(), &[0]].concat();
+    for bytes in [&[], &q.as_bytes()[..SIZE - 1], &long[..]] {
+        refused(bytes, 1, |record| record.open());
+        for call in CALLS {
+            refused(bytes, 1, call);
+        }
+    }
+    assert_eq!((SIZE - 1, SIZE + 1), (20_256, 20_258));
+}
+
+#[test]
+fn unsound_of_every_call_but_open() {
+    for bytes in unsound() {
+        for call in CALLS {
+            refused(&bytes, 2, call);
+        }
+        let mut record = Record::over(bytes);
+        assert_eq!(record.open(), Ok(()));
+        assert_eq!(record.as_bytes(), Record::new().as_bytes());
+    }
+}
+
+/// Bytes of the right size that break one clause of "Sound" each, and some that
+/// break many.
+fn unsound() -> Vec<Vec<u8>> {
+    const ENTRY: usize = 28;
+    const SEAT_0: usize = 1;
+    const SEAT_1: usize = SEAT_0 + ENTRY;
+    const SEAT_3: usize = SEAT_1 + 2 * ENTRY;
+    const PENDING: usize = 1793;
+    let q = q();
+    let changed = |at: usize, byte: u8| {
+        assert_ne!(q.as_bytes()[at], byte);
+        let mut bytes = q.as_bytes().to_vec();
+        bytes[at] = byte;
+        bytes
+    };
+    vec![
+        vec![0; SIZE],
+        vec![255; SIZE],
+        // The phase.
+        changed(0, 2),
+        // A state, and a free seat's number, vector and link.
+        changed(SEAT_0, 3),
+        changed(SEAT_3 + 8, 1),
+        changed(SEAT_3 + 9, 1),
+        changed(SEAT_3 + 10, 0),
+        // A number twice: 200 becomes 100.
+        changed(SEAT_1 + 8, 100),
+        // A link to no seat, to a free seat, to itself, to the wrong side, and to
+        // a lot that shares fewer bits than the level.
+        changed(SEAT_0 + 11, 64),
+        changed(SEAT_0 + 11, 3),
+        changed(SEAT_0 + 11, 0),
+        changed(SEAT_0 + 10, 1),
+        changed(SEAT_0 + 13, 1),
+        // A MEET to a lot about itself, and a NONE in phase open.
+        changed(PENDING, 1),
+        changed(SIZE - 1, 128),
+    ]
+}
+
+#[test]
+fn no_such_seat() {
+    for record in [q(), clearing()] {
+        let bytes = record.as_bytes();
+        for seat in [64, 255] {
+            refused(bytes, 3, |record| record.join(seat, 200, 0, Some(9)));
+            refused(bytes, 3, |record| record.leave(seat));
+            refused(bytes, 3, |record| record.find(seat, 250).map(drop));
+            refused(bytes, 3, |record| record.lot(seat).map(drop));
+            refused(bytes, 3, |record| record.link(seat, 9, 2).map(drop));
+        }
+        for contact in [64, 254] {
+            refused(bytes, 3, |record| record.join(3, 400, 0, Some(contact)));
+        }
+    }
+}
+
+#[test]
+fn no_such_level() {
+    for (level, side) in [(9, 0), (255, 1), (8, 2), (0, 255)] {
+        for seat in [0, 9] {
+            refused(q().as_bytes(), 12, |record| {
+                record.link(seat, level, side).map(drop)
+            });
+        }
+    }
+}
+
+#[test]
+fn clearing_comes_before_what_follows_it() {
+    let clearing = clearing();
+    refused(clearing.as_bytes(), 7, |record| {
+        record.join(3, 400, 0, Some(0))
+    });
+    refused(clearing.as_bytes(), 7, |record| {
+        record.join(0, 100, 0, None)
+    });
+    refused(clearing.as_bytes(), 7, |record| record.leave(0));
+    refused(clearing.as_bytes(), 7, |record| record.leave(9));
+}
+
+#[test]
+fn join_meets_4_then_5_then_6() {
+    let q = q();
+    refused(q.as_bytes(), 4, |record| record.join(1, 200, 0, Some(9)));
+    refused(q.as_bytes(), 5, |record| record.join(3, 200, 0, Some(9)));
+    refused(q.as_bytes(), 6, |record| record.join(3, 400, 0, Some(9)));
+    refused(q.as_bytes(), 6, |record| record.join(3, 400, 0, Some(3)));
+    refused(q.as_bytes(), 6, |record| record.join(3, 400, 0, None));
+    refused(q.as_bytes(), 6, |record| record.join(3, 400, 0, Some(255)));
+}
+
+#[test]
+fn empty_seat() {
+    for seat in [3, 63] {
+        refused(q().as_bytes(), 8, |record| record.leave(seat));
+        refused(q().as_bytes(), 8, |record| record.find(seat, 250).map(drop));
+        refused(q().as_bytes(), 8, |record| record.lot(seat).map(drop));
+        refused(q().as_bytes(), 8, |record| {
+            record.link(seat, 8, 1).map(drop)
+        });
+    }
+}
+
+#[test]
+fn already_leaving() {
+    let mut record = q();
+    record.leave(1).unwrap();
+    refused(record.as_bytes(), 9, |record| record.leave(1));
+}
+
+#[test]
+fn no_such_message() {
+    let pending = Message::new(1, 0, 1, 0, 0);
+    let record = three_lots();
+    assert_eq!(record.is_pending(pending), Ok(true));
+    let others = [
+        NO_MESSAGE,
+        Message::new(0, 0, 0, 0, 0),
+        Message::new(8, 0, 1, 0, 0),
+        Message::new(255, 255, 255, 255, 255),
+        Message { kind: 2, ..pending },
+        Message { to: 64, ..pending },
+        Message { to: 2, ..pending },
+        Message {
+            about: 65,
+            ..pending
+        },
+        Message {
+            level: 9,
+            ..pending
+        },
+        Message { side: 1, ..pending },
+        Message { side: 2, ..pending },
+    ];
+    for message in others {
+        assert_eq!(record.is_pending(message), Ok(false));
+        refused(record.as_bytes(), 10, |record| record.deliver(message));
+    }
+}
+
+#[test]
+fn messages_left() {
+    refused(three_lots().as_bytes(), 11, |record| record.turn());
+    refused(clearing().as_bytes(), 11, |record| record.turn());
+}
+
+#[test]
+fn a_refusal_is_an_error_with_the_tables_term() {
+    let terms = [
+        "wrong size",
+        "unsound",
+        "no such seat",
+        "seat taken",
+        "number in use",
+        "no contact",
+        "clearing",
+        "empty seat",
+        "already leaving",
+        "no such message",
+        "messages left",
+        "no such level",
+    ];
+    for (number, term) in (1..).zip(terms) {
+        let refusal = Refusal::from_number(number).unwrap();
+        assert_eq!(refusal.number(), number);
+        let error: Box<dyn std::error::Error> = refusal.into();
+        assert_eq!(error.to_string(), term);
+    }
+}
