@@ -1,12 +1,12 @@
-//! Finds the archive that `rt staticlib exports` makes, or the one of the folder in LOTS_LIBRARY.
+//! Finds the archive that `rt staticlib exports` makes, or the one of the folder in LOTS_STATICLIB.
 
 use std::env;
 use std::path::PathBuf;
 
 fn main() {
-    println!("cargo:rerun-if-env-changed=LOTS_LIBRARY");
+    println!("cargo:rerun-if-env-changed=LOTS_STATICLIB");
     let here = PathBuf::from(env::var_os("CARGO_MANIFEST_DIR").expect("cargo sets it"));
-    let folder = match env::var_os("LOTS_LIBRARY") {
+    let folder = match env::var_os("LOTS_STATICLIB") {
         Some(folder) => PathBuf::from(folder),
         None => here.join("../target/staticlib"),
     };
