@@ -3,6 +3,8 @@
 //! - [`model`] is the record: lots, links, pending messages and the calls.
 //! - [`graph`] is what the links must come to: the lists of the members, and
 //!   Constraints 1 to 6 of document 000.
+//! - [`lent`] is the calls on lent bytes; [`call`] is a call with its answer, and
+//!   [`inputs`] makes records and calls from a seed.
 //! - [`text`] is the command language of the program `lots`.
 //! - [`roster`] is document 01's roster with its table of refusals.
 //! - [`selfcheck`] runs a script on the model and holds every answer against
@@ -21,12 +23,17 @@
 //! assert_eq!(model.find(0, 250).unwrap().holder, Some(1));
 //! ```
 
+pub mod call;
 pub mod child;
 pub mod graph;
+pub mod inputs;
+pub mod lent;
 pub mod model;
 pub mod random;
 pub mod roster;
+mod rules;
 pub mod script;
+mod search;
 pub mod selfcheck;
 pub mod shrink;
 pub mod text;
@@ -35,3 +42,5 @@ pub mod text;
 mod cases;
 #[cfg(test)]
 mod faults;
+#[cfg(test)]
+mod lent_agrees;

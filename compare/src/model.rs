@@ -8,17 +8,18 @@
 mod fault;
 mod message;
 mod refusal;
-mod rules;
 mod sound;
 
 use crate::graph::{Held, Links, Member, Side, LEVELS, NO_LINKS, SEATS, SIDES};
+use crate::rules::{Entries, Rules};
+use crate::search::Search;
 use std::collections::BTreeSet;
 
 pub use message::{Kind, Message};
 pub use refusal::Refusal;
-pub use rules::{shared_bits, Effect};
 
-#[cfg(test)]
+pub use crate::rules::{shared_bits, Effect};
+pub use crate::search::Found;
 pub(crate) use fault::Fault;
 
 /// The contact of the first lot.
@@ -43,13 +44,6 @@ pub struct Lot {
     pub vector: u8,
     pub state: State,
     pub links: Links,
-}
-
-/// The answer of a search: the holder's seat or none, and the moves made.
-#[derive(Clone, Copy, PartialEq, Eq, Debug)]
-pub struct Found {
-    pub holder: Option<u8>,
-    pub hops: u32,
 }
 
 #[derive(Clone, Copy, PartialEq, Eq, Debug)]
@@ -163,6 +157,11 @@ impl Model {
         }
     }
 
+    /// What the delivery of a pending message would do.
+    pub fn effect(&self, message: Message) -> Effect {
+        Rules::effect(self, message)
+    }
+
     /// Takes a pending message away and does its rule. Refusals: 10.
     pub fn deliver(&mut self, message: Message) -> Result<(), Refusal> {
         if !self.pending.remove(&message) {
@@ -237,37 +236,7 @@ impl Model {
     /// The search of document 000 from level 8. Refusals: 3, 8.
     pub fn find(&self, start: u8, scanned: u64) -> Result<Found, Refusal> {
         self.lot(start)?;
-        let (mut at, mut hops) = (start, 0);
-        for level in (0..LEVELS).rev() {
-            while let Some(next) = self.step_toward(at, level, scanned) {
-                at = next;
-                hops += 1;
-            }
-        }
-        if self.number(at) <= scanned {
-            let holder = Some(at);
-            return Ok(Found { holder, hops });
-        }
-        let holder = self.neighbour(at, 0, Side::Left);
-        hops += u32::from(holder.is_some());
-        Ok(Found { holder, hops })
-    }
-
-    /// The next lot of the walk at this level, if that does not overshoot the
-    /// scanned number; none at equality.
-    fn step_toward(&self, at: u8, level: usize, scanned: u64) -> Option<u8> {
-        let here = self.number(at);
-        if here == scanned {
-            return None;
-        }
-        let side = Side::toward(here, scanned);
-        let next = self.neighbour(at, level, side)?;
-        let number = self.number(next);
-        let overshoots = match side {
-            Side::Right => number > scanned,
-            Side::Left => number < scanned,
-        };
-        (!overshoots).then_some(next)
+        Ok(self.search(start, scanned))
     }
 
     /// Whether the members form one skip graph, by Constraints 1 to 6.
@@ -353,13 +322,27 @@ impl Model {
         let lot = self.lot_at(seat);
         lot.expect("links and pending messages name seated lots")
     }
+}
 
+impl Entries for Model {
     fn number(&self, seat: u8) -> u64 {
         self.named(seat).number
     }
 
+    fn vector(&self, seat: u8) -> u8 {
+        self.named(seat).vector
+    }
+
+    fn is_leaving(&self, seat: u8) -> bool {
+        self.named(seat).state == State::Leaving
+    }
+
     fn neighbour(&self, seat: u8, level: usize, side: Side) -> Option<u8> {
         self.named(seat).links[level][side as usize]
+    }
+
+    fn has(&self, fault: Fault) -> bool {
+        self.has_fault(fault)
     }
 }
 

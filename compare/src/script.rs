@@ -6,8 +6,9 @@ mod pools;
 mod writer;
 
 use crate::random::Random;
-use pools::{Numbers, Pools, Vectors};
 use writer::Writer;
+
+pub use pools::{Numbers, Pools, Vectors};
 
 /// Lines, each with its newline; the last may lack it.
 pub type Script = Vec<Vec<u8>>;

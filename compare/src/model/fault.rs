@@ -22,12 +22,12 @@ impl Model {
     }
 
     #[cfg(test)]
-    pub(super) fn has(&self, fault: Fault) -> bool {
+    pub(super) fn has_fault(&self, fault: Fault) -> bool {
         self.fault == Some(fault)
     }
 
     #[cfg(not(test))]
-    pub(super) fn has(&self, _: Fault) -> bool {
+    pub(super) fn has_fault(&self, _: Fault) -> bool {
         false
     }
 }

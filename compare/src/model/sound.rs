@@ -2,6 +2,7 @@
 
 use super::{Kind, Message, Model, Phase, State};
 use crate::graph::{first_bits, Side, LEVELS, SIDES};
+use crate::rules::Entries;
 use std::collections::BTreeSet;
 
 impl Model {

@@ -1,16 +1,58 @@
-//! The seven rules of delivery. Each reads the record and says what to change;
-//! an effect has no room for more than one link of the lot `to`.
+//! The seven rules of delivery. Each reads entries and says what to change; an
+//! effect has no room for more than one link of the lot `to`.
 
-use super::fault::Fault;
-use super::{Kind, Message, Model, State};
 use crate::graph::{Side, BITS};
+use crate::model::{Fault, Kind, Message};
+
+/// What the rules and the search read of a record. The seats are those of
+/// seated lots.
+pub(crate) trait Entries {
+    fn number(&self, seat: u8) -> u64;
+    fn vector(&self, seat: u8) -> u8;
+    fn is_leaving(&self, seat: u8) -> bool;
+    fn neighbour(&self, seat: u8, level: usize, side: Side) -> Option<u8>;
+
+    /// Whether a test has put this fault in.
+    fn has(&self, _: Fault) -> bool {
+        false
+    }
+}
 
 /// What a delivery does: sets at most one link of its own lot, at the message's
 /// level, and sends messages.
 #[derive(Clone, PartialEq, Eq, Debug, Default)]
 pub struct Effect {
     pub set: Option<(Side, Option<u8>)>,
-    pub sends: Vec<Message>,
+    pub sends: Sends,
+}
+
+/// A MEET that sets a link sends at most two MEET, a PROBE and a PULL.
+const MOST_SENDS: usize = 4;
+
+/// Up to four messages.
+#[derive(Clone, PartialEq, Eq, Debug, Default)]
+pub struct Sends([Option<Message>; MOST_SENDS]);
+
+impl Sends {
+    fn push(&mut self, message: Message) {
+        let free = self.0.iter_mut().find(|place| place.is_none());
+        *free.expect("no rule sends more") = Some(message);
+    }
+
+    fn push_if_any(&mut self, message: Option<Message>) {
+        if let Some(message) = message {
+            self.push(message);
+        }
+    }
+}
+
+impl IntoIterator for Sends {
+    type Item = Message;
+    type IntoIter = std::iter::Flatten<std::array::IntoIter<Option<Message>, MOST_SENDS>>;
+
+    fn into_iter(self) -> Self::IntoIter {
+        self.0.into_iter().flatten()
+    }
 }
 
 impl Effect {
@@ -31,17 +73,15 @@ impl Effect {
     }
 
     fn send_if_any(message: Option<Message>) -> Effect {
-        let sends = message.into_iter().collect();
-        Effect {
-            sends,
-            ..Effect::default()
-        }
+        let mut effect = Effect::default();
+        effect.sends.push_if_any(message);
+        effect
     }
 }
 
-impl Model {
+pub(crate) trait Rules: Entries {
     /// What the delivery of a pending message would do.
-    pub fn effect(&self, m: Message) -> Effect {
+    fn effect(&self, m: Message) -> Effect {
         match m.kind() {
             Some(Kind::Meet) => self.meet(m),
             Some(Kind::Probe) => self.probe(m),
@@ -70,11 +110,11 @@ impl Model {
         let sends = &mut effect.sends;
         sends.push(Message::meet(m.about, m.to, m.level));
         if !self.has(Fault::OldNeighbourDropped) {
-            sends.extend(old.map(|old| Message::meet(m.about, old, m.level)));
+            sends.push_if_any(old.map(|old| Message::meet(m.about, old, m.level)));
         }
         if has_level_above(m) {
             sends.push(Message::probe(m.about, m.to, m.level));
-            sends.extend(self.pull_from_other_side(m, side.away()));
+            sends.push_if_any(self.pull_from_other_side(m, side.away()));
         } else if self.has(Fault::ProbeAtLevel8) {
             sends.push(Message::probe(m.about, m.to, m.level));
         }
@@ -139,10 +179,6 @@ impl Model {
         })
     }
 
-    fn is_leaving(&self, seat: u8) -> bool {
-        self.named(seat).state == State::Leaving
-    }
-
     /// The link of `to` at the message's level.
     fn link_at(&self, m: Message, side: Side) -> Option<u8> {
         self.neighbour(m.to, usize::from(m.level), side)
@@ -159,7 +195,7 @@ impl Model {
     }
 
     fn share(&self, one: u8, other: u8) -> u32 {
-        let (one, other) = (self.named(one).vector, self.named(other).vector);
+        let (one, other) = (self.vector(one), self.vector(other));
         if self.has(Fault::BitsFromTheLowEnd) {
             return (one ^ other).trailing_zeros();
         }
@@ -169,9 +205,11 @@ impl Model {
     /// The bit of `to` numbered as the level; bit 0 is the highest.
     fn bit_at_level(&self, m: Message) -> u8 {
         let shift = BITS - 1 - usize::from(m.level);
-        (self.named(m.to).vector >> shift) & 1
+        (self.vector(m.to) >> shift) & 1
     }
 }
+
+impl<E: Entries> Rules for E {}
 
 /// The count of equal bits from the highest on.
 pub fn shared_bits(one: u8, other: u8) -> u32 {

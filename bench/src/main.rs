@@ -1,0 +1,86 @@
+//! Times the calls of the static library. `README.md` says how to run it and
+//! what it prints.
+
+mod calls;
+mod rows;
+mod stack;
+mod time;
+
+use rows::Row;
+use time::Times;
+
+/// The library is to take at most so many times Rust's time in every row.
+const AIM_OF_RUST: f64 = 1.1;
+/// These are to take at most so many passes on settled records.
+const AIM_OF_PASSES: f64 = 8.0;
+const PASS_CALLS: [&str; 2] = ["record_refusal", "check"];
+
+fn main() {
+    println!(
+        "{:<15} {:<34} {:>12} {:>12} {:>10}   {:>8} {:>8} {:>8}",
+        "call", "record", "library/Rust", "library/pass", "Rust/pass", "library", "Rust", "pass"
+    );
+    let asked = std::env::args().nth(1);
+    let is_asked = |row: &Row| asked.as_ref().is_none_or(|name| name == row.call);
+    let measured = rows::all().into_iter().filter(is_asked).map(|row| {
+        let times = time::measure(&row);
+        print_row(&row, times);
+        (row, times)
+    });
+    let measured: Vec<(Row, Times)> = measured.collect();
+    println!("{:>120}", "(nanoseconds)");
+    println!(
+        "A pass that takes eight bytes at a time: {:.0} nanoseconds.",
+        time::pass_by_words()
+    );
+    print_aims(&measured);
+    stack::print();
+}
+
+fn print_row(row: &Row, times: Times) {
+    let Times {
+        library,
+        rust,
+        pass,
+    } = times;
+    println!(
+        "{:<15} {:<34} {:>12.2} {:>12.2} {:>10.2}   {library:>8.0} {rust:>8.0} {pass:>8.0}",
+        row.call,
+        row.record,
+        library / rust,
+        library / pass,
+        rust / pass,
+    );
+}
+
+fn print_aims(measured: &[(Row, Times)]) {
+    let of_rust = |times: &Times| times.library / times.rust;
+    let aim = format!("every row at most {AIM_OF_RUST} times Rust");
+    print_aim(&aim, measured.iter(), of_rust, AIM_OF_RUST);
+    let of_pass = |times: &Times| times.library / times.pass;
+    let rows = measured.iter();
+    let rows = rows.filter(|(row, _)| PASS_CALLS.contains(&row.call));
+    let aim = format!("record_refusal and check at most {AIM_OF_PASSES} passes");
+    print_aim(&aim, rows, of_pass, AIM_OF_PASSES);
+}
+
+fn print_aim<'a>(
+    aim: &str,
+    rows: impl Iterator<Item = &'a (Row, Times)>,
+    ratio: impl Fn(&Times) -> f64,
+    most: f64,
+) {
+    let ratios: Vec<(&Row, f64)> = rows.map(|(row, times)| (row, ratio(times))).collect();
+    let above = ratios.iter().filter(|(_, ratio)| *ratio > most).count();
+    let highest = ratios.iter().max_by(|one, other| one.1.total_cmp(&other.1));
+    let Some((row, highest)) = highest else {
+        return;
+    };
+    let met = if above == 0 { "met" } else { "NOT met" };
+    println!(
+        "Aim {met}: {aim}; {above} of {} rows above, highest {highest:.2} ({}, {}).",
+        ratios.len(),
+        row.call,
+        row.record
+    );
+}

@@ -1,0 +1,210 @@
+//! What is timed: calls, each on an empty, a half full and a full record.
+
+use compare::call::{Call, NAMES};
+use compare::graph::{self, Member, LEVELS, SEATS, SIDES};
+use compare::lent::{self, SIZE};
+use compare::model::{Lot, Lots, Message, Model, Phase, State};
+use compare::random::Random;
+use std::collections::BTreeSet;
+
+pub struct Row {
+    pub call: &'static str,
+    pub record: String,
+    /// The record before, and the calls that are made on it one after another.
+    pub start: Vec<u8>,
+    pub calls: Vec<Call>,
+}
+
+const HALF: usize = SEATS / 2;
+const NO_CONTACT: u8 = 255;
+
+pub fn all() -> Vec<Row> {
+    let mut rows = Vec::new();
+    let (empty, half, full) = (settled(0), settled(HALF), settled(SEATS));
+    for call in CHANGES.iter().chain(&READS) {
+        call(&mut rows, [&empty, &half, &full]);
+    }
+    rows.push(draining());
+    rows
+}
+
+type Rows = fn(&mut Vec<Row>, [&[u8]; 3]);
+
+const CHANGES: [Rows; 5] = [open, join, leave, deliver, turn];
+const READS: [Rows; 6] = [find, check, read_lot, read_link, read_message, read_whole];
+
+/// A row of one call. What refuses it is found out by making it.
+fn row(what: &str, start: &[u8], call: Call) -> Row {
+    let refusal = call.on_bytes(&mut start.to_vec()).refusal;
+    let refused = match refusal {
+        0 => String::new(),
+        refusal => format!(", refused: {refusal}"),
+    };
+    Row {
+        call: NAMES[call.index()],
+        record: format!("{what}{refused}"),
+        start: start.to_vec(),
+        calls: vec![call],
+    }
+}
+
+const EACH: [&str; 3] = ["empty", "32 lots", "64 lots"];
+
+fn on_each(rows: &mut Vec<Row>, records: [&[u8]; 3], call: Call) {
+    for (what, record) in EACH.into_iter().zip(records) {
+        rows.push(row(what, record, call));
+    }
+}
+
+fn open(rows: &mut Vec<Row>, records: [&[u8]; 3]) {
+    on_each(rows, records, Call::Open);
+}
+
+fn join(rows: &mut Vec<Row>, [empty, half, _]: [&[u8]; 3]) {
+    let join = |seat, contact| Call::Join {
+        seat,
+        number: u64::MAX / 3,
+        vector: 0b1010_0101,
+        contact,
+    };
+    rows.push(row("empty", empty, join(0, NO_CONTACT)));
+    rows.push(row("32 lots", half, join(HALF as u8, 0)));
+    let nearly_full = settled(SEATS - 1);
+    rows.push(row("63 lots", &nearly_full, join(SEATS as u8 - 1, 0)));
+}
+
+fn leave(rows: &mut Vec<Row>, records: [&[u8]; 3]) {
+    on_each(rows, records, Call::Leave { seat: 7 });
+}
+
+/// Of the message by which the last lot joins.
+fn deliver(rows: &mut Vec<Row>, [empty, _, _]: [&[u8]; 3]) {
+    let meet = |about| Message::meet(0, about, 0);
+    rows.push(row("empty", empty, Call::Deliver(meet(1))));
+    for lots in [HALF, SEATS] {
+        let (mut start, seat) = (settled(lots - 1), lots as u8 - 1);
+        lent::join(&mut start, seat, u64::MAX / 3, 0b1010_0101, 0).expect("the seat is free");
+        let what = format!("{lots} lots, one message");
+        rows.push(row(&what, &start, Call::Deliver(meet(seat))));
+    }
+}
+
+/// From open with a quarter of the lots leaving, and from clearing.
+fn turn(rows: &mut Vec<Row>, [empty, half, full]: [&[u8]; 3]) {
+    rows.push(row("empty", empty, Call::Turn));
+    for (lots, record) in [(HALF, half), (SEATS, full)] {
+        rows.push(row(
+            &format!("{lots} lots, none leaves"),
+            record,
+            Call::Turn,
+        ));
+        let mut leaving = record.to_vec();
+        for seat in (0..lots as u8).step_by(4) {
+            lent::leave(&mut leaving, seat).expect("the lot stays");
+        }
+        let what = format!("{lots} lots, a quarter leaves");
+        rows.push(row(&what, &leaving, Call::Turn));
+        lent::turn(&mut leaving).expect("nothing is pending");
+        let mut model = lent::from_bytes(&leaving).expect("the record is sound");
+        model.settle();
+        let what = format!("{lots} lots, a quarter cleared");
+        rows.push(row(&what, &lent::to_bytes(&model), Call::Turn));
+    }
+}
+
+/// The search with the most hops.
+fn find(rows: &mut Vec<Row>, records: [&[u8]; 3]) {
+    for (what, record) in EACH.into_iter().zip(records) {
+        let searches = (0..SEATS as u8).flat_map(|seat| {
+            let ends = [0, u64::MAX / 2, u64::MAX];
+            ends.map(|number| Call::Find { seat, number })
+        });
+        let hops = |call: &Call| call.on_bytes(&mut record.to_vec()).values[1];
+        let longest = searches.max_by_key(hops).expect("there are searches");
+        let what = match hops(&longest) {
+            0 => what.to_string(),
+            hops => format!("{what}, {hops} hops"),
+        };
+        rows.push(row(&what, record, longest));
+    }
+}
+
+fn check(rows: &mut Vec<Row>, records: [&[u8]; 3]) {
+    on_each(rows, records, Call::Check);
+}
+
+fn read_lot(rows: &mut Vec<Row>, records: [&[u8]; 3]) {
+    on_each(rows, records, Call::ReadLot { seat: 7 });
+}
+
+fn read_link(rows: &mut Vec<Row>, records: [&[u8]; 3]) {
+    let (seat, level, side) = (7, 1, 0);
+    on_each(rows, records, Call::ReadLink { seat, level, side });
+}
+
+fn read_message(rows: &mut Vec<Row>, records: [&[u8]; 3]) {
+    on_each(rows, records, Call::ReadMessage(Message::meet(7, 3, 1)));
+}
+
+fn read_whole(rows: &mut Vec<Row>, records: [&[u8]; 3]) {
+    on_each(rows, records, Call::ReadCounts);
+    on_each(rows, records, Call::RecordRefusal);
+}
+
+/// 64 joins by the first lot, then the smallest message until none is left.
+fn draining() -> Row {
+    let start = settled(0);
+    let mut model = Model::open();
+    let mut calls = Vec::new();
+    for (seat, lot) in (0..).zip(lots(SEATS)) {
+        let contact = if seat == 0 { NO_CONTACT } else { 0 };
+        let joined = model.join(seat, lot.number, lot.vector, contact);
+        joined.expect("the seat is free");
+        calls.push(Call::Join {
+            seat,
+            number: lot.number,
+            vector: lot.vector,
+            contact,
+        });
+    }
+    while let Some(&message) = model.pending().first() {
+        model.deliver(message).expect("the message is pending");
+        calls.push(Call::Deliver(message));
+    }
+    Row {
+        call: "drain",
+        record: format!("64 joins, {} deliveries", calls.len() - SEATS),
+        start,
+        calls,
+    }
+}
+
+/// Lots with any numbers and vectors, the same ones in every run.
+fn lots(count: usize) -> Vec<Member> {
+    let mut random = Random::new(7);
+    let lot = |seat| Member {
+        seat,
+        number: random.next(),
+        vector: random.byte(),
+    };
+    (0..count as u8).map(lot).collect()
+}
+
+/// A settled record: each link is as in the graph of the members.
+pub fn settled(count: usize) -> Vec<u8> {
+    let members = lots(count);
+    let mut lots: Lots = [const { None }; SEATS];
+    for (member, links) in members.iter().zip(graph::links(&members)) {
+        lots[usize::from(member.seat)] = Some(Lot {
+            number: member.number,
+            vector: member.vector,
+            state: State::Staying,
+            links,
+        });
+    }
+    let model = Model::from_parts(lots, Phase::Open, BTreeSet::new());
+    let record = lent::to_bytes(&model.expect("the graph is sound"));
+    assert_eq!(record.len(), SIZE);
+    assert!(LEVELS * SIDES.len() == 18 && lent::check(&record) == Ok(true));
+    record
+}

@@ -1,0 +1,219 @@
+//! A call of document 01 with its arguments, and its answer as plain numbers,
+//! so that whatever answers calls can be compared.
+
+use crate::lent::{self, CountsRead, LotRead};
+use crate::model::{Message, Model, Refusal};
+use crate::search::Found;
+
+#[derive(Clone, Copy, PartialEq, Eq, Debug)]
+pub enum Call {
+    Open,
+    Join {
+        seat: u8,
+        number: u64,
+        vector: u8,
+        contact: u8,
+    },
+    Leave {
+        seat: u8,
+    },
+    Deliver(Message),
+    Turn,
+    Find {
+        seat: u8,
+        number: u64,
+    },
+    Check,
+    ReadLot {
+        seat: u8,
+    },
+    ReadLink {
+        seat: u8,
+        level: u8,
+        side: u8,
+    },
+    ReadMessage(Message),
+    ReadCounts,
+    RecordRefusal,
+}
+
+/// The refusal's number, 0 if the call is accepted, and the values in the order
+/// in which document 01 names them; those of a refused call are 0. A holder and
+/// a link are a seat, or 255 for none.
+#[derive(Clone, Copy, PartialEq, Eq, Debug)]
+pub struct Answer {
+    pub refusal: u8,
+    pub values: [u64; 3],
+}
+
+/// A seat that is not there.
+const NO_SEAT: u8 = 255;
+
+/// The names of the calls, in the order of [`Call::index`].
+pub const NAMES: [&str; 12] = [
+    "open",
+    "join",
+    "leave",
+    "deliver",
+    "turn",
+    "find",
+    "check",
+    "read_lot",
+    "read_link",
+    "read_message",
+    "read_counts",
+    "record_refusal",
+];
+
+/// The rows of the table that speak of each call, in the table's order.
+pub const REFUSALS: [&[u8]; NAMES.len()] = [
+    &[1],
+    &[1, 2, 3, 7, 4, 5, 6],
+    &[1, 2, 3, 7, 8, 9],
+    &[1, 2, 10],
+    &[1, 2, 11],
+    &[1, 2, 3, 8],
+    &[1, 2],
+    &[1, 2, 3, 8],
+    &[1, 2, 3, 12, 8],
+    &[1, 2],
+    &[1, 2],
+    &[1, 2],
+];
+
+impl Call {
+    pub fn index(self) -> usize {
+        match self {
+            Call::Open => 0,
+            Call::Join { .. } => 1,
+            Call::Leave { .. } => 2,
+            Call::Deliver(_) => 3,
+            Call::Turn => 4,
+            Call::Find { .. } => 5,
+            Call::Check => 6,
+            Call::ReadLot { .. } => 7,
+            Call::ReadLink { .. } => 8,
+            Call::ReadMessage(_) => 9,
+            Call::ReadCounts => 10,
+            Call::RecordRefusal => 11,
+        }
+    }
+
+    pub fn changes_bytes(self) -> bool {
+        self.index() <= Call::Turn.index()
+    }
+
+    /// Makes the call on lent bytes.
+    pub fn on_bytes(self, bytes: &mut [u8]) -> Answer {
+        match self {
+            Call::Open => done(lent::open(bytes)),
+            Call::Join {
+                seat,
+                number,
+                vector,
+                contact,
+            } => done(lent::join(bytes, seat, number, vector, contact)),
+            Call::Leave { seat } => done(lent::leave(bytes, seat)),
+            Call::Deliver(message) => done(lent::deliver(bytes, message)),
+            Call::Turn => done(lent::turn(bytes)),
+            Call::Find { seat, number } => found(lent::find(bytes, seat, number)),
+            Call::Check => one(lent::check(bytes)),
+            Call::ReadLot { seat } => lot(lent::read_lot(bytes, seat)),
+            Call::ReadLink { seat, level, side } => one(lent::read_link(bytes, seat, level, side)),
+            Call::ReadMessage(message) => one(lent::read_message(bytes, message)),
+            Call::ReadCounts => counts(lent::read_counts(bytes)),
+            Call::RecordRefusal => done(lent::record_refusal(bytes)),
+        }
+    }
+
+    /// Makes the call on a model: a sound record of the right size.
+    pub fn on_model(self, model: &mut Model) -> Answer {
+        match self {
+            Call::Open => {
+                *model = Model::open();
+                done(Ok(()))
+            }
+            Call::Join {
+                seat,
+                number,
+                vector,
+                contact,
+            } => done(model.join(seat, number, vector, contact)),
+            Call::Leave { seat } => done(model.leave(seat)),
+            Call::Deliver(message) => done(model.deliver(message)),
+            Call::Turn => done(model.turn()),
+            Call::Find { seat, number } => found(model.find(seat, number)),
+            Call::Check => one(Ok(model.check())),
+            Call::ReadLot { seat } => lot(model.lot(seat).map(|lot| LotRead {
+                state: lot.state as u8,
+                number: lot.number,
+                vector: lot.vector,
+            })),
+            Call::ReadLink { seat, level, side } => {
+                let link = model.link(seat, level, side);
+                one(link.map(|link| link.unwrap_or(NO_SEAT)))
+            }
+            Call::ReadMessage(message) => one(Ok(model.is_pending(message))),
+            Call::ReadCounts => {
+                let read = model.counts();
+                counts(Ok(CountsRead {
+                    lots: read.lots as u8,
+                    phase: read.phase,
+                    pending: read.pending as u32,
+                }))
+            }
+            Call::RecordRefusal => done(Ok(())),
+        }
+    }
+}
+
+impl Answer {
+    pub fn accepted(values: [u64; 3]) -> Answer {
+        let refusal = 0;
+        Answer { refusal, values }
+    }
+
+    pub fn refused(refusal: u8) -> Answer {
+        let values = [0; 3];
+        Answer { refusal, values }
+    }
+
+    fn of<T>(result: Result<T, Refusal>, values: impl Fn(T) -> [u64; 3]) -> Answer {
+        match result {
+            Ok(answer) => Answer::accepted(values(answer)),
+            Err(refusal) => Answer::refused(refusal.number()),
+        }
+    }
+}
+
+fn done(result: Result<(), Refusal>) -> Answer {
+    Answer::of(result, |()| [0; 3])
+}
+
+fn one<T: Into<u64>>(result: Result<T, Refusal>) -> Answer {
+    Answer::of(result, |value| [value.into(), 0, 0])
+}
+
+fn found(result: Result<Found, Refusal>) -> Answer {
+    Answer::of(result, |found| {
+        let holder = found.holder.unwrap_or(NO_SEAT);
+        [holder.into(), found.hops.into(), 0]
+    })
+}
+
+fn lot(result: Result<LotRead, Refusal>) -> Answer {
+    Answer::of(result, |lot| {
+        [lot.state.into(), lot.number, lot.vector.into()]
+    })
+}
+
+fn counts(result: Result<CountsRead, Refusal>) -> Answer {
+    Answer::of(result, |counts| {
+        let CountsRead {
+            lots,
+            phase,
+            pending,
+        } = counts;
+        [lots.into(), phase as u64, pending.into()]
+    })
+}

@@ -1,0 +1,244 @@
+//! Calls with arguments that mostly mean something in a given record.
+
+use super::{entry_at, state};
+use crate::call::Call;
+use crate::graph::SEATS;
+use crate::lent::place::{NUMBER_AT, PENDING, PENDING_AT, PLACES, VECTOR_AT};
+use crate::lent::{message_at, SIZE};
+use crate::model::{Message, NO_CONTACT};
+use crate::random::Random;
+use crate::script::Pools;
+
+/// Which calls are made most.
+#[derive(Clone, Copy, PartialEq, Eq, Debug)]
+pub enum Style {
+    /// Joins and leaves cross deliveries.
+    Busy,
+    /// Deliveries, so that few messages are left.
+    Draining,
+    /// Turns and leaves, deliveries enough to go on.
+    Turning,
+    /// Searches, checks and readings.
+    Asking,
+}
+
+#[derive(Clone, Copy)]
+enum Name {
+    Open,
+    Join,
+    Leave,
+    Deliver,
+    Turn,
+    Find,
+    Check,
+    Read,
+}
+
+impl Style {
+    pub const ALL: [Style; 4] = [Style::Busy, Style::Draining, Style::Turning, Style::Asking];
+
+    fn weights(self) -> [(Name, usize); 8] {
+        let [open, join, leave, deliver, turn, find, check, read] = match self {
+            Style::Busy => [1, 120, 40, 150, 10, 20, 10, 30],
+            Style::Draining => [0, 4, 2, 400, 10, 10, 10, 20],
+            Style::Turning => [1, 20, 40, 200, 90, 10, 20, 20],
+            Style::Asking => [1, 10, 5, 50, 10, 100, 80, 150],
+        };
+        [
+            (Name::Open, open),
+            (Name::Join, join),
+            (Name::Leave, leave),
+            (Name::Deliver, deliver),
+            (Name::Turn, turn),
+            (Name::Find, find),
+            (Name::Check, check),
+            (Name::Read, read),
+        ]
+    }
+}
+
+/// A call for a record of the right size, sound or not.
+pub fn call(bytes: &[u8], style: Style, pools: &Pools, random: &mut Random) -> Call {
+    assert_eq!(bytes.len(), SIZE);
+    let mut chooser = Chooser {
+        bytes,
+        pools,
+        random,
+    };
+    match chooser.random.pick_weighted(&style.weights()) {
+        Name::Open => Call::Open,
+        Name::Join => chooser.join(),
+        Name::Leave => Call::Leave {
+            seat: chooser.seat(),
+        },
+        Name::Deliver => Call::Deliver(chooser.message()),
+        Name::Turn => Call::Turn,
+        Name::Find => Call::Find {
+            seat: chooser.seat(),
+            number: chooser.number(),
+        },
+        Name::Check => Call::Check,
+        Name::Read => chooser.reading(),
+    }
+}
+
+struct Chooser<'a> {
+    bytes: &'a [u8],
+    pools: &'a Pools,
+    random: &'a mut Random,
+}
+
+impl Chooser<'_> {
+    /// Mostly a join that is accepted, if there is one.
+    fn join(&mut self) -> Call {
+        let free = self.some_seat(|state| state == 0);
+        let contact = self.some_seat(|state| state != 0);
+        let unlikely = self.random.below(8);
+        let seat = match (unlikely, free) {
+            (0, _) | (_, None) => self.seat(),
+            (_, Some(seat)) => seat,
+        };
+        let contact = match (unlikely, contact) {
+            (1, _) => self.seat(),
+            (2, _) | (_, None) => NO_CONTACT,
+            (_, Some(seat)) => seat,
+        };
+        let number = match unlikely {
+            3 => self.number(),
+            _ => self.random.pick(&self.pools.numbers),
+        };
+        Call::Join {
+            seat,
+            number,
+            vector: self.random.pick(&self.pools.vectors),
+            contact,
+        }
+    }
+
+    fn reading(&mut self) -> Call {
+        let seat = self.seat();
+        match self.random.below(5) {
+            0 => Call::ReadLot { seat },
+            1 => Call::ReadLink {
+                seat,
+                level: self.level(),
+                side: self.side(),
+            },
+            2 => Call::ReadMessage(self.message()),
+            3 => Call::ReadCounts,
+            _ => Call::RecordRefusal,
+        }
+    }
+
+    /// Mostly the seat of a lot, sometimes any or an edge.
+    fn seat(&mut self) -> u8 {
+        let edges = [0, 62, 63, 64, 65, 127, 128, 191, 254, 255];
+        match self.random.below(10) {
+            0 => self.random.pick(&edges),
+            1 => self.random.below(SEATS) as u8,
+            _ => {
+                let seated = self.some_seat(|state| state != 0);
+                seated.unwrap_or(self.random.pick(&self.pools.seats))
+            }
+        }
+    }
+
+    /// A seat of the pool, or after it, whose state is wanted.
+    fn some_seat(&mut self, wanted: impl Fn(u8) -> bool) -> Option<u8> {
+        let start = usize::from(self.random.pick(&self.pools.seats));
+        let mut seats = (start..start + SEATS).map(|seat| seat % SEATS);
+        let seat = seats.find(|&seat| wanted(state(self.bytes, seat)));
+        seat.map(|seat| seat as u8)
+    }
+
+    /// The number of a lot, one of the pool, a neighbour of these, or an edge.
+    fn number(&mut self) -> u64 {
+        let number = match self.some_seat(|state| state != 0) {
+            Some(seat) if self.random.one_in(2) => {
+                let at = entry_at(seat.into());
+                let bytes = &self.bytes[at + NUMBER_AT..at + VECTOR_AT];
+                bytes.iter().fold(0, |n, &byte| n << 8 | u64::from(byte))
+            }
+            _ => self.random.pick(&self.pools.numbers),
+        };
+        match self.random.below(16) {
+            0..4 => number.wrapping_add(1),
+            4..8 => number.wrapping_sub(1),
+            8 => 0,
+            9 => u64::MAX,
+            10 => self.random.next(),
+            _ => number,
+        }
+    }
+
+    /// Mostly a pending message if there is one.
+    fn message(&mut self) -> Message {
+        let pending = self.pending();
+        match (self.random.below(16), pending) {
+            (0, _) => self.any_message(),
+            (1, Some(message)) => self.altered(message),
+            (2.., Some(message)) => message,
+            (1..8, None) => message_at(self.random.below(PLACES)),
+            (_, None) => self.any_message(),
+        }
+    }
+
+    /// The first pending message from some place on, round the end.
+    fn pending(&mut self) -> Option<Message> {
+        let pending = &self.bytes[PENDING_AT..];
+        let start = self.random.below(PENDING) / 8 * 8;
+        let found = first_set(&pending[start..]).map(|place| start * 8 + place);
+        let found = found.or_else(|| first_set(&pending[..start]));
+        found.map(message_at)
+    }
+
+    fn any_message(&mut self) -> Message {
+        let odd = [0, 8, 9, 128, 255];
+        Message {
+            kind: match self.random.one_in(4) {
+                true => self.random.pick(&odd),
+                false => 1 + self.random.below(7) as u8,
+            },
+            to: self.seat(),
+            about: match self.random.one_in(3) {
+                true => self.random.below(3) as u8,
+                false => self.seat(),
+            },
+            level: self.level(),
+            side: self.side(),
+        }
+    }
+
+    fn altered(&mut self, mut message: Message) -> Message {
+        let any = self.any_message();
+        match self.random.below(5) {
+            0 => message.kind = any.kind,
+            1 => message.to = any.to,
+            2 => message.about = any.about,
+            3 => message.level = any.level,
+            _ => message.side = any.side,
+        }
+        message
+    }
+
+    fn level(&mut self) -> u8 {
+        match self.random.one_in(6) {
+            true => self.random.pick(&[7, 8, 9, 10, 128, 255]),
+            false => self.random.below(9) as u8,
+        }
+    }
+
+    fn side(&mut self) -> u8 {
+        self.random.pick(&[0, 0, 0, 0, 1, 1, 1, 1, 2, 255])
+    }
+}
+
+/// The first set bit, bytes taken eight at a time.
+fn first_set(bytes: &[u8]) -> Option<usize> {
+    let (words, _) = bytes.as_chunks();
+    let index = words
+        .iter()
+        .position(|&word| u64::from_le_bytes(word) != 0)?;
+    let bit = u64::from_le_bytes(words[index]).trailing_zeros();
+    Some(index * 64 + bit as usize)
+}

@@ -1,0 +1,162 @@
+//! Sound records put together field by field: links and pending messages that
+//! fit, whether or not any list of calls leads there.
+
+use super::entry_at;
+use crate::graph::{self, first_bits, Links, Member, Side, BITS, LEVELS, NO_LINKS, SIDES};
+use crate::lent::place::{
+    link_at, ENTRY, LINKS_AT, NO_LINK, NUMBER_AT, PENDING_AT, PHASE_AT, STATE_AT, VECTOR_AT,
+};
+use crate::lent::{place_of, SIZE};
+use crate::model::{shared_bits, Message};
+use crate::random::Random;
+use crate::script::Pools;
+
+struct Lot {
+    member: Member,
+    leaving: bool,
+    links: Links,
+}
+
+/// Seats all lots of the pool, or some of them.
+pub fn sound_record(pools: &Pools, random: &mut Random) -> Vec<u8> {
+    let clearing = random.one_in(2);
+    let mut lots = some_lots(pools, random);
+    link(&mut lots, clearing, random);
+    let mut bytes = written(&lots, clearing);
+    let some = random.below(100);
+    for _ in 0..random.pick(&[0, 0, 0, 1, 2, 5, 20, some]) {
+        if let Some(message) = some_message(&lots, clearing, random) {
+            let place = place_of(message).expect("a message that fits has a place");
+            bytes[PENDING_AT + place / 8] |= 1 << (place % 8);
+        }
+    }
+    bytes
+}
+
+fn some_lots(pools: &Pools, random: &mut Random) -> Vec<Lot> {
+    let most = pools.seats.len().min(pools.numbers.len());
+    let some = random.below(most + 1);
+    let count = random.pick(&[some, most]);
+    let leaving_of_8 = random.pick(&[0, 1, 4, 8]);
+    let mut numbers = pools.numbers.clone();
+    let lot = |&seat: &u8| Lot {
+        member: Member {
+            seat,
+            number: numbers.swap_remove(random.below(numbers.len())),
+            vector: random.pick(&pools.vectors),
+        },
+        leaving: random.below(8) < leaving_of_8,
+        links: NO_LINKS,
+    };
+    pools.seats[..count].iter().map(lot).collect()
+}
+
+/// Links that are the graph of the members, nearly that, or any that fit.
+fn link(lots: &mut [Lot], clearing: bool, random: &mut Random) {
+    let changes = match random.below(4) {
+        0 => 0,
+        1 => 1,
+        2 => 1 + random.below(8),
+        _ => lots.len() * LEVELS,
+    };
+    if random.below(3) < 2 {
+        link_as_graph(lots, |_| true);
+        if clearing {
+            link_as_graph(lots, |lot| !lot.leaving);
+        }
+    }
+    for _ in 0..changes {
+        if !lots.is_empty() {
+            let (x, level) = (random.below(lots.len()), random.below(LEVELS));
+            let side = random.pick(&SIDES);
+            lots[x].links[level][side as usize] = some_fitting(lots, x, level, side, random);
+        }
+    }
+}
+
+fn link_as_graph(lots: &mut [Lot], is_member: fn(&Lot) -> bool) {
+    let members = lots.iter().filter(|lot| is_member(lot));
+    let members: Vec<Member> = members.map(|lot| lot.member).collect();
+    let linked = lots.iter_mut().filter(|lot| is_member(lot));
+    for (lot, links) in linked.zip(graph::links(&members)) {
+        lot.links = links;
+    }
+}
+
+/// None, or a lot on that side that shares the level's bits.
+fn some_fitting(
+    lots: &[Lot],
+    x: usize,
+    level: usize,
+    side: Side,
+    random: &mut Random,
+) -> Option<u8> {
+    let from = lots[x].member;
+    let y = lots[random.below(lots.len())].member;
+    let shares = first_bits(y.vector, level) == first_bits(from.vector, level);
+    let fits = y.seat != from.seat && Side::toward(from.number, y.number) == side && shares;
+    fits.then_some(y.seat)
+}
+
+fn written(lots: &[Lot], clearing: bool) -> Vec<u8> {
+    let mut bytes = vec![0; SIZE];
+    bytes[PHASE_AT] = clearing.into();
+    for seat in 0..graph::SEATS {
+        bytes[entry_at(seat) + LINKS_AT..entry_at(seat) + ENTRY].fill(NO_LINK);
+    }
+    for lot in lots {
+        let at = entry_at(lot.member.seat.into());
+        let entry = &mut bytes[at..at + ENTRY];
+        entry[STATE_AT] = 1 + u8::from(lot.leaving);
+        entry[NUMBER_AT..VECTOR_AT].copy_from_slice(&lot.member.number.to_be_bytes());
+        entry[VECTOR_AT] = lot.member.vector;
+        for (level, pair) in lot.links.iter().enumerate() {
+            for side in SIDES {
+                let link = pair[side as usize].unwrap_or(NO_LINK);
+                entry[link_at(level, side as usize)] = link;
+            }
+        }
+    }
+    bytes
+}
+
+/// A message that fits its kind and the phase; none if the lots drawn do not.
+fn some_message(lots: &[Lot], clearing: bool, random: &mut Random) -> Option<Message> {
+    if lots.is_empty() {
+        return None;
+    }
+    let to = &lots[random.below(lots.len())];
+    let about = &lots[random.below(lots.len())];
+    let (x, y) = (to.member, about.member);
+    let side = random.pick(&SIDES);
+    let level = random.below(LEVELS) as u8;
+    // The highest level where the two may meet comes up most.
+    let shared = level.min(shared_bits(x.vector, y.vector) as u8);
+    let differ = (x.seat != y.seat).then_some(());
+    let stays = |lot: &Lot| (!lot.leaving).then_some(());
+    let top = BITS as u8 - 1;
+    Some(match (clearing, random.below(4)) {
+        (false, 0 | 1) => {
+            differ?;
+            Message::meet(x.seat, y.seat, shared)
+        }
+        (false, 2) => {
+            differ?;
+            Message::probe(x.seat, y.seat, shared.min(top))
+        }
+        (false, _) => Message::pull(x.seat, random.below(2) as u8, level.min(top), side),
+        (true, 0) => Message::going(x.seat, level, side),
+        (true, 1) => {
+            differ.and(stays(about))?;
+            Message::seek(x.seat, y.seat, shared)
+        }
+        (true, 2) => {
+            differ.and(stays(about)).and(stays(to))?;
+            Message::found(x.seat, y.seat, shared)
+        }
+        (true, _) => {
+            stays(to)?;
+            Message::none(x.seat, level, side)
+        }
+    })
+}

@@ -1,0 +1,281 @@
+//! The calls of document 01 on lent bytes, laid out as docs/RECORD.md says.
+//!
+//! Written from the two documents, for speed and with every test of the table:
+//! a second witness of each byte, and what the library's time is measured
+//! against. Nothing is allocated.
+//!
+//! Each call answers `Err` with the first row of the table that applies, and
+//! then changes no byte. Rows 1 and 2 come first in every call.
+
+mod bytes;
+mod check;
+mod layout;
+mod record;
+mod sound;
+
+use crate::graph::{Side, LEVELS, SEATS};
+use crate::model::{Message, Phase, Refusal, State, NO_CONTACT};
+use crate::rules::Rules;
+use crate::search::{Found, Search};
+use layout::*;
+use record::{entries_mut, entry_mut, number_of, send, take_away, Record};
+use sound::{seats, Order, Sound};
+
+pub use bytes::{from_bytes, messages, to_bytes};
+pub use layout::{message_at, place_of, SIZE};
+
+/// Places of the fields, for those who make records that are no call's.
+pub mod place {
+    pub use super::layout::{
+        link_at, ENTRIES_AT, ENTRY, LINKS_AT, NO_LINK, NUMBER_AT, PENDING, PENDING_AT, PHASE_AT,
+        PLACES, STATE_AT, VECTOR_AT,
+    };
+}
+
+/// A lot as it is read.
+#[derive(Clone, Copy, PartialEq, Eq, Debug)]
+pub struct LotRead {
+    pub state: u8,
+    pub number: u64,
+    pub vector: u8,
+}
+
+/// The counts as they are read.
+#[derive(Clone, Copy, PartialEq, Eq, Debug)]
+pub struct CountsRead {
+    pub lots: u8,
+    pub phase: Phase,
+    pub pending: u32,
+}
+
+/// Writes an empty record over any bytes. Refusals: 1.
+pub fn open(bytes: &mut [u8]) -> Result<(), Refusal> {
+    let bytes: &mut Bytes = bytes.try_into().map_err(|_| Refusal::WrongSize)?;
+    bytes.fill(0);
+    entries_mut(bytes).fill(FREE);
+    Ok(())
+}
+
+/// Seats a lot and tells its contact of it. Refusals: 1, 2, 3, 7, 4, 5, 6.
+pub fn join(
+    bytes: &mut [u8],
+    seat: u8,
+    number: u64,
+    vector: u8,
+    contact: u8,
+) -> Result<(), Refusal> {
+    may_join(&sound::test(bytes)?, seat, number, contact)?;
+    let bytes = of_size(bytes)?;
+    let entry = entry_mut(bytes, seat);
+    entry[STATE_AT] = State::Staying as u8;
+    entry[NUMBER_AT..VECTOR_AT].copy_from_slice(&number.to_be_bytes());
+    entry[VECTOR_AT] = vector;
+    if contact != NO_CONTACT {
+        send(bytes, Message::meet(contact, seat, 0));
+    }
+    Ok(())
+}
+
+fn may_join(sound: &Sound, seat: u8, number: u64, contact: u8) -> Result<(), Refusal> {
+    if !is_seat(seat) || !(is_seat(contact) || contact == NO_CONTACT) {
+        return Err(Refusal::NoSuchSeat);
+    }
+    must_be_open(sound.record)?;
+    if !sound.record.is_free(seat) {
+        return Err(Refusal::SeatTaken);
+    }
+    let has_it = |entry: &Entry| entry[STATE_AT] != 0 && number_of(entry) == number;
+    if sound.record.entries().iter().any(has_it) {
+        return Err(Refusal::NumberInUse);
+    }
+    let no_contact = match contact {
+        NO_CONTACT => sound.seated != 0,
+        seat => sound.record.is_free(seat),
+    };
+    if no_contact {
+        return Err(Refusal::NoContact);
+    }
+    Ok(())
+}
+
+/// Marks a staying lot as leaving. Refusals: 1, 2, 3, 7, 8, 9.
+pub fn leave(bytes: &mut [u8], seat: u8) -> Result<(), Refusal> {
+    let Sound { record, .. } = sound::test(bytes)?;
+    if !is_seat(seat) {
+        return Err(Refusal::NoSuchSeat);
+    }
+    must_be_open(record)?;
+    match record.entry(seat)[STATE_AT] {
+        0 => return Err(Refusal::EmptySeat),
+        2 => return Err(Refusal::AlreadyLeaving),
+        _ => {}
+    }
+    entry_mut(of_size(bytes)?, seat)[STATE_AT] = State::Leaving as u8;
+    Ok(())
+}
+
+/// Takes a pending message away and does its rule. Refusals: 1, 2, 10.
+pub fn deliver(bytes: &mut [u8], message: Message) -> Result<(), Refusal> {
+    let Sound { record, .. } = sound::test(bytes)?;
+    let place = place_of(message).filter(|&place| record.is_pending(place));
+    let place = place.ok_or(Refusal::NoSuchMessage)?;
+    let effect = record.effect(message);
+    let bytes = of_size(bytes)?;
+    take_away(bytes, place);
+    if let Some((side, link)) = effect.set {
+        let link = link.unwrap_or(NO_LINK);
+        entry_mut(bytes, message.to)[link_at(message.level.into(), side as usize)] = link;
+    }
+    for message in effect.sends {
+        send(bytes, message);
+    }
+    Ok(())
+}
+
+/// Goes from open with leavers to clearing, and from clearing to open.
+/// Refusals: 1, 2, 11.
+pub fn turn(bytes: &mut [u8]) -> Result<(), Refusal> {
+    let Sound {
+        record,
+        leaving,
+        pending,
+        ..
+    } = sound::test(bytes)?;
+    if pending != 0 {
+        return Err(Refusal::MessagesLeft);
+    }
+    let clearing = record.is_clearing();
+    let bytes = of_size(bytes)?;
+    if clearing {
+        end_clearing(bytes, leaving);
+    } else if leaving != 0 {
+        begin_clearing(bytes, leaving);
+    }
+    Ok(())
+}
+
+fn begin_clearing(bytes: &mut Bytes, leaving: u64) {
+    bytes[PHASE_AT] = Phase::Clearing as u8;
+    for leaver in seats(leaving) {
+        let entry = *Record(bytes).entry(leaver);
+        for level in 0..LEVELS {
+            for side in [Side::Left, Side::Right] {
+                let to = entry[link_at(level, side as usize)];
+                if to != NO_LINK {
+                    send(bytes, Message::going(to, level as u8, side.away()));
+                }
+            }
+        }
+    }
+}
+
+fn end_clearing(bytes: &mut Bytes, leaving: u64) {
+    bytes[PHASE_AT] = Phase::Open as u8;
+    for (seat, entry) in entries_mut(bytes).iter_mut().enumerate() {
+        if leaving >> seat & 1 == 1 {
+            *entry = FREE;
+            continue;
+        }
+        for link in &mut entry[LINKS_AT..] {
+            let freed = is_seat(*link) && leaving >> (*link % 64) & 1 == 1;
+            *link = if freed { NO_LINK } else { *link };
+        }
+    }
+}
+
+/// The search of document 000 from level 8. Refusals: 1, 2, 3, 8.
+pub fn find(bytes: &[u8], start: u8, scanned: u64) -> Result<Found, Refusal> {
+    let Sound { record, .. } = sound::test(bytes)?;
+    must_be_seated(record, start)?;
+    Ok(record.search(start, scanned))
+}
+
+/// Whether the members form one skip graph, by Constraints 1 to 6.
+/// Refusals: 1, 2.
+pub fn check(bytes: &[u8]) -> Result<bool, Refusal> {
+    let mut order = Order::new();
+    let sound = sound::test_in_order(bytes, &mut order)?;
+    let mut members = &order.seats[..order.count];
+    let mut staying = [0; SEATS];
+    if sound.record.is_clearing() {
+        let stays = |seat: &&u8| sound.leaving >> **seat & 1 == 0;
+        let count = members.iter().filter(stays).zip(&mut staying);
+        let count = count.map(|(seat, place)| *place = *seat).count();
+        members = &staying[..count];
+    }
+    Ok(check::is_graph(sound.record, members))
+}
+
+/// Reads a lot. Refusals: 1, 2, 3, 8.
+pub fn read_lot(bytes: &[u8], seat: u8) -> Result<LotRead, Refusal> {
+    let Sound { record, .. } = sound::test(bytes)?;
+    must_be_seated(record, seat)?;
+    let entry = record.entry(seat);
+    Ok(LotRead {
+        state: entry[STATE_AT],
+        number: number_of(entry),
+        vector: entry[VECTOR_AT],
+    })
+}
+
+/// Reads a link: a seat, or 255. Refusals: 1, 2, 3, 12, 8.
+pub fn read_link(bytes: &[u8], seat: u8, level: u8, side: u8) -> Result<u8, Refusal> {
+    let Sound { record, .. } = sound::test(bytes)?;
+    if !is_seat(seat) {
+        return Err(Refusal::NoSuchSeat);
+    }
+    if usize::from(level) >= LEVELS || side > 1 {
+        return Err(Refusal::NoSuchLevel);
+    }
+    must_be_seated(record, seat)?;
+    Ok(record.entry(seat)[link_at(level.into(), side.into())])
+}
+
+/// Whether five numbers are a pending message. Refusals: 1, 2.
+pub fn read_message(bytes: &[u8], message: Message) -> Result<bool, Refusal> {
+    let Sound { record, .. } = sound::test(bytes)?;
+    Ok(place_of(message).is_some_and(|place| record.is_pending(place)))
+}
+
+/// The count of seated lots, the phase and the pending count. Refusals: 1, 2.
+pub fn read_counts(bytes: &[u8]) -> Result<CountsRead, Refusal> {
+    let sound = sound::test(bytes)?;
+    Ok(CountsRead {
+        lots: sound.seated.count_ones() as u8,
+        phase: match sound.record.is_clearing() {
+            true => Phase::Clearing,
+            false => Phase::Open,
+        },
+        pending: sound.pending,
+    })
+}
+
+/// The test in front of every call but open. Refusals: 1, 2.
+pub fn record_refusal(bytes: &[u8]) -> Result<(), Refusal> {
+    sound::test(bytes).map(|_| ())
+}
+
+fn of_size(bytes: &mut [u8]) -> Result<&mut Bytes, Refusal> {
+    bytes.try_into().map_err(|_| Refusal::WrongSize)
+}
+
+fn is_seat(seat: u8) -> bool {
+    usize::from(seat) < SEATS
+}
+
+fn must_be_open(record: Record) -> Result<(), Refusal> {
+    match record.is_clearing() {
+        false => Ok(()),
+        true => Err(Refusal::Clearing),
+    }
+}
+
+fn must_be_seated(record: Record, seat: u8) -> Result<(), Refusal> {
+    if !is_seat(seat) {
+        return Err(Refusal::NoSuchSeat);
+    }
+    match record.is_free(seat) {
+        false => Ok(()),
+        true => Err(Refusal::EmptySeat),
+    }
+}

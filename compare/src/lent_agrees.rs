@@ -1,0 +1,131 @@
+//! The calls on lent bytes agree with the model: answers, values and every
+//! byte, on the records of scripts and on records that no calls lead to.
+
+use crate::call::{Answer, Call};
+use crate::inputs::{self, Style};
+use crate::lent::{self, from_bytes, to_bytes};
+use crate::model::{Model, Refusal};
+use crate::random::Random;
+use crate::script;
+use crate::text::{self, Command};
+
+/// Makes a call on both and compares; the answer.
+fn both(call: Call, model: &mut Model, bytes: &mut [u8]) -> Answer {
+    let before = bytes.to_vec();
+    let answer = call.on_bytes(bytes);
+    assert_eq!(answer, call.on_model(model), "{call:?}");
+    assert!(to_bytes(model) == bytes, "{call:?}");
+    if answer.refusal != 0 || !call.changes_bytes() {
+        assert!(before == bytes, "{call:?}");
+    }
+    answer
+}
+
+/// The calls that a line of a script makes.
+fn calls(command: Command, model: &Model) -> Vec<Call> {
+    match command {
+        Command::Join {
+            seat,
+            number,
+            vector,
+            contact,
+        } => vec![Call::Join {
+            seat,
+            number,
+            vector,
+            contact,
+        }],
+        Command::Leave { seat } => vec![Call::Leave { seat }],
+        Command::Deliver(message) => vec![Call::Deliver(message)],
+        Command::Turn => vec![Call::Turn],
+        Command::Find { start, number } => vec![Call::Find {
+            seat: start,
+            number,
+        }],
+        Command::Print => vec![Call::Check, Call::ReadCounts],
+        Command::Settle => {
+            let mut settling = model.clone();
+            let mut calls = Vec::new();
+            while let Some(&message) = settling.pending().first() {
+                settling.deliver(message).unwrap();
+                calls.push(Call::Deliver(message));
+            }
+            calls
+        }
+    }
+}
+
+#[test]
+fn on_scripts() {
+    let mut random = Random::new(1);
+    for index in 0..40 {
+        let mut model = Model::open();
+        let mut bytes = to_bytes(&model);
+        let pools = inputs::pools(&mut random);
+        for line in text::lines(&script::generate(3, index, 60).concat()) {
+            let command = text::parse(line);
+            for call in command.map_or(Vec::new(), |command| calls(command, &model)) {
+                both(call, &mut model, &mut bytes);
+            }
+            let call = inputs::call(&bytes, Style::Asking, &pools, &mut random);
+            both(call, &mut model.clone(), &mut bytes.clone());
+        }
+    }
+}
+
+#[test]
+fn on_records_that_no_calls_lead_to() {
+    let mut random = Random::new(2);
+    let (mut checks, mut accepted) = ([0; 2], [0; 12]);
+    for _ in 0..1_500 {
+        let pools = inputs::pools(&mut random);
+        let mut bytes = inputs::sound_record(&pools, &mut random);
+        let mut model = from_bytes(&bytes).expect("the record is sound");
+        let style = random.pick(&Style::ALL);
+        let check = both(Call::Check, &mut model, &mut bytes).values[0];
+        checks[check as usize] += 1;
+        for _ in 0..10 {
+            let call = inputs::call(&bytes, style, &pools, &mut random);
+            let answer = both(call, &mut model, &mut bytes);
+            accepted[call.index()] += usize::from(answer.refusal == 0);
+        }
+    }
+    assert!(checks.iter().all(|&count| count > 300), "{checks:?}");
+    assert!(accepted.iter().all(|&count| count > 5), "{accepted:?}");
+}
+
+#[test]
+fn soundness_of_damaged_bytes() {
+    let mut random = Random::new(3);
+    let mut sound = [0; 2];
+    for _ in 0..6_000 {
+        let pools = inputs::pools(&mut random);
+        let mut bytes = inputs::sound_record(&pools, &mut random);
+        inputs::damage(&mut bytes, &mut random);
+        let refusal = lent::record_refusal(&bytes).err();
+        let expected = match from_bytes(&bytes) {
+            Some(_) => None,
+            None if bytes.len() != lent::SIZE => Some(Refusal::WrongSize),
+            None => Some(Refusal::Unsound),
+        };
+        assert_eq!(refusal, expected);
+        sound[usize::from(expected.is_none())] += 1;
+    }
+    assert!(sound.iter().all(|&count| count > 500), "{sound:?}");
+}
+
+/// Every bit of a small record is changed in turn.
+#[test]
+fn soundness_of_each_bit() {
+    let mut random = Random::new(4);
+    let pools = script::Pools::new(5, script::Numbers::Close, script::Vectors::Few, &mut random);
+    for _ in 0..2 {
+        let mut bytes = inputs::sound_record(&pools, &mut random);
+        for place in (0..bytes.len() * 8).filter(|place| place % 37 == 0 || *place < 15_000) {
+            bytes[place / 8] ^= 1 << (place % 8);
+            let sound = lent::record_refusal(&bytes).is_ok();
+            assert_eq!(sound, from_bytes(&bytes).is_some(), "bit {place}");
+            bytes[place / 8] ^= 1 << (place % 8);
+        }
+    }
+}

@@ -1,0 +1,72 @@
+//! Faults put into a library, each caught. The faulty ones here are the calls on
+//! lent bytes with something wrong; the real library takes no part.
+
+mod behaviour;
+mod blind;
+
+use crate::judge::{Difference, Judge, Memory};
+use crate::report::shrunk;
+use crate::round::{self, opened};
+use crate::sys::{Make, Outcome};
+use crate::tally::Tally;
+use compare::call::Call;
+use std::ops::Range;
+
+/// Rounds in which a fault must show: as many as a default run has.
+const ROUNDS: u64 = 2_000;
+
+/// The first difference that a library shows, and the calls before it.
+fn caught(make: Make) -> Option<(Difference, u64)> {
+    let mut judge = Judge::new(make, Memory::Guarded);
+    let mut tally = Tally::default();
+    let failure = (0..ROUNDS).find_map(|index| {
+        let ran = round::run(&mut judge, &mut tally, 1, index);
+        ran.err()
+    })?;
+    Some((failure.difference, tally.total()))
+}
+
+/// A library without a fault.
+fn right(memory: &mut [u8], record: Range<usize>, call: Call, _: u64) -> Outcome {
+    Outcome {
+        answer: call.on_bytes(&mut memory[record]),
+        beside: false,
+    }
+}
+
+#[test]
+fn no_fault_no_difference() {
+    let mut judge = Judge::new(right, Memory::Guarded);
+    let mut tally = Tally::default();
+    for index in 0..20 {
+        round::run(&mut judge, &mut tally, 1, index).unwrap();
+    }
+}
+
+/// Says that nothing is pending when one message is.
+fn last_message_overlooked(
+    memory: &mut [u8],
+    record: Range<usize>,
+    call: Call,
+    fill: u64,
+) -> Outcome {
+    let mut outcome = right(memory, record, call, fill);
+    if call == Call::ReadCounts {
+        let pending = &mut outcome.answer.values[2];
+        *pending = pending.saturating_sub(1);
+    }
+    outcome
+}
+
+#[test]
+fn a_difference_is_made_small() {
+    let mut judge = Judge::new(last_message_overlooked, Memory::Guarded);
+    let mut tally = Tally::default();
+    let ran = |index| round::run(&mut judge, &mut tally, 1, index).err();
+    let failure = (0..ROUNDS).find_map(ran).unwrap();
+    let small = shrunk(&mut judge, &failure);
+    let differ = small.record.iter().zip(opened());
+    let differ = differ.filter(|(byte, opened)| **byte != *opened).count();
+    // Two lots of different numbers and a bit, or one lot and a PULL.
+    assert!(differ <= 5, "{differ}");
+}

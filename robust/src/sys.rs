@@ -1,0 +1,180 @@
+//! The C interface of the static library. It is declared here and not taken from
+//! a safe wrapper, since a wrapper would hide lengths, outputs and guard bytes.
+
+use compare::call::{Answer, Call};
+use compare::model::Message;
+use std::ops::Range;
+
+#[link(name = "exports", kind = "static")]
+extern "C" {
+    pub fn lots_open(record: *mut u8, length: usize) -> u8;
+    pub fn lots_join(
+        record: *mut u8,
+        length: usize,
+        seat: u8,
+        number: u64,
+        vector: u8,
+        contact: u8,
+    ) -> u8;
+    pub fn lots_leave(record: *mut u8, length: usize, seat: u8) -> u8;
+    pub fn lots_deliver(
+        record: *mut u8,
+        length: usize,
+        kind: u8,
+        to: u8,
+        about: u8,
+        level: u8,
+        side: u8,
+    ) -> u8;
+    pub fn lots_turn(record: *mut u8, length: usize) -> u8;
+    pub fn lots_find(
+        record: *const u8,
+        length: usize,
+        seat: u8,
+        number: u64,
+        holder: *mut u8,
+        hops: *mut u64,
+    ) -> u8;
+    pub fn lots_check(record: *const u8, length: usize, yes: *mut u8) -> u8;
+    pub fn lots_read_lot(
+        record: *const u8,
+        length: usize,
+        seat: u8,
+        state: *mut u8,
+        number: *mut u64,
+        vector: *mut u8,
+    ) -> u8;
+    pub fn lots_read_link(
+        record: *const u8,
+        length: usize,
+        seat: u8,
+        level: u8,
+        side: u8,
+        link: *mut u8,
+    ) -> u8;
+    pub fn lots_read_message(
+        record: *const u8,
+        length: usize,
+        kind: u8,
+        to: u8,
+        about: u8,
+        level: u8,
+        side: u8,
+        pending: *mut u8,
+    ) -> u8;
+    pub fn lots_read_counts(
+        record: *const u8,
+        length: usize,
+        lots: *mut u8,
+        phase: *mut u8,
+        pending: *mut u32,
+    ) -> u8;
+    pub fn lots_record_refusal(record: *const u8, length: usize) -> u8;
+}
+
+/// What came back from a call.
+#[derive(Clone, Copy, PartialEq, Eq, Debug)]
+pub struct Outcome {
+    pub answer: Answer,
+    /// A byte next to an output was written.
+    pub beside: bool,
+}
+
+/// Makes a call on a part of `memory`; the rest is there to be watched. The
+/// outputs hold `fill` before.
+pub type Make = fn(memory: &mut [u8], record: Range<usize>, call: Call, fill: u64) -> Outcome;
+
+/// The outputs of a call, each with a word of its own and words around it.
+struct Outputs {
+    words: [u64; 7],
+    fill: u64,
+}
+
+/// The bytes of each output.
+type Widths = [usize; 3];
+
+impl Outputs {
+    fn new(fill: u64) -> Outputs {
+        let words = [fill; 7];
+        Outputs { words, fill }
+    }
+
+    /// Where output `index` begins.
+    fn at<T>(&mut self, index: usize) -> *mut T {
+        (&raw mut self.words[2 * index + 1]).cast()
+    }
+
+    fn outcome(&self, refusal: u8, widths: Widths) -> Outcome {
+        let mut expected = [self.fill; 7];
+        let mut values = [0; 3];
+        for (index, width) in widths.into_iter().enumerate() {
+            let mut bytes = [0; 8];
+            let word = self.words[2 * index + 1].to_le_bytes();
+            bytes[..width].copy_from_slice(&word[..width]);
+            values[index] = u64::from_le_bytes(bytes);
+            let mut kept = self.fill.to_le_bytes();
+            kept[..width].copy_from_slice(&word[..width]);
+            expected[2 * index + 1] = u64::from_le_bytes(kept);
+        }
+        Outcome {
+            answer: Answer { refusal, values },
+            beside: expected != self.words,
+        }
+    }
+}
+
+/// Makes a call through the static library.
+pub fn make(memory: &mut [u8], record: Range<usize>, call: Call, fill: u64) -> Outcome {
+    let record = &mut memory[record];
+    let (start, length) = (record.as_mut_ptr(), record.len());
+    let mut outputs = Outputs::new(fill);
+    let out = &mut outputs;
+    // SAFETY: the record is valid for its length, outputs are of their widths.
+    let (refusal, widths) = unsafe {
+        match call {
+            Call::Open => (lots_open(start, length), [0; 3]),
+            Call::Join {
+                seat,
+                number,
+                vector,
+                contact,
+            } => {
+                let refusal = lots_join(start, length, seat, number, vector, contact);
+                (refusal, [0; 3])
+            }
+            Call::Leave { seat } => (lots_leave(start, length, seat), [0; 3]),
+            Call::Deliver(m) => (deliver(start, length, m), [0; 3]),
+            Call::Turn => (lots_turn(start, length), [0; 3]),
+            Call::Find { seat, number } => {
+                let refusal = lots_find(start, length, seat, number, out.at(0), out.at(1));
+                (refusal, [1, 8, 0])
+            }
+            Call::Check => (lots_check(start, length, out.at(0)), [1, 0, 0]),
+            Call::ReadLot { seat } => {
+                let (state, number, vector) = (out.at(0), out.at(1), out.at(2));
+                let refusal = lots_read_lot(start, length, seat, state, number, vector);
+                (refusal, [1, 8, 1])
+            }
+            Call::ReadLink { seat, level, side } => {
+                let refusal = lots_read_link(start, length, seat, level, side, out.at(0));
+                (refusal, [1, 0, 0])
+            }
+            Call::ReadMessage(m) => (read_message(start, length, m, out.at(0)), [1, 0, 0]),
+            Call::ReadCounts => {
+                let refusal = lots_read_counts(start, length, out.at(0), out.at(1), out.at(2));
+                (refusal, [1, 1, 4])
+            }
+            Call::RecordRefusal => (lots_record_refusal(start, length), [0; 3]),
+        }
+    };
+    outputs.outcome(refusal, widths)
+}
+
+unsafe fn deliver(start: *mut u8, length: usize, m: Message) -> u8 {
+    lots_deliver(start, length, m.kind, m.to, m.about, m.level, m.side)
+}
+
+unsafe fn read_message(start: *const u8, length: usize, m: Message, pending: *mut u8) -> u8 {
+    let (kind, to, about) = (m.kind, m.to, m.about);
+    lots_read_message(start, length, kind, to, about, m.level, m.side, pending)
+}

@@ -1,0 +1,113 @@
+//! How often each call met each answer.
+
+use compare::call::{Answer, Call, NAMES, REFUSALS};
+use std::fmt;
+
+const ANSWERS: usize = 13;
+
+/// Accepted calls told apart by more than their name.
+const CASES: [&str; 13] = [
+    "MEET",
+    "PROBE",
+    "PULL",
+    "GOING",
+    "SEEK",
+    "FOUND",
+    "NONE",
+    "holder",
+    "no holder",
+    "check yes",
+    "check no",
+    "pending",
+    "not pending",
+];
+
+#[derive(Clone, PartialEq, Eq, Debug, Default)]
+pub struct Tally {
+    calls: [[u64; ANSWERS]; NAMES.len()],
+    cases: [u64; CASES.len()],
+    /// Calls that were made on the model too.
+    pub on_model: u64,
+}
+
+impl Tally {
+    pub fn count(&mut self, call: Call, answer: Answer) {
+        self.calls[call.index()][usize::from(answer.refusal)] += 1;
+        if answer.refusal != 0 {
+            return;
+        }
+        let [value, ..] = answer.values;
+        let case = match call {
+            Call::Deliver(message) => usize::from(message.kind) - 1,
+            Call::Find { .. } => 7 + usize::from(value == 255),
+            Call::Check => 9 + usize::from(value == 0),
+            Call::ReadMessage(_) => 11 + usize::from(value == 0),
+            _ => return,
+        };
+        self.cases[case] += 1;
+    }
+
+    pub fn total(&self) -> u64 {
+        self.calls.iter().flatten().sum()
+    }
+
+    /// The answers that the table allows and that were never met, or that it
+    /// does not allow and that were.
+    pub fn gaps(&self) -> Vec<String> {
+        let mut gaps = Vec::new();
+        for (index, name) in NAMES.iter().enumerate() {
+            for (answer, &count) in self.calls[index].iter().enumerate() {
+                let allowed = answer == 0 || REFUSALS[index].contains(&(answer as u8));
+                match (allowed, count) {
+                    (true, 0) => gaps.push(format!("{name} never met {answer}")),
+                    (false, 1..) => gaps.push(format!("{name} met {answer}")),
+                    _ => {}
+                }
+            }
+        }
+        let never = CASES
+            .iter()
+            .zip(self.cases)
+            .filter(|(_, count)| *count == 0);
+        gaps.extend(never.map(|(case, _)| format!("{case} never met")));
+        gaps
+    }
+}
+
+/// A line for each call: how often it was accepted, and each refusal.
+impl fmt::Display for Tally {
+    fn fmt(&self, f: &mut fmt::Formatter) -> fmt::Result {
+        for (index, name) in NAMES.iter().enumerate() {
+            let counts = &self.calls[index];
+            write!(f, "{name:14} {:>9} accepted", counts[0])?;
+            for &refusal in REFUSALS[index] {
+                write!(f, "  no {refusal}: {}", counts[usize::from(refusal)])?;
+            }
+            writeln!(f)?;
+        }
+        write!(f, "of these")?;
+        for (case, count) in CASES.iter().zip(self.cases) {
+            write!(f, "  {case}: {count}")?;
+        }
+        writeln!(f)
+    }
+}
+
+#[cfg(test)]
+mod tests {
+    use super::*;
+
+    #[test]
+    fn gaps_are_answers_that_the_table_allows_and_others() {
+        let mut tally = Tally::default();
+        let all = tally.gaps().len();
+        let allowed: usize = REFUSALS.iter().map(|rows| rows.len() + 1).sum();
+        assert_eq!(all, allowed + CASES.len());
+        tally.count(Call::Turn, Answer::refused(11));
+        assert_eq!(tally.gaps().len(), all - 1);
+        tally.count(Call::Check, Answer::accepted([1, 0, 0]));
+        assert_eq!(tally.gaps().len(), all - 3);
+        tally.count(Call::Turn, Answer::refused(5));
+        assert!(tally.gaps().contains(&String::from("turn met 5")));
+    }
+}
