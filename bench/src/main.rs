@@ -16,18 +16,18 @@ const AIM_OF_PASSES: f64 = 8.0;
 const PASS_CALLS: [&str; 2] = ["record_refusal", "check"];
 
 fn main() {
+    let asked = std::env::args().nth(1);
+    let is_asked = |row: &Row| asked.as_ref().is_none_or(|name| name == row.call);
+    let rows: Vec<Row> = rows::all().into_iter().filter(is_asked).collect();
+    let times = time::measure(&rows);
+    let measured: Vec<(Row, Times)> = rows.into_iter().zip(times).collect();
     println!(
         "{:<15} {:<34} {:>12} {:>12} {:>10}   {:>8} {:>8} {:>8}",
         "call", "record", "library/Rust", "library/pass", "Rust/pass", "library", "Rust", "pass"
     );
-    let asked = std::env::args().nth(1);
-    let is_asked = |row: &Row| asked.as_ref().is_none_or(|name| name == row.call);
-    let measured = rows::all().into_iter().filter(is_asked).map(|row| {
-        let times = time::measure(&row);
-        print_row(&row, times);
-        (row, times)
-    });
-    let measured: Vec<(Row, Times)> = measured.collect();
+    for (row, times) in &measured {
+        print_row(row, *times);
+    }
     println!("{:>120}", "(nanoseconds)");
     println!(
         "A pass that takes eight bytes at a time: {:.0} nanoseconds.",

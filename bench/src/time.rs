@@ -14,16 +14,40 @@ pub struct Times {
     pub pass: f64,
 }
 
-const TURNS: usize = 1000;
+/// All rows are timed so many times over, so that a slow spell of the machine
+/// does not decide a row.
+const SWEEPS: usize = 4;
+const TURNS: usize = 400;
 /// What is timed at once takes about as long as so many calls.
 const CALLS: usize = 32;
 
 type Make = fn(Call, &mut [u8]) -> (u8, u64);
 
-pub fn measure(row: &Row) -> Times {
+impl Times {
+    fn best(self, other: Times) -> Times {
+        Times {
+            library: self.library.min(other.library),
+            rust: self.rust.min(other.rust),
+            pass: self.pass.min(other.pass),
+        }
+    }
+}
+
+/// The times of the rows, in their order.
+pub fn measure(rows: &[Row]) -> Vec<Times> {
+    let mut best: Vec<Times> = rows.iter().map(measure_row).collect();
+    for _ in 1..SWEEPS {
+        for (best, row) in best.iter_mut().zip(rows) {
+            *best = best.best(measure_row(row));
+        }
+    }
+    best
+}
+
+fn measure_row(row: &Row) -> Times {
     let undo = same_on_both(row);
     let repeats = CALLS.div_ceil(row.calls.len());
-    let turns = (TURNS * CALLS / row.calls.len()).clamp(20, TURNS);
+    let turns = (TURNS * CALLS / row.calls.len()).clamp(10, TURNS);
     let mut record = row.start.clone();
     let [mut by_library, mut by_rust, mut by_undo, mut by_pass] = [f64::MAX; 4];
     for _ in 0..turns {
@@ -58,7 +82,7 @@ pub fn pass_by_words() -> f64 {
             black_box(calls::pass_by_words(black_box(&record)));
         })
     };
-    (0..TURNS).map(|_| time()).fold(f64::MAX, f64::min)
+    (0..SWEEPS * TURNS).map(|_| time()).fold(f64::MAX, f64::min)
 }
 
 fn turn(repeats: usize, mut work: impl FnMut()) -> f64 {
