@@ -10,6 +10,7 @@ pub mod Bits
 pub mod Packed
 pub mod Bitmap
 pub mod Zeros
+pub mod Fulls
 pub mod MachineCounts
 pub mod Search
 pub mod Examples

@@ -35,3 +35,7 @@ nonZero l i = not (isZero l i)
 -- the n bytes of l from a on are all 0
 abbrev pub zeros : (l : List ℕ) (a n : ℕ) → Bool
 zeros l a n = all n (λ j. isZero l (a + j))
+
+-- the n bytes from a on are all 255
+abbrev pub fulls : (l : List ℕ) (a n : ℕ) → Bool
+fulls l a n = all n (λ j. eqb (getD l (a + j) 0) 255)

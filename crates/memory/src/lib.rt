@@ -4,7 +4,7 @@ ghost use mathlib.Core.Path.{_≡_};
 ghost use Prim.Native.Nat.{_+_, _-_, _*_, _/_, _%_, _≤_, _<_};
 ghost use lib.ListN.{length};
 ghost use Rattle.memory.specs.Loops.{firstFrom, count as countOf};
-ghost use Rattle.memory.specs.Bytes.{numberAt, putNumber, digit, nonZero, zeros};
+ghost use Rattle.memory.specs.Bytes.{numberAt, putNumber, digit, nonZero, zeros, fulls};
 ghost use Rattle.memory.specs.Bits.{hasBit, bitSet, setBit, clearBit};
 
 // The bits of a byte.
@@ -16,7 +16,9 @@ const WIDTH: usize = 8;
 // The last byte of a number.
 const LAST: usize = WIDTH - 1;
 
-// The bytes that are tested for 0 at once.
+// The bytes that are tested for 0 at once: many while nothing is found, then few.
+const BLOCK: usize = 256;
+
 const CHUNK: usize = 32;
 
 // A byte as a number.
@@ -84,32 +86,54 @@ pub fn clear_bit(rec: &mut [u8], base: usize, i: usize)
     rec[at] = x - (x & (1u8 << (i % BITS)));
 }
 
-// Whether the 32 bytes from `at` on are all 0.
-fn zero_chunk(rec: &[u8], at: usize) -> bool
-    requires { ⌜ at + 32 ≤ length (now rec) ⌝ }
-    ensures { λ r. ⌜ r ≡ zeros (now (rec .entry)) at 32 ⌝ }
+// Whether the `n` bytes from `at` on are all 0, looking at each.
+fn zero_run(rec: &[u8], at: usize, n: usize) -> bool
+    requires { ⌜ at + n ≤ length (now rec) ⌝ }
+    ensures { λ r. ⌜ r ≡ zeros (now (rec .entry)) at n ⌝ }
 {
     let mut or: u8 = 0;
-    for i in 0..CHUNK {
+    for i in 0..n {
         or = or | rec[at + i];
     }
     or == 0
 }
 
-// Where the search for a byte that is not 0, from `at` up to `end`, goes on: after the chunks that are all 0.
-fn skip_chunks(rec: &[u8], at: usize, end: usize) -> usize
-    requires { ⌜ (at ≤ end) × (end ≤ length (now rec)) ⌝ }
+// Where the search for a byte that is not 0, from `at` up to `end`, goes on: after the runs of `n` bytes that are all 0.
+fn skip_runs(rec: &[u8], at: usize, end: usize, n: usize) -> usize
+    requires { ⌜ (at ≤ end) × (end ≤ length (now rec)) × (0 < n) ⌝ }
     ensures within { λ r. ⌜ r ≤ end ⌝ }
     ensures same { λ r. ⌜ firstFrom (end - at) at (nonZero (now (rec .entry))) ≡ firstFrom (end - r) r (nonZero (now (rec .entry))) ⌝ }
 {
     let mut i = at;
-    while CHUNK <= end - i {
-        if !zero_chunk(rec, i) {
+    while n <= end - i {
+        if !zero_run(rec, i, n) {
             return i;
         }
-        i += CHUNK;
+        i += n;
     }
     i
+}
+
+// Where that search goes on after blocks and then chunks that are all 0.
+fn skip_zeros(rec: &[u8], at: usize, end: usize) -> usize
+    requires { ⌜ (at ≤ end) × (end ≤ length (now rec)) ⌝ }
+    ensures within { λ r. ⌜ r ≤ end ⌝ }
+    ensures same { λ r. ⌜ firstFrom (end - at) at (nonZero (now (rec .entry))) ≡ firstFrom (end - r) r (nonZero (now (rec .entry))) ⌝ }
+{
+    let from = skip_runs(rec, at, end, BLOCK);
+    skip_runs(rec, from, end, CHUNK)
+}
+
+// Whether the `n` bytes from `at` on are all 255.
+pub fn full_run(rec: &[u8], at: usize, n: usize) -> bool
+    requires { ⌜ at + n ≤ length (now rec) ⌝ }
+    ensures { λ r. ⌜ r ≡ fulls (now (rec .entry)) at n ⌝ }
+{
+    let mut and: u8 = 255;
+    for i in 0..n {
+        and = and & rec[at + i];
+    }
+    and == 255
 }
 
 // Where the chunk from `at` on ends, or `end` if that comes first.
@@ -125,7 +149,7 @@ fn first_byte(rec: &[u8], at: usize, end: usize) -> usize
     requires { ⌜ (at ≤ end) × (end ≤ length (now rec)) ⌝ }
     ensures { λ r. ⌜ r ≡ firstFrom (end - at) at (nonZero (now (rec .entry))) ⌝ }
 {
-    let mut i = skip_chunks(rec, at, end);
+    let mut i = skip_zeros(rec, at, end);
     while i < end {
         if rec[i] != 0 {
             return i;

@@ -23,6 +23,7 @@ use rows::empty_refusal;
 use rows::level_refusal;
 use rows::seat_refusal;
 use soundness::record_refusal;
+use soundness::sized_refusal;
 
 // State, number and vector of a lot.
 pub enum LotRead {
@@ -139,10 +140,13 @@ pub fn read_message(rec: &[u8], kind: u8, to: u8, about: u8, level: u8, side: u8
 pub fn read_counts(rec: &[u8]) -> CountsRead
     ensures { λ r. ⌜ r ≡ countsAnswered (readCounts (now (rec .entry))) ⌝ }
 {
-    let n = record_refusal(rec);
+    if rec.len() != SIZE {
+        return CountsRead::Refused(WRONG_SIZE);
+    }
+    let pending = memory::count_bits(rec, PENDING, MESSAGES);
+    let n = sized_refusal(rec, pending == 0);
     if n != 0 {
         return CountsRead::Refused(n);
     }
-    let pending = memory::count_bits(rec, PENDING, MESSAGES) as u32;
-    CountsRead::Counted(seated_lots(rec), record::phase(rec), pending)
+    CountsRead::Counted(seated_lots(rec), record::phase(rec), pending as u32)
 }

@@ -3,7 +3,7 @@
 use Prim.Native.Nat.{ℕ, _<_}
 use mathlib.Core.Path.{_≡_, sym, ap, _∙_}
 use mathlib.Core.Logic.{_↔_}
-use mathlib.Core.Bool.{true, false, not}
+use mathlib.Core.Bool.{true, false, not, _||_}
 use mathlib.Core.List.{List, [], _∷_}
 use lib.Dec.{T}
 use lib.ListN.{length}
@@ -23,11 +23,12 @@ use Rattle.protocol.specs.Message.{Msg, Name, nameOf, named, sideNumber}
 use Rattle.protocol.specs.Numbering.{place, messageAt, somePending}
 use Rattle.protocol.specs.State.{Meaning, isFree, seated}
 use Rattle.protocol.specs.Table.{first, isPending}
+use Rattle.protocol.specs.Sound.{messageOk}
 use Rattle.protocol.proofs.Message.{named-name}
 use Rattle.protocol.proofs.Numbering.{sideNumber-lt, messageAt-place, none-pending, pending-none}
 use Rattle.record.specs.Layout.{seats, levels, messages, pendingFrom, pendingSize, size}
 use Rattle.record.specs.Meaning.{meaning, rosterIn, phaseByte, stateByte, linkByte}
-use Rattle.record.specs.Sound.{sound}
+use Rattle.record.specs.Sound.{messagesFit, sound}
 use Rattle.record.specs.Reading.{noSuchSeat, emptySeat, noSuchLevel}
 use Rattle.record.specs.Reading.{lotRefusal, linkRefusal, recordRefusal, readLot, readLink, readMessage, readCounts}
 use Rattle.record.proofs.Places.{place-within, exists-at, side-sideNumber}
@@ -71,6 +72,17 @@ module _ (l : List ℕ) where
       from q =
           let quiet = none-pending seats width (meaning l .pending) (not-true (somePending seats width (meaning l .pending)) q) in
           bits ∙ all-from messages _ (λ i h. ap not (sym (meaning-bit l i h) ∙ quiet (messageAt seats width i) (exists-at i h)))
+
+  -- messages fit where none is pending, by the bits, the meaning or the count
+  clear-fit : ((i : ℕ) → i < messages → bitSet l pendingFrom i ≡ false) → messagesFit l ≡ true
+  unfolding messagesFit
+  clear-fit h = all-from messages (λ i. not (bitSet l pendingFrom i) || messageOk width (rosterIn l) (messageAt seats width i)) (λ i p. rw (h i p))
+
+  pub quiet-fit : somePending seats width (meaning l .pending) ≡ false → messagesFit l ≡ true
+  quiet-fit e = clear-fit (λ i h. sym (meaning-bit l i h) ∙ none-pending seats width (meaning l .pending) e (messageAt seats width i) (exists-at i h))
+
+  pub count-fit : howMany messages (bitSet l pendingFrom) ≡ 0 → messagesFit l ≡ true
+  count-fit e = clear-fit (count-zero messages (bitSet l pendingFrom) .0 e)
 
 module _ (l : List ℕ) (e : length l ≡ size) (s : sound l ≡ true) where
   passed : Passed l

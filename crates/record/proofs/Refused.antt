@@ -7,7 +7,7 @@ use mathlib.Core.Bool.{Bool, true, false, not, cond}
 use mathlib.Core.List.{List, [], _∷_, _++_}
 use lib.Dec.{eqb}
 use lib.ListN.{length}
-use borrow.Author.Tests.{eq-eqb, eqb-true, not-false}
+use borrow.Author.Tests.{eq-eqb, ne-eqb, eqb-true, not-false}
 use Rattle.protocol.specs.Table.{Row, row, first}
 use Rattle.protocol.proofs.Calls.{no-row}
 use Rattle.record.specs.Layout.{size}
@@ -44,6 +44,10 @@ module _ (l : List ℕ) where
   pub record-passed : {n : ℕ} → n ≡ recordRefusal l → n ≡ 0 → Passed l
   unfolding recordRefusal
   record-passed e z = rows-passed [] (sym e ∙ z) .0
+
+  pub wrong-size : length l ≢ size → 1 ≡ recordRefusal l
+  unfolding recordRefusal first
+  wrong-size ne = rw (ne-eqb (length l) size ne)
 
   -- the rows after them, in either case
   pub record-stops : (rs : List Row) {n : ℕ} → n ≡ recordRefusal l → n ≢ 0 → n ≡ first (wrongSize l ∷ unsound l ∷ rs)

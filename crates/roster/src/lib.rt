@@ -42,7 +42,7 @@ pub fn is_leaving(rec: &[u8], s: usize) -> bool
 }
 
 // Whether the vectors of two seats share at least k bits.
-fn shares(rec: &[u8], k: usize, x: usize, y: usize) -> bool
+pub fn shares(rec: &[u8], k: usize, x: usize, y: usize) -> bool
     requires { ⌜ (length (now rec) ≡ size) × (x < seats) × (y < seats) ⌝ }
     ensures { λ r. ⌜ r ≡ leb k (shared width (rosterIn (now (rec .entry)) .vector x) (rosterIn (now (rec .entry)) .vector y)) ⌝ }
 {

@@ -1,17 +1,25 @@
--- The link clause by the byte of a link, its side as a number. Assumes nothing.
+-- The link clause by the byte of a link, its side as a number; of a seated lot, and of a free seat as open leaves it. Assumes nothing.
 use Prim.Native.Nat.{ℕ, zero, suc, _+_, _*_, _<_}
-use mathlib.Core.Path.{_≡_, refl}
-use mathlib.Core.Bool.{_&&_, _||_}
+use mathlib.Core.Path.{_≡_, refl, sym, ap}
+use mathlib.Core.Bool.{Bool, true, false, not, _&&_, _||_}
 use mathlib.Core.List.{List}
 use native.Mathlib.Omega.{arith}
-use lib.Dec.{eqb, ltb}
+use lib.Dec.{eqb, ltb, leb}
 use lib.ListN.{getD}
-use Rattle.graph.specs.Vector.{width}
-use Rattle.protocol.specs.Sound.{linkOk}
-use Rattle.record.specs.Layout.{seats, noLink, entryAt, linkAt}
+use borrow.Author.Tests.{ne-eqb}
+use Rattle.memory.specs.Loops.{all}
+use Rattle.memory.proofs.Cases.{and-left, and-right}
+use Rattle.memory.proofs.All.{all-at, all-from}
+use Rattle.graph.specs.Side.{Side, left, right, onSide}
+use Rattle.graph.specs.Vector.{width, shared}
+use Rattle.graph.proofs.Tests.{true-T}
+use Rattle.graph.proofs.Order.{lt-ne, on-lt}
+use Rattle.protocol.specs.State.{Roster, seated}
+use Rattle.protocol.specs.Sound.{pairOk, linkOk}
+use Rattle.record.specs.Layout.{seats, levels, noLink, entryAt, linkAt}
 use Rattle.record.specs.Meaning.{rosterIn}
 use Rattle.record.specs.Reading.{sideOfNumber}
-use Rattle.record.specs.Sound.{linkFits}
+use Rattle.record.specs.Sound.{asOpened, unusedFit, linkFits}
 
 link-place : (x k d : ℕ) → d < 2 → linkAt x k (sideOfNumber d) ≡ entryAt x + 10 + 2 * k + d
 link-place x k zero h = refl
@@ -22,3 +30,42 @@ pub link-byte : (l : List ℕ) (x k d b : ℕ) → d < 2 → b ≡ getD l (entry
     → linkFits l x k (sideOfNumber d) ≡ eqb b noLink || (ltb b seats && linkOk width (rosterIn l) x k (sideOfNumber d) b)
 unfolding linkFits
 link-byte l x k d b h e = rw (link-place x k d h, e)
+
+-- a seated lot and a seat on its side are two, so that need not be tested
+pub link-ok : (r : Roster) (x k y : ℕ) (d : Side) → seated r x ≡ true
+    → linkOk width r x k d y ≡ seated r y && (leb k (shared width (r .vector x) (r .vector y)) && onSide d (r .number x) (r .number y))
+unfolding linkOk pairOk
+link-ok r x k y d e = rw e (by (seated r y) (not (eqb x y)) (leb k (shared width (r .vector x) (r .vector y))) (onSide d (r .number x) (r .number y)) other)
+  where
+    other : onSide d (r .number x) (r .number y) ≡ true → not (eqb x y) ≡ true
+    other o = ap not (ne-eqb x y (λ q. lt-ne (on-lt (r .number) d x y (true-T o)) q))
+
+    by : (s n b o : Bool) → (o ≡ true → n ≡ true) → (s && (n && b)) && o ≡ s && (b && o)
+    by false n b o h = refl
+    by true true b o h = refl
+    by true false true true h = h refl
+    by true false true false h = refl
+    by true false false o h = refl
+
+-- a free seat has no links
+pub free-links : (l : List ℕ) (x : ℕ) → unusedFit l ≡ true → x < seats → seated (rosterIn l) x ≡ false
+    → true ≡ all levels (λ k. linkFits l x k left && linkFits l x k right)
+unfolding unusedFit asOpened linkFits
+free-links l x u h f = sym (all-from levels _ (λ k g. both k (all-at levels k free none g)))
+  where
+    free : ℕ → Bool
+    free k = eqb (getD l (linkAt x k left) 0) noLink && eqb (getD l (linkAt x k right) 0) noLink
+
+    opened : asOpened l x ≡ true
+    opened = let t : seated (rosterIn l) x || asOpened l x ≡ true = all-at seats x (λ s. seated (rosterIn l) s || asOpened l s) u h in rw f at t
+
+    none : all levels free ≡ true
+    none =
+        let v = eqb (rosterIn l .vector x) 0 in
+        and-right v (all levels free) (and-right (eqb (rosterIn l .number x) 0) (v && all levels free) opened)
+
+    both : (k : ℕ) → free k ≡ true → linkFits l x k left && linkFits l x k right ≡ true
+    both k e =
+        let p = eqb (getD l (linkAt x k left) 0) noLink in
+        let q = eqb (getD l (linkAt x k right) 0) noLink in
+        rw (and-left p q e, and-right p q e)

@@ -9,6 +9,7 @@ use Rattle.graph.specs.Side.{left, right}
 use Rattle.protocol.specs.State.{seated}
 use Rattle.record.specs.Layout.{seats, noLink, linkAt}
 use Rattle.record.specs.Meaning.{rosterIn}
+use Rattle.record.specs.Sound.{phaseFits, statesFit, unusedFit, numbersDiffer, linksFit}
 
 -- a has the number of each seat
 abbrev pub HasNumbers : (l a : List ℕ) → Type 0
@@ -21,3 +22,7 @@ unlinked l s k = eqb (getD l (linkAt s k left) 0) noLink && eqb (getD l (linkAt 
 -- x and y are not two seated lots with one number
 abbrev pub differ : (l : List ℕ) (x y : ℕ) → Bool
 differ l x y = not (seated (rosterIn l) x && (seated (rosterIn l) y && eqb (rosterIn l .number x) (rosterIn l .number y)))
+
+-- every clause of `sound` but that of the messages
+unfoldable pub entriesFit : List ℕ → Bool
+entriesFit l = phaseFits l && (statesFit l && (unusedFit l && (numbersDiffer l && linksFit l)))

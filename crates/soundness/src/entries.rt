@@ -2,15 +2,19 @@
 ghost use mathlib.Core.Path.{_≡_};
 ghost use mathlib.Core.Bool.{_||_};
 ghost use Prim.Native.Nat.{_<_};
-ghost use lib.ListN.{length};
+ghost use lib.Dec.{eqb};
+ghost use lib.ListN.{length, getD};
 ghost use Rattle.memory.specs.Loops.{all};
+ghost use Rattle.protocol.specs.Numbering.{any};
 ghost use Rattle.protocol.specs.State.{seated};
 ghost use Rattle.record.specs.Layout.{seats, levels, size};
 ghost use Rattle.record.specs.Meaning.{rosterIn};
 ghost use Rattle.record.specs.Sound.{phaseFits, statesFit, asOpened, unusedFit, numbersDiffer};
 ghost use Rattle.soundness.specs.Parts.{HasNumbers, unlinked, differ};
+use record::ENTRIES;
+use record::ENTRY;
 use record::LEVELS;
-use record::NONE;
+use record::LINKS_AT;
 use record::SEATS;
 use roster::is_seated;
 
@@ -38,25 +42,12 @@ pub fn states_fit(rec: &[u8]) -> bool
     true
 }
 
-// Whether seat s has neither link at level k.
-fn no_links_at(rec: &[u8], s: usize, k: usize) -> bool
-    requires { ⌜ (length (now rec) ≡ size) × (s < seats) × (k < levels) ⌝ }
-    ensures { λ r. ⌜ r ≡ unlinked (now (rec .entry)) s k ⌝ }
-{
-    record::link(rec, s, k, 0) == NONE && record::link(rec, s, k, 1) == NONE
-}
-
 // Whether seat s has no link.
 fn no_links(rec: &[u8], s: usize) -> bool
     requires { ⌜ (length (now rec) ≡ size) × (s < seats) ⌝ }
     ensures { λ r. ⌜ r ≡ all levels (unlinked (now (rec .entry)) s) ⌝ }
 {
-    for k in 0..LEVELS {
-        if !no_links_at(rec, s, k) {
-            return false;
-        }
-    }
-    true
+    memory::full_run(rec, ENTRIES + ENTRY * s + LINKS_AT, 2 * LEVELS)
 }
 
 // Whether number, vector and links of seat s are as open writes them.
@@ -112,8 +103,8 @@ fn pair_differs(rec: &[u8], numbers: &[u64; SEATS], x: usize, y: usize) -> bool
     !is_seated(rec, y)
 }
 
-// Whether x is free, or no seated lot below x has its number.
-fn number_differs(rec: &[u8], numbers: &[u64; SEATS], x: usize) -> bool
+// Whether no seated lot below x is a second one with its number.
+fn pairs_differ(rec: &[u8], numbers: &[u64; SEATS], x: usize) -> bool
     requires { ⌜ (length (now rec) ≡ size) × HasNumbers (now rec) (now numbers) × (x < seats) ⌝ }
     ensures { λ r. ⌜ r ≡ all x (differ (now (rec .entry)) x) ⌝ }
 {
@@ -123,6 +114,33 @@ fn number_differs(rec: &[u8], numbers: &[u64; SEATS], x: usize) -> bool
         }
     }
     true
+}
+
+// Whether seat x has the number of a seat below it, free ones too. All are looked at, so that several can be compared at once.
+fn repeats(numbers: &[u64; SEATS], x: usize) -> bool
+    requires { ⌜ x < seats ⌝ }
+    ensures { λ r. ⌜ r ≡ any x (λ y. eqb (getD (now (numbers .entry)) y 0) (getD (now (numbers .entry)) x 0)) ⌝ }
+{
+    let n = numbers[x];
+    let mut found = false;
+    for y in 0..x {
+        found = found | (numbers[y] == n);
+    }
+    found
+}
+
+// Whether x is free, or no seated lot below x has its number.
+fn number_differs(rec: &[u8], numbers: &[u64; SEATS], x: usize) -> bool
+    requires { ⌜ (length (now rec) ≡ size) × HasNumbers (now rec) (now numbers) × (x < seats) ⌝ }
+    ensures { λ r. ⌜ r ≡ all x (differ (now (rec .entry)) x) ⌝ }
+{
+    if !is_seated(rec, x) {
+        return true;
+    }
+    if !repeats(numbers, x) {
+        return true;
+    }
+    pairs_differ(rec, numbers, x)
 }
 
 pub fn numbers_differ(rec: &[u8], numbers: &[u64; SEATS]) -> bool

@@ -1,21 +1,23 @@
 // Links: each is none, or names another seated lot on its own side that shares the level's bits.
 ghost use mathlib.Core.Path.{_≡_};
-ghost use mathlib.Core.Bool.{_&&_};
+ghost use mathlib.Core.Bool.{true, _&&_};
 ghost use Prim.Native.Nat.{_<_};
 ghost use lib.ListN.{length};
 ghost use Rattle.memory.specs.Loops.{all};
 ghost use Rattle.graph.specs.Side.{left, right, onSide};
 ghost use Rattle.graph.specs.Vector.{width};
+ghost use Rattle.protocol.specs.State.{seated};
 ghost use Rattle.protocol.specs.Sound.{linkOk};
 ghost use Rattle.record.specs.Layout.{seats, levels, size};
 ghost use Rattle.record.specs.Meaning.{rosterIn};
 ghost use Rattle.record.specs.Reading.{sideOfNumber};
-ghost use Rattle.record.specs.Sound.{linkFits, linksFit};
+ghost use Rattle.record.specs.Sound.{unusedFit, linkFits, linksFit};
 ghost use Rattle.soundness.specs.Parts.{HasNumbers};
 use record::LEVELS;
 use record::NONE;
 use record::SEATS;
-use roster::pair_fits;
+use roster::is_seated;
+use roster::shares;
 
 // Whether number b lies on side d of number a.
 fn on_side(d: usize, a: u64, b: u64) -> bool
@@ -24,17 +26,17 @@ fn on_side(d: usize, a: u64, b: u64) -> bool
     if d == 1 { a < b } else { b < a }
 }
 
-// Whether seat y may be the link of seat x at level k on side d.
+// Whether seat y may be the link of the lot on seat x at level k on side d. That y is another seat shows by its number.
 fn may_link(rec: &[u8], numbers: &[u64; SEATS], x: usize, k: usize, d: usize, y: usize) -> bool
-    requires { ⌜ (length (now rec) ≡ size) × HasNumbers (now rec) (now numbers) × (x < seats) × (y < seats) ⌝ }
+    requires { ⌜ (length (now rec) ≡ size) × HasNumbers (now rec) (now numbers) × (x < seats) × (y < seats) × (seated (rosterIn (now rec)) x ≡ true) ⌝ }
     ensures { λ r. ⌜ r ≡ linkOk width (rosterIn (now (rec .entry))) x k (sideOfNumber d) y ⌝ }
 {
-    pair_fits(rec, k, x, y) && on_side(d, numbers[x], numbers[y])
+    is_seated(rec, y) && (shares(rec, k, x, y) && on_side(d, numbers[x], numbers[y]))
 }
 
-// The link of seat x at level k on side d.
+// The link of the lot on seat x at level k on side d.
 fn link_fits(rec: &[u8], numbers: &[u64; SEATS], x: usize, k: usize, d: usize) -> bool
-    requires { ⌜ (length (now rec) ≡ size) × HasNumbers (now rec) (now numbers) × (x < seats) × (k < levels) × (d < 2) ⌝ }
+    requires { ⌜ (length (now rec) ≡ size) × HasNumbers (now rec) (now numbers) × (x < seats) × (k < levels) × (d < 2) × (seated (rosterIn (now rec)) x ≡ true) ⌝ }
     ensures { λ r. ⌜ r ≡ linkFits (now (rec .entry)) x k (sideOfNumber d) ⌝ }
 {
     let b = record::link(rec, x, k, d);
@@ -45,17 +47,17 @@ fn link_fits(rec: &[u8], numbers: &[u64; SEATS], x: usize, k: usize, d: usize) -
     y < SEATS && may_link(rec, numbers, x, k, d, y)
 }
 
-// Both links of seat x at level k.
+// Both links of the lot on seat x at level k.
 fn level_fits(rec: &[u8], numbers: &[u64; SEATS], x: usize, k: usize) -> bool
-    requires { ⌜ (length (now rec) ≡ size) × HasNumbers (now rec) (now numbers) × (x < seats) × (k < levels) ⌝ }
+    requires { ⌜ (length (now rec) ≡ size) × HasNumbers (now rec) (now numbers) × (x < seats) × (k < levels) × (seated (rosterIn (now rec)) x ≡ true) ⌝ }
     ensures { λ r. ⌜ r ≡ linkFits (now (rec .entry)) x k left && linkFits (now (rec .entry)) x k right ⌝ }
 {
     link_fits(rec, numbers, x, k, 0) && link_fits(rec, numbers, x, k, 1)
 }
 
-// All links of seat x.
-fn seat_fits(rec: &[u8], numbers: &[u64; SEATS], x: usize) -> bool
-    requires { ⌜ (length (now rec) ≡ size) × HasNumbers (now rec) (now numbers) × (x < seats) ⌝ }
+// All links of the lot on seat x.
+fn lot_fits(rec: &[u8], numbers: &[u64; SEATS], x: usize) -> bool
+    requires { ⌜ (length (now rec) ≡ size) × HasNumbers (now rec) (now numbers) × (x < seats) × (seated (rosterIn (now rec)) x ≡ true) ⌝ }
     ensures { λ r. ⌜ r ≡ all levels (λ k. linkFits (now (rec .entry)) x k left && linkFits (now (rec .entry)) x k right) ⌝ }
 {
     for k in 0..LEVELS {
@@ -66,8 +68,19 @@ fn seat_fits(rec: &[u8], numbers: &[u64; SEATS], x: usize) -> bool
     true
 }
 
+// All links of seat x: a free seat is known to have none.
+fn seat_fits(rec: &[u8], numbers: &[u64; SEATS], x: usize) -> bool
+    requires { ⌜ (length (now rec) ≡ size) × HasNumbers (now rec) (now numbers) × (x < seats) × (unusedFit (now rec) ≡ true) ⌝ }
+    ensures { λ r. ⌜ r ≡ all levels (λ k. linkFits (now (rec .entry)) x k left && linkFits (now (rec .entry)) x k right) ⌝ }
+{
+    if !is_seated(rec, x) {
+        return true;
+    }
+    lot_fits(rec, numbers, x)
+}
+
 pub fn links_fit(rec: &[u8], numbers: &[u64; SEATS]) -> bool
-    requires { ⌜ (length (now rec) ≡ size) × HasNumbers (now rec) (now numbers) ⌝ }
+    requires { ⌜ (length (now rec) ≡ size) × HasNumbers (now rec) (now numbers) × (unusedFit (now rec) ≡ true) ⌝ }
     ensures { λ r. ⌜ r ≡ linksFit (now (rec .entry)) ⌝ }
 {
     for x in 0..SEATS {

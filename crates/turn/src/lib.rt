@@ -24,6 +24,7 @@ use record::PENDING;
 use record::SEATS;
 use record::SIZE;
 use record::refusals::MESSAGES_LEFT;
+use record::refusals::WRONG_SIZE;
 use roster::is_leaving;
 
 // The sides.
@@ -191,15 +192,19 @@ fn has_pending(rec: &[u8]) -> bool
     !memory::zero_range(rec, PENDING, SIZE - PENDING)
 }
 
-// The refusal number of a turn, 0 if it is accepted.
+// The refusal number of a turn, 0 if it is accepted. The pending bytes are looked at once.
 fn turn_refusal(rec: &[u8]) -> u8
     ensures { λ r. ⌜ r ≡ madeRefusal (now (rec .entry)) turning ⌝ }
 {
-    let n = soundness::record_refusal(rec);
+    if rec.len() != SIZE {
+        return WRONG_SIZE;
+    }
+    let pending = has_pending(rec);
+    let n = soundness::sized_refusal(rec, !pending);
     if n != 0 {
         return n;
     }
-    if has_pending(rec) {
+    if pending {
         return MESSAGES_LEFT;
     }
     0

@@ -19,8 +19,8 @@ Inv-loop rec at end i₀ i = (i ≤ end) × (firstFrom (end - at) at (nonZero re
 abbrev μ-loop : tie.MeasureT-loop
 μ-loop rec at end i₀ i = end - i
 
-skip-chunks-requires : tie.Need-skip-chunks-requires Inv-loop μ-loop
-skip-chunks-requires c κs = search needs
+skip-zeros-requires : tie.Need-skip-zeros-requires Inv-loop μ-loop
+skip-zeros-requires c κs = search needs
 
 loop-holds : tie.Need-loop-holds Inv-loop μ-loop
 loop-holds c = search needs
@@ -60,7 +60,7 @@ first-byte-spec =
     (tie.spec
     Inv-loop
     μ-loop
-    skip-chunks-requires
+    skip-zeros-requires
     loop-holds
     shared-slice-read-if1
     returns

@@ -1,14 +1,16 @@
 -- `reading::read_counts` meets its contract. Assumes nothing.
 use Prim.Native.Nat.{ℕ, _^_, _≤_, _<_}
-use mathlib.Core.Path.{_≡_, refl}
+use mathlib.Core.Path.{_≡_, sym, _∙_}
 use mathlib.Core.Bool.{Bool}
 use native.Mathlib.Omega.{arith}
+use borrow.Author.Needs.{needs}
+use borrow.Author.Tests.{eqb-true}
 use Rattle.memory.specs.Loops.{count}
 use Rattle.memory.proofs.Count.{count-le}
 use Rattle.record.specs.Layout.{messages}
-use Rattle.record.proofs.Refused.{Passed, record-passed}
+use Rattle.record.proofs.Refused.{record-passed, wrong-size}
+use Rattle.record.proofs.Reading.{count-fit}
 use Rattle.reading.proofs.Values.{counts-refused, counts-values}
-use borrow.Author.Needs.{needs}
 use Rattle.reading.proofs.read_counts.Statement.{statement}
 use Rattle.reading.proofs.read_counts.Tie as tie
 
@@ -16,40 +18,42 @@ use Rattle.reading.proofs.read_counts.Tie as tie
 count-fits : (n : ℕ) (p : ℕ → Bool) {m : ℕ} → m ≡ count n p → n ≤ messages → m < 2 ^ 32
 count-fits n p e h = omega (arith, e, count-le n p)
 
--- no row applies
-passed : (c : tie.Else1) → Passed (c .before .before .before .args .rec .now)
-passed c = record-passed _ (c .before .record-refusal .ensures) (c .if1 .left)
-
-record-refusal-requires : tie.Need-record-refusal-requires
-record-refusal-requires c κs = search needs
-
 returns : tie.Need-returns
-returns c = counts-refused _ _ (c .before .record-refusal .ensures) (c .if1 .taken)
+returns c = counts-refused _ 1 (wrong-size _ (c .if1 .taken)) (λ e. omega arith)
 
 count-bits-requires : tie.Need-count-bits-requires
-count-bits-requires c κs = (refl, omega (arith, passed c .sized))
+count-bits-requires c κs = search needs
 
-cast-pending : tie.Need-cast-pending
-cast-pending c = record { fits = count-fits _ _ (c .count-bits .ensures) (omega arith) }
-
-seated-lots-requires : tie.Need-seated-lots-requires
-seated-lots-requires c κs = passed (c .before) .sized
-
-phase-requires : tie.Need-phase-requires
-phase-requires c κs = passed (c .before .before) .sized
+sized-refusal-requires : tie.Need-sized-refusal-requires
+sized-refusal-requires c κs = (search needs, λ e. count-fit _ (sym (c .count-bits .ensures) ∙ eqb-true _ 0 e))
 
 returns-2 : tie.Need-returns-2
-returns-2 c =
-    rw (c .before .seated-lots .ensures, c .phase .ensures, c .before .before .count-bits .ensures) (counts-values _ (passed (c .before .before .before)))
+returns-2 c = counts-refused _ _ (c .before .sized-refusal .ensures) (c .if2 .taken)
+
+seated-lots-requires : tie.Need-seated-lots-requires
+seated-lots-requires c κs = search needs
+
+phase-requires : tie.Need-phase-requires
+phase-requires c κs = search needs
+
+cast-t8 : tie.Need-cast-t8
+cast-t8 c = record { fits = count-fits _ _ (c .before .before .before .before .count-bits .ensures) (omega arith) }
+
+returns-3 : tie.Need-returns-3
+returns-3 c =
+    let a = c .before .before in
+    rw (c .before .seated-lots .ensures, c .phase .ensures, a .before .before .count-bits .ensures)
+    (counts-values _ (record-passed _ (a .before .sized-refusal .ensures) (a .if2 .left)))
 
 pub read-counts-spec : {M : Type 1} → statement M
 read-counts-spec =
     tie.close
     (tie.spec
-    record-refusal-requires
     returns
     count-bits-requires
-    cast-pending
+    sized-refusal-requires
+    returns-2
     seated-lots-requires
     phase-requires
-    returns-2)
+    cast-t8
+    returns-3)

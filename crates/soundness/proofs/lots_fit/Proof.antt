@@ -13,30 +13,13 @@ numbers-differ-requires c κs = search needs
 links-fit-requires : tie.Need-links-fit-requires
 links-fit-requires c κs = search needs
 
-messages-fit-requires : tie.Need-messages-fit-requires
-messages-fit-requires c κs = search needs
-
 returns : tie.Need-returns
-returns c =
-    and-go (c .before .before .before .before .before .numbers-differ .ensures) (c .before .before .before .before .if1 .taken)
-    (and-go (c .before .before .links-fit .ensures) (c .before .if2 .taken) (c .messages-fit .ensures))
+returns c = and-go (c .before .before .before .numbers-differ .ensures) (c .before .before .if1 .taken) (c .links-fit .ensures)
 
 returns-2 : tie.Need-returns-2
-returns-2 c =
-    and-go (c .before .before .before .before .numbers-differ .ensures) (c .before .before .before .if1 .taken)
-    (and-stop _ (c .before .links-fit .ensures) (c .if2 .left))
-
-returns-3 : tie.Need-returns-3
-returns-3 c = and-stop _ (c .before .numbers-differ .ensures) (c .if1 .left)
+returns-2 c = and-stop _ (c .before .numbers-differ .ensures) (c .if1 .left)
 
 pub lots-fit-spec : {M : Type 1} → statement M
 lots-fit-spec =
     tie.close
-    (tie.spec
-    numbers-of-requires
-    numbers-differ-requires
-    links-fit-requires
-    messages-fit-requires
-    returns
-    returns-2
-    returns-3)
+    (tie.spec numbers-of-requires numbers-differ-requires links-fit-requires returns returns-2)

@@ -1,52 +1,38 @@
--- `soundness::entries::number_differs` meets its contract. The loop's invariant: all below y pass. Assumes nothing.
-use Prim.Native.Nat.{_≤_, _-_}
-use mathlib.Core.Path.{_≡_}
-use mathlib.Core.Bool.{true}
+-- `soundness::entries::number_differs` meets its contract. Assumes nothing.
+use mathlib.Core.Path.{sym, _∙_}
 use borrow.Author.Needs.{needs}
-use Rattle.memory.specs.Loops.{all}
-use Rattle.memory.proofs.All.{all-none}
-use Rattle.soundness.specs.Parts.{differ}
-use Rattle.roster.proofs.Tests.{all-stop, all-go, all-end}
+use borrow.Author.Tests.{not-true}
+use Rattle.soundness.proofs.Numbers.{all-first, all-numbers}
 use Rattle.soundness.proofs.entries.number_differs.Statement.{statement}
 use Rattle.soundness.proofs.entries.number_differs.Tie as tie
 
-abbrev Inv-loop : tie.InvT-loop
-Inv-loop rec numbers x y₀ y = (y ≤ x) × (all y (differ rec x) ≡ true)
+is-seated-requires : tie.Need-is-seated-requires
+is-seated-requires c κs = search needs
 
-abbrev μ-loop : tie.MeasureT-loop
-μ-loop rec numbers x y₀ y = x - y
+returns : tie.Need-returns
+returns c = all-first _ _ (sym (c .before .is-seated .ensures) ∙ not-true _ (c .if1 .taken))
 
-loop-holds : tie.Need-loop-holds Inv-loop μ-loop
-loop-holds c = (search needs, all-none _)
+repeats-requires : tie.Need-repeats-requires
+repeats-requires c κs = search needs
 
-pair-differs-requires : tie.Need-pair-differs-requires Inv-loop μ-loop
-pair-differs-requires c κs = search needs
+returns-2 : tie.Need-returns-2
+returns-2 c =
+    let r = c .before .before .before .before .before in
+    all-numbers _ _ (r .args .numbers .now) (r .pre .1) (r .pre .2) (sym (c .before .repeats .ensures) ∙ not-true _ (c .if2 .taken))
 
-returns : tie.Need-returns Inv-loop μ-loop
-returns c = all-stop _ _ _ (c .before .before .loop-test .taken) (c .before .pair-differs .ensures) (c .if1 .taken)
+pairs-differ-requires : tie.Need-pairs-differ-requires
+pairs-differ-requires c κs = search needs
 
-add-y : tie.Need-add-y Inv-loop μ-loop
-add-y c = search needs
-
-loop-less : tie.Need-loop-less Inv-loop μ-loop
-loop-less c = search needs
-
-loop-again : tie.Need-loop-again Inv-loop μ-loop
-loop-again c = (search needs, all-go _ _ (c .before .before .before .loop .inv .1) (c .before .pair-differs .ensures) (c .if1 .left))
-
-returns-2 : tie.Need-returns-2 Inv-loop μ-loop
-returns-2 c = all-end _ _ _ (c .before .loop .inv .0) (c .loop-test .left) (c .before .loop .inv .1)
+returns-3 : tie.Need-returns-3
+returns-3 c = search needs
 
 pub number-differs-spec : {M : Type 1} → statement M
 number-differs-spec =
     tie.close
     (tie.spec
-    Inv-loop
-    μ-loop
-    loop-holds
-    pair-differs-requires
+    is-seated-requires
     returns
-    add-y
-    loop-less
-    loop-again
-    returns-2)
+    repeats-requires
+    returns-2
+    pairs-differ-requires
+    returns-3)

@@ -1,15 +1,18 @@
 -- `soundness::links::may_link` meets its contract. Assumes nothing.
+use mathlib.Core.Path.{sym, ap₂, _∙_}
 use borrow.Author.Needs.{needs}
-use mathlib.Core.Path.{ap₂, _∙_}
 use Rattle.graph.specs.Side.{onSide}
-use Rattle.protocol.specs.Sound.{linkOk}
 use Rattle.record.specs.Reading.{sideOfNumber}
 use Rattle.roster.proofs.Tests.{and-stop, and-go}
+use Rattle.soundness.proofs.LinkByte.{link-ok}
 use Rattle.soundness.proofs.links.may_link.Statement.{statement}
 use Rattle.soundness.proofs.links.may_link.Tie as tie
 
-pair-fits-requires : tie.Need-pair-fits-requires
-pair-fits-requires c κs = search needs
+is-seated-requires : tie.Need-is-seated-requires
+is-seated-requires c κs = search needs
+
+shares-requires : tie.Need-shares-requires
+shares-requires c κs = search needs
 
 mul-on-side : tie.Need-mul-on-side
 mul-on-side c = search needs
@@ -27,26 +30,34 @@ on-side-requires : tie.Need-on-side-requires
 on-side-requires c κs = search needs
 
 returns : tie.Need-returns
-unfolding linkOk
 returns c =
-    let r = c .before .before .before .before .before .before in
+    let r = c .before .before .before .before .before .before .before .before in
     let n = r .pre .1 in
     let e = ap₂ (onSide (sideOfNumber (r .args .d))) (n (r .args .x) (search needs)) (n (r .args .y) (search needs)) in
-    and-go (c .before .before .before .before .pair-fits .ensures) (c .before .before .before .if1 .taken) (c .on-side .ensures ∙ e)
+    and-go (c .before .before .before .before .before .before .is-seated .ensures) (c .before .before .before .before .before .if1 .taken)
+    (and-go (c .before .before .before .before .shares .ensures) (c .before .before .before .if2 .taken) (c .on-side .ensures ∙ e))
+    ∙ sym (link-ok _ _ _ _ _ (r .pre .4))
 
 returns-2 : tie.Need-returns-2
-unfolding linkOk
-returns-2 c = and-stop _ (c .before .pair-fits .ensures) (c .if1 .left)
+returns-2 c =
+    let r = c .before .before .before .before .before in
+    and-go (c .before .before .before .is-seated .ensures) (c .before .before .if1 .taken) (and-stop _ (c .before .shares .ensures) (c .if2 .left))
+    ∙ sym (link-ok _ _ _ _ _ (r .pre .4))
+
+returns-3 : tie.Need-returns-3
+returns-3 c = let r = c .before .before .before in and-stop _ (c .before .is-seated .ensures) (c .if1 .left) ∙ sym (link-ok _ _ _ _ _ (r .pre .4))
 
 pub may-link-spec : {M : Type 1} → statement M
 may-link-spec =
     tie.close
     (tie.spec
-    pair-fits-requires
+    is-seated-requires
+    shares-requires
     mul-on-side
     element-copy-out-on-side
     mul-on-side-2
     element-copy-out-on-side-2
     on-side-requires
     returns
-    returns-2)
+    returns-2
+    returns-3)

@@ -1,54 +1,26 @@
--- `soundness::links::seat_fits` meets its contract. The loop's invariant: all below k pass. Assumes nothing.
-use Prim.Native.Nat.{_≤_, _-_}
-use mathlib.Core.Path.{_≡_}
-use mathlib.Core.Bool.{true, _&&_}
+-- `soundness::links::seat_fits` meets its contract. Assumes nothing.
+use mathlib.Core.Path.{sym, _∙_}
 use borrow.Author.Needs.{needs}
-use Rattle.memory.specs.Loops.{all}
-use Rattle.memory.proofs.All.{all-none}
-use Rattle.graph.specs.Side.{left, right}
-use Rattle.record.specs.Layout.{levels}
-use Rattle.record.specs.Sound.{linkFits}
-use Rattle.roster.proofs.Tests.{all-stop, all-go, all-end}
+use borrow.Author.Tests.{not-true, not-false}
+use Rattle.soundness.proofs.LinkByte.{free-links}
 use Rattle.soundness.proofs.links.seat_fits.Statement.{statement}
 use Rattle.soundness.proofs.links.seat_fits.Tie as tie
 
-abbrev Inv-loop : tie.InvT-loop
-Inv-loop rec numbers x k₀ k = (k ≤ levels) × (all k (λ j. linkFits rec x j left && linkFits rec x j right) ≡ true)
+is-seated-requires : tie.Need-is-seated-requires
+is-seated-requires c κs = search needs
 
-abbrev μ-loop : tie.MeasureT-loop
-μ-loop rec numbers x k₀ k = levels - k
+returns : tie.Need-returns
+returns c =
+    let r = c .before .before .before in
+    free-links _ _ (r .pre .3) (r .pre .2) (sym (c .before .is-seated .ensures) ∙ not-true _ (c .if1 .taken))
 
-loop-holds : tie.Need-loop-holds Inv-loop μ-loop
-loop-holds c = (search needs, all-none _)
+lot-fits-requires : tie.Need-lot-fits-requires
+lot-fits-requires c κs =
+    let r = c .before .before .before in
+    (r .pre .0, r .pre .1, r .pre .2, sym (c .before .is-seated .ensures) ∙ not-false _ (c .if1 .left))
 
-level-fits-requires : tie.Need-level-fits-requires Inv-loop μ-loop
-level-fits-requires c κs = search needs
-
-returns : tie.Need-returns Inv-loop μ-loop
-returns c = all-stop _ _ _ (c .before .before .loop-test .taken) (c .before .level-fits .ensures) (c .if1 .taken)
-
-add-k : tie.Need-add-k Inv-loop μ-loop
-add-k c = search needs
-
-loop-less : tie.Need-loop-less Inv-loop μ-loop
-loop-less c = search needs
-
-loop-again : tie.Need-loop-again Inv-loop μ-loop
-loop-again c = (search needs, all-go _ _ (c .before .before .before .loop .inv .1) (c .before .level-fits .ensures) (c .if1 .left))
-
-returns-2 : tie.Need-returns-2 Inv-loop μ-loop
-returns-2 c = all-end _ _ _ (c .before .loop .inv .0) (c .loop-test .left) (c .before .loop .inv .1)
+returns-2 : tie.Need-returns-2
+returns-2 c = search needs
 
 pub seat-fits-spec : {M : Type 1} → statement M
-seat-fits-spec =
-    tie.close
-    (tie.spec
-    Inv-loop
-    μ-loop
-    loop-holds
-    level-fits-requires
-    returns
-    add-k
-    loop-less
-    loop-again
-    returns-2)
+seat-fits-spec = tie.close (tie.spec is-seated-requires returns lot-fits-requires returns-2)

@@ -1,18 +1,18 @@
--- `memory::zero_chunk` meets its contract. The loop's invariant: `or` is the or of the bytes passed. Assumes nothing.
+-- `memory::zero_run` meets its contract. The loop's invariant: `or` is the or of the bytes passed. Assumes nothing.
 use mathlib.Core.Path.{_≡_, ap, sym, _∙_}
 use Prim.Native.Nat.{ℕ, _-_, _≤_}
 use native.Mathlib.Omega.{arith}
 use lib.Dec.{eqb}
 use borrow.Author.Needs.{needs}
 use Rattle.memory.proofs.Zeros.{orOf, orOf-none, orOf-more, orOf-zeros}
-use Rattle.memory.proofs.zero_chunk.Statement.{statement}
-use Rattle.memory.proofs.zero_chunk.Tie as tie
+use Rattle.memory.proofs.zero_run.Statement.{statement}
+use Rattle.memory.proofs.zero_run.Tie as tie
 
 abbrev Inv-loop : tie.InvT-loop
-Inv-loop rec at or₀ i₀ or i = (i ≤ 32) × (or ≡ orOf rec at i)
+Inv-loop rec at n or₀ i₀ or i = (i ≤ n) × (or ≡ orOf rec at i)
 
 abbrev μ-loop : tie.MeasureT-loop
-μ-loop rec at or₀ i₀ or i = 32 - i
+μ-loop rec at n or₀ i₀ or i = n - i
 
 loop-holds : tie.Need-loop-holds Inv-loop μ-loop
 loop-holds c = (search needs, sym (orOf-none (c .args .rec .now) (c .args .at)))
@@ -39,12 +39,12 @@ loop-again c =
 returns : tie.Need-returns Inv-loop μ-loop
 returns c =
     let s = c .before .before .args in
-    let e : c .before .loop .i ≡ 32 = omega arith in
+    let e : c .before .loop .i ≡ s .n = omega arith in
     let whole = c .before .loop .inv .1 ∙ ap (orOf (s .rec .now) (s .at)) e in
-    ap (λ (x : ℕ). eqb x 0) whole ∙ orOf-zeros (s .rec .now) (s .at) 32
+    ap (λ (x : ℕ). eqb x 0) whole ∙ orOf-zeros (s .rec .now) (s .at) (s .n)
 
-pub zero-chunk-spec : {M : Type 1} → statement M
-zero-chunk-spec =
+pub zero-run-spec : {M : Type 1} → statement M
+zero-run-spec =
     tie.close
     (tie.spec
     Inv-loop

@@ -1,9 +1,10 @@
--- `soundness::is_sound` meets its contract: a clause after the other. Assumes nothing.
+-- `soundness::entries_fit` meets its contract: a clause after the other. Assumes nothing.
+use mathlib.Core.Path.{sym, _∙_}
 use borrow.Author.Needs.{needs}
-use Rattle.record.specs.Sound.{sound}
 use Rattle.roster.proofs.Tests.{and-stop, and-go}
-use Rattle.soundness.proofs.is_sound.Statement.{statement}
-use Rattle.soundness.proofs.is_sound.Tie as tie
+use Rattle.soundness.specs.Parts.{entriesFit}
+use Rattle.soundness.proofs.entries_fit.Statement.{statement}
+use Rattle.soundness.proofs.entries_fit.Tie as tie
 
 phase-fits-requires : tie.Need-phase-fits-requires
 phase-fits-requires c κs = search needs
@@ -15,34 +16,34 @@ unused-fit-requires : tie.Need-unused-fit-requires
 unused-fit-requires c κs = search needs
 
 lots-fit-requires : tie.Need-lots-fit-requires
-lots-fit-requires c κs = search needs
+lots-fit-requires c κs = (search needs, sym (c .before .unused-fit .ensures) ∙ c .if3 .taken)
 
 returns : tie.Need-returns
-unfolding sound
+unfolding entriesFit
 returns c =
     and-go (c .before .before .before .before .before .before .phase-fits .ensures) (c .before .before .before .before .before .if1 .taken)
     (and-go (c .before .before .before .before .states-fit .ensures) (c .before .before .before .if2 .taken)
     (and-go (c .before .before .unused-fit .ensures) (c .before .if3 .taken) (c .lots-fit .ensures)))
 
 returns-2 : tie.Need-returns-2
-unfolding sound
+unfolding entriesFit
 returns-2 c =
     and-go (c .before .before .before .before .before .phase-fits .ensures) (c .before .before .before .before .if1 .taken)
     (and-go (c .before .before .before .states-fit .ensures) (c .before .before .if2 .taken)
     (and-stop _ (c .before .unused-fit .ensures) (c .if3 .left)))
 
 returns-3 : tie.Need-returns-3
-unfolding sound
+unfolding entriesFit
 returns-3 c =
     and-go (c .before .before .before .phase-fits .ensures) (c .before .before .if1 .taken)
     (and-stop _ (c .before .states-fit .ensures) (c .if2 .left))
 
 returns-4 : tie.Need-returns-4
-unfolding sound
+unfolding entriesFit
 returns-4 c = and-stop _ (c .before .phase-fits .ensures) (c .if1 .left)
 
-pub is-sound-spec : {M : Type 1} → statement M
-is-sound-spec =
+pub entries-fit-spec : {M : Type 1} → statement M
+entries-fit-spec =
     tie.close
     (tie.spec
     phase-fits-requires
