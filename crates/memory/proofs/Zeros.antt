@@ -85,7 +85,7 @@ pub orOf-more : (l : List ℕ) (a n : ℕ) → orOf l a (n + 1) ≡ bitOr (orOf 
 unfolding orOf
 orOf-more l a n = rw add-one
 
-or-zero : (x y : ℕ) → eqb (bitOr x y) 0 ≡ eqb x 0 && eqb y 0
+pub or-zero : (x y : ℕ) → eqb (bitOr x y) 0 ≡ eqb x 0 && eqb y 0
 or-zero x y = ⊎-elim
     (λ e. ⊎-elim
     (λ f. eq-eqb (bitOr x y) 0 (omega (arith, or-add-and x y)) ∙ sym (rw (eq-eqb x 0 e, eq-eqb y 0 f)))

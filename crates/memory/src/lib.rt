@@ -114,12 +114,17 @@ fn skip_runs(rec: &[u8], at: usize, end: usize, n: usize) -> usize
     i
 }
 
-// Where that search goes on after blocks and then chunks that are all 0.
+// Where that search goes on after blocks and then chunks that are all 0. A chunk comes first: often the next byte is near.
 fn skip_zeros(rec: &[u8], at: usize, end: usize) -> usize
     requires { ⌜ (at ≤ end) × (end ≤ length (now rec)) ⌝ }
     ensures within { λ r. ⌜ r ≤ end ⌝ }
     ensures same { λ r. ⌜ firstFrom (end - at) at (nonZero (now (rec .entry))) ≡ firstFrom (end - r) r (nonZero (now (rec .entry))) ⌝ }
 {
+    if CHUNK <= end - at {
+        if !zero_run(rec, at, CHUNK) {
+            return at;
+        }
+    }
     let from = skip_runs(rec, at, end, BLOCK);
     skip_runs(rec, from, end, CHUNK)
 }
@@ -129,11 +134,11 @@ pub fn full_run(rec: &[u8], at: usize, n: usize) -> bool
     requires { ⌜ at + n ≤ length (now rec) ⌝ }
     ensures { λ r. ⌜ r ≡ fulls (now (rec .entry)) at n ⌝ }
 {
-    let mut and: u8 = 255;
+    let mut or: u8 = 0;
     for i in 0..n {
-        and = and & rec[at + i];
+        or = or | (255 - rec[at + i]);
     }
-    and == 255
+    or == 0
 }
 
 // Where the chunk from `at` on ends, or `end` if that comes first.
