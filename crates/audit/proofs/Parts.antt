@@ -72,7 +72,7 @@ module _ (l : List ℕ) where
 
     pub up-start : (y : ℕ) → x < seats → k < width → d < 2 → u ≡ getD l (entryAt x + 10 + 2 * (k + 1) + d) 0
         → y ≡ getD l (entryAt x + 10 + 2 * k + d) 0
-        → upOn seats width (members (rosterIn l)) (meaning l .link) x k (sideOfNumber d) ≡ UpFrom seats y
+        → upOn seats width (members (rosterIn l)) (meaning l .link) (sideOfNumber d) x k ≡ UpFrom seats y
     unfolding UpFrom upOn
     up-start y h g b e f = rw (← add-one k, link-read l x (k + 1) d u h (omega arith) b e, link-read l x k d y h (omega arith) b f)
 

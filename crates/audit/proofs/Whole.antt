@@ -9,7 +9,7 @@ use lib.ListN.{length}
 use borrow.Author.Tests.{eq-eqb, ne-eqb}
 use Rattle.memory.specs.Bytes.{AreBytes}
 use Rattle.memory.proofs.Cases.{and-assoc}
-use Rattle.graph.specs.Side.{onSide}
+use Rattle.graph.specs.Side.{right, onSide}
 use Rattle.graph.specs.Vector.{width}
 use Rattle.graph.specs.Graph.{Lots, Links, Laws}
 use Rattle.graph.proofs.Tests.{and-snd}
@@ -24,7 +24,7 @@ use Rattle.record.specs.Reading.{recordRefusal}
 use Rattle.record.proofs.Sound.{sound-is}
 use Rattle.search.specs.Check.{every, check}
 use Rattle.search.proofs.Count.{count}
-use Rattle.search.proofs.LocalCheck.{backAt, leftmost, upAt, lotOk, localCheck}
+use Rattle.search.proofs.LocalCheck.{backAt, leftmost, upOn, lotOk, localCheck}
 use Rattle.search.proofs.Local.{Sided, local-check}
 use Rattle.record.proofs.Refused.{record-passed}
 use Rattle.audit.specs.Check.{checkIn}
@@ -35,12 +35,12 @@ use Rattle.audit.proofs.Loops.{every-parts}
 -- links back, levels and leftmost members one after the other
 pub local-parts : (N W : ℕ) (G : Lots) (L : Links) → localCheck N W G L
     ≡ every N (λ x. not (G .member x) || every (suc W) (backAt G L x))
-    && (every N (λ x. not (G .member x) || every W (upAt N W G L x)) && leb (count N (leftmost G L)) 1)
+    && (every N (λ x. not (G .member x) || every W (upOn N W G L right x)) && leb (count N (leftmost G L)) 1)
 unfolding localCheck lotOk
 local-parts N W G L =
     let backs = every N (λ x. not (G .member x) || every (suc W) (backAt G L x)) in
-    let ups = every N (λ x. not (G .member x) || every W (upAt N W G L x)) in
-    rw (every-parts N (G .member) (λ x. every (suc W) (backAt G L x)) (λ x. every W (upAt N W G L x)))
+    let ups = every N (λ x. not (G .member x) || every W (upOn N W G L right x)) in
+    rw (every-parts N (G .member) (λ x. every (suc W) (backAt G L x)) (λ x. every W (upOn N W G L right x)))
     (and-assoc backs ups (leb (count N (leftmost G L)) 1))
 
 module _ (l : List ℕ) (e : length l ≡ size) (b : AreBytes l) (s : sound l ≡ true) where

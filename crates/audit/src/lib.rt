@@ -1,11 +1,12 @@
 // The check of the links over a lent record (document 01, "Check"). It looks only at neighbours: every link of a member has its link back,
-// each level follows from the one below, and one member at most has no left neighbour. Once the links have their links back, the lists are
-// chains and the rest is linear in the links.
+// each level follows on the right from the one below, and one member at most has no left neighbour. Once the links have their links back, the
+// lists are chains, what holds on the right holds on the left, and the rest is linear in the links.
 ghost use mathlib.Core.Path.{_≡_};
 ghost use mathlib.Core.Bool.{not, _||_};
 ghost use Prim.Native.Nat.{_<_};
 ghost use lib.Dec.{ltb};
 ghost use lib.ListN.{length};
+ghost use Rattle.graph.specs.Side.{right};
 ghost use Rattle.graph.specs.Vector.{width, shared};
 ghost use Rattle.protocol.specs.State.{member, members};
 ghost use Rattle.record.specs.Layout.{seats, levels, size};
@@ -13,11 +14,16 @@ ghost use Rattle.record.specs.Meaning.{rosterIn, meaning};
 ghost use Rattle.record.specs.Reading.{sideOfNumber};
 ghost use Rattle.search.specs.Check.{every};
 ghost use Rattle.search.proofs.Count.{count};
-ghost use Rattle.search.proofs.LocalCheck.{backOf, backAt, leftmost, upOn, upAt, localCheck};
+ghost use Rattle.search.proofs.LocalCheck.{backOf, backAt, leftmost, upOn, localCheck};
 ghost use Rattle.audit.specs.Check.{checkIn};
 ghost use Rattle.audit.specs.Answer.{answered};
 use record::LEVELS;
 use record::SEATS;
+
+// The sides, as link numbers them.
+const LEFT: usize = 0;
+
+const RIGHT: usize = 1;
 
 // What the check answers: a refusal's number, or whether the links are right.
 pub enum Verdict {
@@ -53,7 +59,7 @@ fn level_backs_fit(rec: &[u8], x: usize, k: usize) -> bool
     requires { ⌜ (length (now rec) ≡ size) × (x < seats) × (k < levels) ⌝ }
     ensures { λ r. ⌜ (let l = now (rec .entry) in r ≡ backAt (members (rosterIn l)) (meaning l .link) x k) ⌝ }
 {
-    back_fits(rec, x, k, 0) && back_fits(rec, x, k, 1)
+    back_fits(rec, x, k, LEFT) && back_fits(rec, x, k, RIGHT)
 }
 
 // All links of x, if it is a member.
@@ -98,7 +104,7 @@ fn shares_more(rec: &[u8], x: usize, y: usize, k: usize) -> bool
 // Whether the link of x on side d one level above k is the first lot along level k that shares one bit more, or none if no lot does.
 fn up_fits(rec: &[u8], x: usize, k: usize, d: usize) -> bool
     requires { ⌜ (length (now rec) ≡ size) × (x < seats) × (k < width) × (d < 2) ⌝ }
-    ensures { λ r. ⌜ (let l = now (rec .entry) in r ≡ upOn seats width (members (rosterIn l)) (meaning l .link) x k (sideOfNumber d)) ⌝ }
+    ensures { λ r. ⌜ (let l = now (rec .entry) in r ≡ upOn seats width (members (rosterIn l)) (meaning l .link) (sideOfNumber d) x k) ⌝ }
 {
     let up = record::link(rec, x, k + 1, d) as usize;
     let mut y = record::link(rec, x, k, d) as usize;
@@ -114,36 +120,28 @@ fn up_fits(rec: &[u8], x: usize, k: usize, d: usize) -> bool
     up >= SEATS
 }
 
-// Both links of x one level above k.
-fn level_ups_fit(rec: &[u8], x: usize, k: usize) -> bool
-    requires { ⌜ (length (now rec) ≡ size) × (x < seats) × (k < width) ⌝ }
-    ensures { λ r. ⌜ (let l = now (rec .entry) in r ≡ upAt seats width (members (rosterIn l)) (meaning l .link) x k) ⌝ }
-{
-    up_fits(rec, x, k, 0) && up_fits(rec, x, k, 1)
-}
-
-// All links of x above level 0, if it is a member.
+// All right links of x above level 0, if it is a member.
 fn lot_ups_fit(rec: &[u8], x: usize) -> bool
     requires { ⌜ (length (now rec) ≡ size) × (x < seats) ⌝ }
     ensures { λ r. ⌜ (let l = now (rec .entry) in
-        r ≡ not (member (rosterIn l) x) || every width (upAt seats width (members (rosterIn l)) (meaning l .link) x)) ⌝ }
+        r ≡ not (member (rosterIn l) x) || every width (upOn seats width (members (rosterIn l)) (meaning l .link) right x)) ⌝ }
 {
     if !is_member(rec, x) {
         return true;
     }
     for k in 0..LEVELS - 1 {
-        if !level_ups_fit(rec, x, k) {
+        if !up_fits(rec, x, k, RIGHT) {
             return false;
         }
     }
     true
 }
 
-// Constraints 5 and 6: each level of a member's links follows from the one below.
+// Constraints 5 and 6: each level of a member's links follows from the one below. With the links back, the right side gives the left.
 fn ups_fit(rec: &[u8]) -> bool
     requires { ⌜ length (now rec) ≡ size ⌝ }
     ensures { λ r. ⌜ (let l = now (rec .entry) in
-        r ≡ every seats (λ x. not (member (rosterIn l) x) || every width (upAt seats width (members (rosterIn l)) (meaning l .link) x))) ⌝ }
+        r ≡ every seats (λ x. not (member (rosterIn l) x) || every width (upOn seats width (members (rosterIn l)) (meaning l .link) right x))) ⌝ }
 {
     for x in 0..SEATS {
         if !lot_ups_fit(rec, x) {
@@ -158,7 +156,7 @@ fn is_leftmost(rec: &[u8], x: usize) -> bool
     requires { ⌜ (length (now rec) ≡ size) × (x < seats) ⌝ }
     ensures { λ r. ⌜ (let l = now (rec .entry) in r ≡ leftmost (members (rosterIn l)) (meaning l .link) x) ⌝ }
 {
-    is_member(rec, x) && record::link(rec, x, 0, 0) as usize >= SEATS
+    is_member(rec, x) && record::link(rec, x, 0, LEFT) as usize >= SEATS
 }
 
 // How many such members there are: one for each level-0 list.
