@@ -2,16 +2,17 @@
 // each level follows on the right from the one below, and one member at most has no left neighbour. Once the links have their links back, the
 // lists are chains, what holds on the right holds on the left, and the rest is linear in the links.
 ghost use mathlib.Core.Path.{_≡_};
-ghost use mathlib.Core.Bool.{not, _||_};
+ghost use mathlib.Core.Bool.{true, not, _||_};
 ghost use Prim.Native.Nat.{_<_};
-ghost use lib.Dec.{ltb};
+ghost use lib.Dec.{T, ltb};
 ghost use lib.ListN.{length};
 ghost use Rattle.graph.specs.Side.{right};
 ghost use Rattle.graph.specs.Vector.{width, shared};
-ghost use Rattle.protocol.specs.State.{member, members};
+ghost use Rattle.protocol.specs.State.{seated, member, members};
 ghost use Rattle.record.specs.Layout.{seats, levels, size};
 ghost use Rattle.record.specs.Meaning.{rosterIn, meaning};
 ghost use Rattle.record.specs.Reading.{sideOfNumber};
+ghost use Rattle.record.specs.Sound.{sound};
 ghost use Rattle.search.specs.Check.{every};
 ghost use Rattle.search.proofs.Count.{count};
 ghost use Rattle.search.proofs.LocalCheck.{backOf, backAt, leftmost, upOn, localCheck};
@@ -41,9 +42,17 @@ fn is_member(rec: &[u8], s: usize) -> bool
     state == 1 || (state != 0 && record::phase(rec) == 0)
 }
 
-// Whether the link of x at level k on side d is none, or a member whose link back is x.
+// The same of a seated lot: in phase open it need not be looked at.
+fn seated_is_member(rec: &[u8], s: usize) -> bool
+    requires { ⌜ (length (now rec) ≡ size) × (s < seats) × T (seated (rosterIn (now rec)) s) ⌝ }
+    ensures { λ r. ⌜ r ≡ member (rosterIn (now (rec .entry))) s ⌝ }
+{
+    record::phase(rec) == 0 || record::state(rec, s) == 1
+}
+
+// Whether the link of x at level k on side d is none, or a member whose link back is x. On a sound record it names a seated lot.
 fn back_fits(rec: &[u8], x: usize, k: usize, d: usize) -> bool
-    requires { ⌜ (length (now rec) ≡ size) × (x < seats) × (k < levels) × (d < 2) ⌝ }
+    requires { ⌜ (length (now rec) ≡ size) × (sound (now rec) ≡ true) × (x < seats) × (k < levels) × (d < 2) ⌝ }
     ensures { λ r. ⌜ (let l = now (rec .entry) in
         r ≡ backOf (members (rosterIn l)) (meaning l .link) x k (sideOfNumber d) (meaning l .link x k (sideOfNumber d))) ⌝ }
 {
@@ -51,12 +60,12 @@ fn back_fits(rec: &[u8], x: usize, k: usize, d: usize) -> bool
     if y >= SEATS {
         return true;
     }
-    is_member(rec, y) && record::link(rec, y, k, 1 - d) as usize == x
+    seated_is_member(rec, y) && record::link(rec, y, k, 1 - d) as usize == x
 }
 
 // Both links of x at level k.
 fn level_backs_fit(rec: &[u8], x: usize, k: usize) -> bool
-    requires { ⌜ (length (now rec) ≡ size) × (x < seats) × (k < levels) ⌝ }
+    requires { ⌜ (length (now rec) ≡ size) × (sound (now rec) ≡ true) × (x < seats) × (k < levels) ⌝ }
     ensures { λ r. ⌜ (let l = now (rec .entry) in r ≡ backAt (members (rosterIn l)) (meaning l .link) x k) ⌝ }
 {
     back_fits(rec, x, k, LEFT) && back_fits(rec, x, k, RIGHT)
@@ -64,7 +73,7 @@ fn level_backs_fit(rec: &[u8], x: usize, k: usize) -> bool
 
 // All links of x, if it is a member.
 fn lot_backs_fit(rec: &[u8], x: usize) -> bool
-    requires { ⌜ (length (now rec) ≡ size) × (x < seats) ⌝ }
+    requires { ⌜ (length (now rec) ≡ size) × (sound (now rec) ≡ true) × (x < seats) ⌝ }
     ensures { λ r. ⌜ (let l = now (rec .entry) in
         r ≡ not (member (rosterIn l) x) || every levels (backAt (members (rosterIn l)) (meaning l .link) x)) ⌝ }
 {
@@ -81,7 +90,7 @@ fn lot_backs_fit(rec: &[u8], x: usize) -> bool
 
 // Constraints 3 and 4: every link of a member names a member and has its link back.
 fn backs_fit(rec: &[u8]) -> bool
-    requires { ⌜ length (now rec) ≡ size ⌝ }
+    requires { ⌜ (length (now rec) ≡ size) × (sound (now rec) ≡ true) ⌝ }
     ensures { λ r. ⌜ (let l = now (rec .entry) in
         r ≡ every seats (λ x. not (member (rosterIn l) x) || every levels (backAt (members (rosterIn l)) (meaning l .link) x))) ⌝ }
 {
@@ -175,7 +184,7 @@ fn count_leftmost(rec: &[u8]) -> usize
 
 // The whole test of the links.
 fn links_fit(rec: &[u8]) -> bool
-    requires { ⌜ length (now rec) ≡ size ⌝ }
+    requires { ⌜ (length (now rec) ≡ size) × (sound (now rec) ≡ true) ⌝ }
     ensures { λ r. ⌜ (let l = now (rec .entry) in r ≡ localCheck seats width (members (rosterIn l)) (meaning l .link)) ⌝ }
 {
     backs_fit(rec) && (ups_fit(rec) && count_leftmost(rec) <= 1)
