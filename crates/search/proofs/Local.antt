@@ -1,7 +1,7 @@
 -- The check that looks only at neighbours says the same as the check of specs/. Assumes the laws of the lots, one component, and links
 -- that lie on their side, as soundness says.
 use Prim.Native.Nat.{ℕ, suc, _≤_, _<_}
-use mathlib.Core.Path.{_≡_, refl, _∙_}
+use mathlib.Core.Path.{_≡_, refl}
 use mathlib.Core.Logic.{_↔_}
 use mathlib.Core.Option.{Option, none, some}
 use mathlib.Core.Bool.{Bool, true, not, _&&_, _||_}

@@ -1,18 +1,17 @@
 -- Where links have their links back, the levels on the right give those on the left. Assumes the laws of the lots, sorted links and the
 -- links back.
 use Prim.Native.Nat.{ℕ, suc, _-_, _≤_, _<_}
-use mathlib.Core.Path.{_≡_, refl, sym, _∙_}
+use mathlib.Core.Path.{_≡_, refl}
 use mathlib.Core.Option.{Option, none, some}
 use native.Mathlib.Omega.{arith}
 use lib.Dec.{T}
 use Rattle.graph.specs.Side.{Side, left, right, opp}
 use Rattle.graph.specs.Graph.{Lots, Links, Laws}
-use Rattle.graph.specs.Constraints.{iterate, Agree, NoneBefore}
+use Rattle.graph.specs.Constraints.{Agree, NoneBefore}
 use Rattle.graph.proofs.Tests.{none-some}
 use Rattle.graph.proofs.Order.{opp-opp}
 use Rattle.graph.proofs.Shared.{shared-sym, shared-trans}
 use Rattle.graph.proofs.Walk.{Walk, here, there, walk-iterate, iterate-walk, walk-snoc, walk-rest, walk-member, Sorted}
-use Rattle.search.proofs.LocalCheck.{follow}
 use Rattle.search.proofs.Follow.{FirstUp, first-up, no-up, up-unique, follow-up}
 
 -- to agree in the first k + 1 bits is an equivalence
