@@ -7,12 +7,13 @@ use mathlib.Core.Bool.{Bool, true, false, not, cond, _&&_, _||_}
 use mathlib.Core.List.{List}
 use native.Mathlib.Omega.{arith}
 use native.Mathlib.Numerals.{add-one}
-use lib.Dec.{eqb, ltb, leb}
+use lib.Dec.{T, eqb, ltb, leb}
 use lib.ListN.{getD}
 use borrow.Author.Tests.{ne-eqb, lt-leb, le-leb}
 use Rattle.memory.proofs.Cases.{lt-or-ge, eq-or-ne, and-true, and-false}
 use Rattle.graph.specs.Vector.{width, shared}
-use Rattle.protocol.specs.State.{member, members}
+use Rattle.graph.proofs.Tests.{T-true}
+use Rattle.protocol.specs.State.{seated, member, members}
 use Rattle.record.specs.Layout.{seats, levels, phaseAt, stateAt, entryAt}
 use Rattle.record.specs.Meaning.{linkOf, rosterIn, meaning}
 use Rattle.record.specs.Reading.{sideOfNumber}
@@ -54,6 +55,16 @@ module _ (l : List ℕ) where
           (λ e. rw (ne-eqb b 1 e, and-false (not (eqb b 0)) false refl))
           (eq-or-ne b 1)
 
+  -- of a seated lot
+  pub seated-member : (s : ℕ) → s < seats → T (seated (rosterIn l) s)
+      → member (rosterIn l) s ≡ eqb (getD l phaseAt 0) 0 || eqb (getD l (stateAt s) 0) 1
+  unfolding member
+  seated-member s h t = rw (clearing-byte l, stays-byte l s h) (by (eqb (getD l phaseAt 0) 0))
+    where
+      by : (p : Bool) → cond (not p) (eqb (getD l (stateAt s) 0) 1) (seated (rosterIn l) s) ≡ p || eqb (getD l (stateAt s) 0) 1
+      by true = T-true t
+      by false = refl
+
   module _ (x k d y : ℕ) (h : x < seats) (g : k < levels) (b : d < 2) (e : y ≡ getD l (entryAt x + 10 + 2 * k + d) 0) where
     -- the link back
     pub back-none : seats ≤ y → true ≡ backOf (members (rosterIn l)) (meaning l .link) x k (sideOfNumber d) (links x k d)
@@ -72,7 +83,7 @@ module _ (l : List ℕ) where
 
     pub up-start : (y : ℕ) → x < seats → k < width → d < 2 → u ≡ getD l (entryAt x + 10 + 2 * (k + 1) + d) 0
         → y ≡ getD l (entryAt x + 10 + 2 * k + d) 0
-        → upOn seats width (members (rosterIn l)) (meaning l .link) x k (sideOfNumber d) ≡ UpFrom seats y
+        → upOn seats width (members (rosterIn l)) (meaning l .link) (sideOfNumber d) x k ≡ UpFrom seats y
     unfolding UpFrom upOn
     up-start y h g b e f = rw (← add-one k, link-read l x (k + 1) d u h (omega arith) b e, link-read l x k d y h (omega arith) b f)
 

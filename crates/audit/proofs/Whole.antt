@@ -1,30 +1,31 @@
 -- The whole check: the test of the links part by part, that on sound bytes it is the check of specs/, and each answer. Assumes nothing.
-use Prim.Native.Nat.{ℕ, zero, suc}
+use Prim.Native.Nat.{ℕ, zero, suc, _+_, _*_, _<_}
 use mathlib.Core.Path.{_≡_, refl, sym, ap, _∙_}
 use mathlib.Core.Logic.{_≢_}
+use mathlib.Core.Option.{some}
 use mathlib.Core.Bool.{Bool, true, not, _&&_, _||_}
 use mathlib.Core.List.{List}
-use lib.Dec.{leb}
-use lib.ListN.{length}
+use lib.Dec.{T, leb}
+use lib.ListN.{length, getD}
 use borrow.Author.Tests.{eq-eqb, ne-eqb}
 use Rattle.memory.specs.Bytes.{AreBytes}
 use Rattle.memory.proofs.Cases.{and-assoc}
-use Rattle.graph.specs.Side.{onSide}
+use Rattle.graph.specs.Side.{right}
 use Rattle.graph.specs.Vector.{width}
 use Rattle.graph.specs.Graph.{Lots, Links, Laws}
-use Rattle.graph.proofs.Tests.{and-snd}
-use Rattle.graph.proofs.Order.{on-lt}
-use Rattle.protocol.specs.State.{members}
-use Rattle.protocol.specs.Sound.{Sound, pairOk, linkOk}
+use Rattle.protocol.specs.State.{seated, members}
+use Rattle.protocol.specs.Sound.{Sound}
+use Rattle.protocol.proofs.SoundFacts.{link-linked}
 use Rattle.protocol.proofs.Reached.{members-laws}
-use Rattle.record.specs.Layout.{seats, size}
+use Rattle.record.specs.Layout.{seats, levels, size, entryAt}
 use Rattle.record.specs.Meaning.{rosterIn, meaning}
 use Rattle.record.specs.Sound.{sound}
-use Rattle.record.specs.Reading.{recordRefusal}
+use Rattle.record.specs.Reading.{sideOfNumber, recordRefusal}
+use Rattle.record.proofs.Links.{linkOf-some, link-read}
 use Rattle.record.proofs.Sound.{sound-is}
 use Rattle.search.specs.Check.{every, check}
 use Rattle.search.proofs.Count.{count}
-use Rattle.search.proofs.LocalCheck.{backAt, leftmost, upAt, lotOk, localCheck}
+use Rattle.search.proofs.LocalCheck.{backAt, leftmost, upOn, lotOk, localCheck}
 use Rattle.search.proofs.Local.{Sided, local-check}
 use Rattle.record.proofs.Refused.{record-passed}
 use Rattle.audit.specs.Check.{checkIn}
@@ -35,12 +36,12 @@ use Rattle.audit.proofs.Loops.{every-parts}
 -- links back, levels and leftmost members one after the other
 pub local-parts : (N W : ℕ) (G : Lots) (L : Links) → localCheck N W G L
     ≡ every N (λ x. not (G .member x) || every (suc W) (backAt G L x))
-    && (every N (λ x. not (G .member x) || every W (upAt N W G L x)) && leb (count N (leftmost G L)) 1)
+    && (every N (λ x. not (G .member x) || every W (upOn N W G L right x)) && leb (count N (leftmost G L)) 1)
 unfolding localCheck lotOk
 local-parts N W G L =
     let backs = every N (λ x. not (G .member x) || every (suc W) (backAt G L x)) in
-    let ups = every N (λ x. not (G .member x) || every W (upAt N W G L x)) in
-    rw (every-parts N (G .member) (λ x. every (suc W) (backAt G L x)) (λ x. every W (upAt N W G L x)))
+    let ups = every N (λ x. not (G .member x) || every W (upOn N W G L right x)) in
+    rw (every-parts N (G .member) (λ x. every (suc W) (backAt G L x)) (λ x. every W (upOn N W G L right x)))
     (and-assoc backs ups (leb (count N (leftmost G L)) 1))
 
 module _ (l : List ℕ) (e : length l ≡ size) (b : AreBytes l) (s : sound l ≡ true) where
@@ -52,10 +53,15 @@ module _ (l : List ℕ) (e : length l ≡ size) (b : AreBytes l) (s : sound l �
   lots-laws = members-laws bytes-sound
 
   links-sided : Sided width (members (rosterIn l)) (meaning l .link)
-  unfolding meaning linkOk
-  links-sided x k y d m h f =
-      on-lt (rosterIn l .number) d x y
-      (and-snd (pairOk width (rosterIn l) k x y) (onSide d (rosterIn l .number x) (rosterIn l .number y)) (bytes-sound .links x k y d f))
+  unfolding meaning
+  links-sided x k y d m h f = link-linked bytes-sound {x = x} {k = k} {d = d} f .1
+
+  -- a link, by its byte, names a seated lot
+  pub link-seated : (x k d y : ℕ) → x < seats → k < levels → d < 2 → y ≡ getD l (entryAt x + 10 + 2 * k + d) 0 → y < seats
+      → T (seated (rosterIn l) y)
+  unfolding meaning
+  link-seated x k d y h g a f q = let e : meaning l .link x k (sideOfNumber d) ≡ some y = link-read l x k d y h g a f ∙ linkOf-some y q in
+      link-linked bytes-sound {x = x} {k = k} {d = sideOfNumber d} e .0 .two
 
   -- looking only at neighbours is enough
   pub local-right : localCheck seats width (members (rosterIn l)) (meaning l .link) ≡ check seats width (members (rosterIn l)) (meaning l .link)

@@ -1,23 +1,30 @@
 // The check of the links over a lent record (document 01, "Check"). It looks only at neighbours: every link of a member has its link back,
-// each level follows from the one below, and one member at most has no left neighbour. Once the links have their links back, the lists are
-// chains and the rest is linear in the links.
+// each level follows on the right from the one below, and one member at most has no left neighbour. Once the links have their links back, the
+// lists are chains, what holds on the right holds on the left, and the rest is linear in the links.
 ghost use mathlib.Core.Path.{_≡_};
-ghost use mathlib.Core.Bool.{not, _||_};
+ghost use mathlib.Core.Bool.{true, not, _||_};
 ghost use Prim.Native.Nat.{_<_};
-ghost use lib.Dec.{ltb};
+ghost use lib.Dec.{T, ltb};
 ghost use lib.ListN.{length};
+ghost use Rattle.graph.specs.Side.{right};
 ghost use Rattle.graph.specs.Vector.{width, shared};
-ghost use Rattle.protocol.specs.State.{member, members};
+ghost use Rattle.protocol.specs.State.{seated, member, members};
 ghost use Rattle.record.specs.Layout.{seats, levels, size};
 ghost use Rattle.record.specs.Meaning.{rosterIn, meaning};
 ghost use Rattle.record.specs.Reading.{sideOfNumber};
+ghost use Rattle.record.specs.Sound.{sound};
 ghost use Rattle.search.specs.Check.{every};
 ghost use Rattle.search.proofs.Count.{count};
-ghost use Rattle.search.proofs.LocalCheck.{backOf, backAt, leftmost, upOn, upAt, localCheck};
+ghost use Rattle.search.proofs.LocalCheck.{backOf, backAt, leftmost, upOn, localCheck};
 ghost use Rattle.audit.specs.Check.{checkIn};
 ghost use Rattle.audit.specs.Answer.{answered};
 use record::LEVELS;
 use record::SEATS;
+
+// The sides, as link numbers them.
+const LEFT: usize = 0;
+
+const RIGHT: usize = 1;
 
 // What the check answers: a refusal's number, or whether the links are right.
 pub enum Verdict {
@@ -35,9 +42,17 @@ fn is_member(rec: &[u8], s: usize) -> bool
     state == 1 || (state != 0 && record::phase(rec) == 0)
 }
 
-// Whether the link of x at level k on side d is none, or a member whose link back is x.
+// The same of a seated lot: in phase open it need not be looked at.
+fn seated_is_member(rec: &[u8], s: usize) -> bool
+    requires { ⌜ (length (now rec) ≡ size) × (s < seats) × T (seated (rosterIn (now rec)) s) ⌝ }
+    ensures { λ r. ⌜ r ≡ member (rosterIn (now (rec .entry))) s ⌝ }
+{
+    record::phase(rec) == 0 || record::state(rec, s) == 1
+}
+
+// Whether the link of x at level k on side d is none, or a member whose link back is x. On a sound record it names a seated lot.
 fn back_fits(rec: &[u8], x: usize, k: usize, d: usize) -> bool
-    requires { ⌜ (length (now rec) ≡ size) × (x < seats) × (k < levels) × (d < 2) ⌝ }
+    requires { ⌜ (length (now rec) ≡ size) × (sound (now rec) ≡ true) × (x < seats) × (k < levels) × (d < 2) ⌝ }
     ensures { λ r. ⌜ (let l = now (rec .entry) in
         r ≡ backOf (members (rosterIn l)) (meaning l .link) x k (sideOfNumber d) (meaning l .link x k (sideOfNumber d))) ⌝ }
 {
@@ -45,20 +60,20 @@ fn back_fits(rec: &[u8], x: usize, k: usize, d: usize) -> bool
     if y >= SEATS {
         return true;
     }
-    is_member(rec, y) && record::link(rec, y, k, 1 - d) as usize == x
+    seated_is_member(rec, y) && record::link(rec, y, k, 1 - d) as usize == x
 }
 
 // Both links of x at level k.
 fn level_backs_fit(rec: &[u8], x: usize, k: usize) -> bool
-    requires { ⌜ (length (now rec) ≡ size) × (x < seats) × (k < levels) ⌝ }
+    requires { ⌜ (length (now rec) ≡ size) × (sound (now rec) ≡ true) × (x < seats) × (k < levels) ⌝ }
     ensures { λ r. ⌜ (let l = now (rec .entry) in r ≡ backAt (members (rosterIn l)) (meaning l .link) x k) ⌝ }
 {
-    back_fits(rec, x, k, 0) && back_fits(rec, x, k, 1)
+    back_fits(rec, x, k, LEFT) && back_fits(rec, x, k, RIGHT)
 }
 
 // All links of x, if it is a member.
 fn lot_backs_fit(rec: &[u8], x: usize) -> bool
-    requires { ⌜ (length (now rec) ≡ size) × (x < seats) ⌝ }
+    requires { ⌜ (length (now rec) ≡ size) × (sound (now rec) ≡ true) × (x < seats) ⌝ }
     ensures { λ r. ⌜ (let l = now (rec .entry) in
         r ≡ not (member (rosterIn l) x) || every levels (backAt (members (rosterIn l)) (meaning l .link) x)) ⌝ }
 {
@@ -75,7 +90,7 @@ fn lot_backs_fit(rec: &[u8], x: usize) -> bool
 
 // Constraints 3 and 4: every link of a member names a member and has its link back.
 fn backs_fit(rec: &[u8]) -> bool
-    requires { ⌜ length (now rec) ≡ size ⌝ }
+    requires { ⌜ (length (now rec) ≡ size) × (sound (now rec) ≡ true) ⌝ }
     ensures { λ r. ⌜ (let l = now (rec .entry) in
         r ≡ every seats (λ x. not (member (rosterIn l) x) || every levels (backAt (members (rosterIn l)) (meaning l .link) x))) ⌝ }
 {
@@ -98,7 +113,7 @@ fn shares_more(rec: &[u8], x: usize, y: usize, k: usize) -> bool
 // Whether the link of x on side d one level above k is the first lot along level k that shares one bit more, or none if no lot does.
 fn up_fits(rec: &[u8], x: usize, k: usize, d: usize) -> bool
     requires { ⌜ (length (now rec) ≡ size) × (x < seats) × (k < width) × (d < 2) ⌝ }
-    ensures { λ r. ⌜ (let l = now (rec .entry) in r ≡ upOn seats width (members (rosterIn l)) (meaning l .link) x k (sideOfNumber d)) ⌝ }
+    ensures { λ r. ⌜ (let l = now (rec .entry) in r ≡ upOn seats width (members (rosterIn l)) (meaning l .link) (sideOfNumber d) x k) ⌝ }
 {
     let up = record::link(rec, x, k + 1, d) as usize;
     let mut y = record::link(rec, x, k, d) as usize;
@@ -114,36 +129,28 @@ fn up_fits(rec: &[u8], x: usize, k: usize, d: usize) -> bool
     up >= SEATS
 }
 
-// Both links of x one level above k.
-fn level_ups_fit(rec: &[u8], x: usize, k: usize) -> bool
-    requires { ⌜ (length (now rec) ≡ size) × (x < seats) × (k < width) ⌝ }
-    ensures { λ r. ⌜ (let l = now (rec .entry) in r ≡ upAt seats width (members (rosterIn l)) (meaning l .link) x k) ⌝ }
-{
-    up_fits(rec, x, k, 0) && up_fits(rec, x, k, 1)
-}
-
-// All links of x above level 0, if it is a member.
+// All right links of x above level 0, if it is a member.
 fn lot_ups_fit(rec: &[u8], x: usize) -> bool
     requires { ⌜ (length (now rec) ≡ size) × (x < seats) ⌝ }
     ensures { λ r. ⌜ (let l = now (rec .entry) in
-        r ≡ not (member (rosterIn l) x) || every width (upAt seats width (members (rosterIn l)) (meaning l .link) x)) ⌝ }
+        r ≡ not (member (rosterIn l) x) || every width (upOn seats width (members (rosterIn l)) (meaning l .link) right x)) ⌝ }
 {
     if !is_member(rec, x) {
         return true;
     }
     for k in 0..LEVELS - 1 {
-        if !level_ups_fit(rec, x, k) {
+        if !up_fits(rec, x, k, RIGHT) {
             return false;
         }
     }
     true
 }
 
-// Constraints 5 and 6: each level of a member's links follows from the one below.
+// Constraints 5 and 6: each level of a member's links follows from the one below. With the links back, the right side gives the left.
 fn ups_fit(rec: &[u8]) -> bool
     requires { ⌜ length (now rec) ≡ size ⌝ }
     ensures { λ r. ⌜ (let l = now (rec .entry) in
-        r ≡ every seats (λ x. not (member (rosterIn l) x) || every width (upAt seats width (members (rosterIn l)) (meaning l .link) x))) ⌝ }
+        r ≡ every seats (λ x. not (member (rosterIn l) x) || every width (upOn seats width (members (rosterIn l)) (meaning l .link) right x))) ⌝ }
 {
     for x in 0..SEATS {
         if !lot_ups_fit(rec, x) {
@@ -158,7 +165,7 @@ fn is_leftmost(rec: &[u8], x: usize) -> bool
     requires { ⌜ (length (now rec) ≡ size) × (x < seats) ⌝ }
     ensures { λ r. ⌜ (let l = now (rec .entry) in r ≡ leftmost (members (rosterIn l)) (meaning l .link) x) ⌝ }
 {
-    is_member(rec, x) && record::link(rec, x, 0, 0) as usize >= SEATS
+    is_member(rec, x) && record::link(rec, x, 0, LEFT) as usize >= SEATS
 }
 
 // How many such members there are: one for each level-0 list.
@@ -177,7 +184,7 @@ fn count_leftmost(rec: &[u8]) -> usize
 
 // The whole test of the links.
 fn links_fit(rec: &[u8]) -> bool
-    requires { ⌜ length (now rec) ≡ size ⌝ }
+    requires { ⌜ (length (now rec) ≡ size) × (sound (now rec) ≡ true) ⌝ }
     ensures { λ r. ⌜ (let l = now (rec .entry) in r ≡ localCheck seats width (members (rosterIn l)) (meaning l .link)) ⌝ }
 {
     backs_fit(rec) && (ups_fit(rec) && count_leftmost(rec) <= 1)

@@ -8,6 +8,7 @@ pub mod Holder
 pub mod Check
 pub mod LocalCheck
 pub mod Follow
+pub mod OtherSide
 pub mod Leftmost
 pub mod Local
 pub mod Examples

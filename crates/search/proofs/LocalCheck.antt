@@ -1,4 +1,5 @@
--- A check that looks only at neighbours, as code makes it: links and links back, each level by the one below, and one leftmost lot.
+-- A check that looks only at neighbours, as code makes it: links and links back, each level on the right by the one below, and one leftmost
+-- lot.
 -- Assumes nothing.
 use Prim.Native.Nat.{ℕ, zero, suc}
 use mathlib.Core.Option.{Option, none, some}
@@ -31,15 +32,13 @@ module _ (W : ℕ) (G : Lots) (L : Links) where
   follow x k d (suc f) (some y) = cond (ltb k (shared W (G .vector x) (G .vector y))) (some y) (follow x k d f (L y k d))
 
 module _ (N W : ℕ) (G : Lots) (L : Links) where
-  -- the link of x one level up is the first of its list that shares one bit more
-  unfoldable pub upOn : (x k : ℕ) → Side → Bool
-  upOn x k d = sameLink (L x (suc k) d) (follow W G L x k d N (L x k d))
+  -- the link of x one level up on side d is the first of its list there that shares one bit more
+  unfoldable pub upOn : Side → (x k : ℕ) → Bool
+  upOn d x k = sameLink (L x (suc k) d) (follow W G L x k d N (L x k d))
 
-  unfoldable pub upAt : (x k : ℕ) → Bool
-  upAt x k = upOn x k left && upOn x k right
-
+  -- with the links back, the levels on the right give those on the left
   unfoldable pub lotOk : ℕ → Bool
-  lotOk x = every (suc W) (backAt G L x) && every W (upAt x)
+  lotOk x = every (suc W) (backAt G L x) && every W (upOn right x)
 
   -- every member passes, and at most one is leftmost
   unfoldable pub localCheck : Bool

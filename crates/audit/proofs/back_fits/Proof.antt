@@ -1,9 +1,11 @@
 -- `audit::back_fits` meets its contract. Assumes nothing.
 use Prim.Native.Nat.{ℕ}
 use mathlib.Core.Path.{ap}
+use native.Mathlib.Omega.{arith}
 use lib.Dec.{eqb}
 use Rattle.roster.proofs.Tests.{and-stop, and-go}
 use Rattle.audit.proofs.Parts.{back-none, back-some}
+use Rattle.audit.proofs.Whole.{link-seated}
 use borrow.Author.Needs.{needs}
 use Rattle.audit.proofs.back_fits.Statement.{statement}
 use Rattle.audit.proofs.back_fits.Tie as tie
@@ -18,8 +20,16 @@ returns : tie.Need-returns
 returns c =
     back-none _ _ _ _ _ (search needs) (search needs) (search needs) (c .before .link .ensures) (c .if1 .taken)
 
-is-member-requires : tie.Need-is-member-requires
-is-member-requires c κs = search needs
+seated-is-member-requires : tie.Need-seated-is-member-requires
+seated-is-member-requires c κs =
+    let b = c .before .before in
+    let s = b .before .args in
+    let r = c .before .link in (
+      search needs,
+      search needs,
+      link-seated (s .rec .now) (search needs) (λ j. omega (arith, b .shared-slice-known .given j)) (search needs)
+          (s .x) (s .k) (s .d) (r .result) (search needs) (search needs) (search needs) (r .ensures) (c .if1 .left),
+    )
 
 sub-link : tie.Need-sub-link
 sub-link c = search needs
@@ -36,7 +46,7 @@ returns-2 c =
     let s = b .before .before .before .args in
     let r = b .before .link in
     rw (back-some (s .rec .now) (s .x) (s .k) (s .d) (r .result) (search needs) (search needs) (search needs) (r .ensures) (b .if1 .left))
-    (and-go (c .before .before .is-member .ensures) (c .before .if2 .taken) (ap (λ (z : ℕ). eqb z (s .x)) (c .link2 .ensures)))
+    (and-go (c .before .before .seated-is-member .ensures) (c .before .if2 .taken) (ap (λ (z : ℕ). eqb z (s .x)) (c .link2 .ensures)))
 
 returns-3 : tie.Need-returns-3
 returns-3 c =
@@ -44,7 +54,7 @@ returns-3 c =
     let s = b .before .before .before .args in
     let r = b .before .link in
     rw (back-some (s .rec .now) (s .x) (s .k) (s .d) (r .result) (search needs) (search needs) (search needs) (r .ensures) (b .if1 .left))
-    (and-stop _ (c .before .is-member .ensures) (c .if2 .left))
+    (and-stop _ (c .before .seated-is-member .ensures) (c .if2 .left))
 
 pub back-fits-spec : {M : Type 1} → statement M
 back-fits-spec =
@@ -53,7 +63,7 @@ back-fits-spec =
     link-requires
     cast-y
     returns
-    is-member-requires
+    seated-is-member-requires
     sub-link
     link-requires-2
     cast-result

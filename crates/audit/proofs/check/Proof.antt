@@ -24,7 +24,7 @@ returns : tie.Need-returns
 returns c = refused-answer _ (c .before .record-refusal .result) (c .before .record-refusal .ensures) (c .if1 .taken)
 
 links-fit-requires : tie.Need-links-fit-requires
-links-fit-requires c κs = record-passed _ (c .before .record-refusal .ensures) (c .if1 .left) .sized
+links-fit-requires c κs = let p = record-passed _ (c .before .record-refusal .ensures) (c .if1 .left) in (p .sized, p .fine)
 
 returns-2 : tie.Need-returns-2
 unfolding verdictOf

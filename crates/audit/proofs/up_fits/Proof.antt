@@ -15,7 +15,7 @@ use Rattle.audit.proofs.up_fits.Tie as tie
 
 abbrev Inv-loop : tie.InvT-loop
 Inv-loop rec x k d up y₀ i₀ y i =
-    (i ≤ seats) × (upOn seats width (members (rosterIn rec)) (meaning rec .link) x k (sideOfNumber d) ≡ UpFrom rec x k d up (seats - i) y)
+    (i ≤ seats) × (upOn seats width (members (rosterIn rec)) (meaning rec .link) (sideOfNumber d) x k ≡ UpFrom rec x k d up (seats - i) y)
 
 abbrev μ-loop : tie.MeasureT-loop
 μ-loop rec x k d up y₀ i₀ y i = seats - i

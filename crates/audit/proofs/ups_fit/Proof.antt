@@ -5,9 +5,10 @@ use mathlib.Core.Bool.{true, not, _||_}
 use Rattle.protocol.specs.State.{member, members}
 use Rattle.record.specs.Meaning.{rosterIn, meaning}
 use Rattle.search.specs.Check.{every}
+use Rattle.graph.specs.Side.{right}
 use Rattle.graph.specs.Vector.{width}
 use Rattle.record.specs.Layout.{seats}
-use Rattle.search.proofs.LocalCheck.{upAt}
+use Rattle.search.proofs.LocalCheck.{upOn}
 use Rattle.audit.proofs.Loops.{every-none, every-stop, every-go, every-end}
 use borrow.Author.Needs.{needs}
 use Rattle.audit.proofs.ups_fit.Statement.{statement}
@@ -15,7 +16,8 @@ use Rattle.audit.proofs.ups_fit.Tie as tie
 
 abbrev Inv-loop : tie.InvT-loop
 Inv-loop rec x₀ x =
-    (x ≤ seats) × (every x (λ i. not (member (rosterIn rec) i) || every width (upAt seats width (members (rosterIn rec)) (meaning rec .link) i)) ≡ true)
+    let r = rosterIn rec in
+    (x ≤ seats) × (every x (λ i. not (member r i) || every width (upOn seats width (members r) (meaning rec .link) right i)) ≡ true)
 
 abbrev μ-loop : tie.MeasureT-loop
 μ-loop rec x₀ x = seats - x
