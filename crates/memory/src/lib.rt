@@ -114,7 +114,7 @@ fn skip_runs(rec: &[u8], at: usize, end: usize, n: usize) -> usize
     i
 }
 
-// Where that search goes on after blocks and then chunks that are all 0. A chunk comes first: often the next byte is near.
+// Where that search goes on after blocks, chunks and words that are all 0. A chunk comes first: often the next byte is near.
 fn skip_zeros(rec: &[u8], at: usize, end: usize) -> usize
     requires { ⌜ (at ≤ end) × (end ≤ length (now rec)) ⌝ }
     ensures within { λ r. ⌜ r ≤ end ⌝ }
@@ -122,11 +122,12 @@ fn skip_zeros(rec: &[u8], at: usize, end: usize) -> usize
 {
     if CHUNK <= end - at {
         if !zero_run(rec, at, CHUNK) {
-            return at;
+            return skip_runs(rec, at, end, WIDTH);
         }
     }
-    let from = skip_runs(rec, at, end, BLOCK);
-    skip_runs(rec, from, end, CHUNK)
+    let block = skip_runs(rec, at, end, BLOCK);
+    let chunk = skip_runs(rec, block, end, CHUNK);
+    skip_runs(rec, chunk, end, WIDTH)
 }
 
 // Whether the `n` bytes from `at` on are all 255.
