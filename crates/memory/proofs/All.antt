@@ -41,6 +41,18 @@ unfolding all
 all-same zero p q h = refl
 all-same (suc n) p q h = rw (all-same n p q (λ i l. h i (omega arith)), h n (omega arith))
 
+-- two tests at once
+pub all-and : (n : ℕ) (p q : ℕ → Bool) → all n (λ i. p i && q i) ≡ all n p && all n q
+unfolding all
+all-and zero p q = refl
+all-and (suc n) p q = rw (all-and n p q) (by (all n p) (all n q) (p n) (q n))
+  where
+    by : (a b c d : Bool) → (a && b) && (c && d) ≡ (a && c) && (b && d)
+    by false b c d = refl
+    by true true c d = refl
+    by true false true d = refl
+    by true false false d = refl
+
 -- a range of m and one of n after it
 pub all-append : (m n : ℕ) (p : ℕ → Bool) → all (m + n) p ≡ all m p && all n (λ j. p (m + j))
 unfolding all

@@ -16,10 +16,11 @@ use Rattle.graph.proofs.Tests.{true-T}
 use Rattle.graph.proofs.Order.{lt-ne, on-lt}
 use Rattle.protocol.specs.State.{Roster, seated}
 use Rattle.protocol.specs.Sound.{pairOk, linkOk}
-use Rattle.record.specs.Layout.{seats, levels, noLink, entryAt, linkAt}
+use Rattle.record.specs.Layout.{seats, levels, noLink, entryAt, stateAt, linkAt}
 use Rattle.record.specs.Meaning.{rosterIn}
 use Rattle.record.specs.Reading.{sideOfNumber}
-use Rattle.record.specs.Sound.{asOpened, unusedFit, linkFits}
+use Rattle.record.specs.Sound.{asOpened, linkFits}
+use Rattle.soundness.specs.Parts.{seatFits}
 
 link-place : (x k d : ℕ) → d < 2 → linkAt x k (sideOfNumber d) ≡ entryAt x + 10 + 2 * k + d
 link-place x k zero h = refl
@@ -48,16 +49,16 @@ link-ok r x k y d e = rw e (by (seated r y) (not (eqb x y)) (leb k (shared width
     by true false false o h = refl
 
 -- a free seat has no links
-pub free-links : (l : List ℕ) (x : ℕ) → unusedFit l ≡ true → x < seats → seated (rosterIn l) x ≡ false
+pub free-links : (l : List ℕ) (x : ℕ) → all seats (seatFits l) ≡ true → x < seats → seated (rosterIn l) x ≡ false
     → true ≡ all levels (λ k. linkFits l x k left && linkFits l x k right)
-unfolding unusedFit asOpened linkFits
+unfolding asOpened linkFits
 free-links l x u h f = sym (all-from levels _ (λ k g. both k (all-at levels k free none g)))
   where
     free : ℕ → Bool
     free k = eqb (getD l (linkAt x k left) 0) noLink && eqb (getD l (linkAt x k right) 0) noLink
 
     opened : asOpened l x ≡ true
-    opened = let t : seated (rosterIn l) x || asOpened l x ≡ true = all-at seats x (λ s. seated (rosterIn l) s || asOpened l s) u h in rw f at t
+    opened = let t : seated (rosterIn l) x || asOpened l x ≡ true = and-right (ltb (getD l (stateAt x) 0) 3) _ (all-at seats x (seatFits l) u h) in rw f at t
 
     none : all levels free ≡ true
     none =

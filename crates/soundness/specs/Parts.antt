@@ -1,15 +1,16 @@
 -- Parts of the clauses of record's specs/Sound.antt that have no name there, and the numbers of all seats in an array. Assumes nothing.
 use Prim.Native.Nat.{ℕ, _<_}
 use mathlib.Core.Path.{_≡_}
-use mathlib.Core.Bool.{Bool, not, _&&_}
+use mathlib.Core.Bool.{Bool, not, _&&_, _||_}
 use mathlib.Core.List.{List}
-use lib.Dec.{eqb}
+use lib.Dec.{eqb, ltb}
 use lib.ListN.{getD}
+use Rattle.memory.specs.Loops.{all}
 use Rattle.graph.specs.Side.{left, right}
 use Rattle.protocol.specs.State.{seated}
-use Rattle.record.specs.Layout.{seats, noLink, linkAt}
+use Rattle.record.specs.Layout.{seats, levels, noLink, stateAt, linkAt}
 use Rattle.record.specs.Meaning.{rosterIn}
-use Rattle.record.specs.Sound.{phaseFits, statesFit, unusedFit, numbersDiffer, linksFit}
+use Rattle.record.specs.Sound.{phaseFits, asOpened, linkFits}
 
 -- a has the number of each seat
 abbrev pub HasNumbers : (l a : List ℕ) → Type 0
@@ -23,6 +24,14 @@ unlinked l s k = eqb (getD l (linkAt s k left) 0) noLink && eqb (getD l (linkAt 
 abbrev pub differ : (l : List ℕ) (x y : ℕ) → Bool
 differ l x y = not (seated (rosterIn l) x && (seated (rosterIn l) y && eqb (rosterIn l .number x) (rosterIn l .number y)))
 
--- every clause of `sound` but that of the messages
+-- the clauses of one seat: its state, and if it is free its entry
+abbrev pub seatFits : (l : List ℕ) (s : ℕ) → Bool
+seatFits l s = ltb (getD l (stateAt s) 0) 3 && (seated (rosterIn l) s || asOpened l s)
+
+-- the clauses of one lot: its number and its links
+abbrev pub lotFits : (l : List ℕ) (x : ℕ) → Bool
+lotFits l x = all x (differ l x) && all levels (λ k. linkFits l x k left && linkFits l x k right)
+
+-- every clause of `sound` but that of the messages, seat by seat
 unfoldable pub entriesFit : List ℕ → Bool
-entriesFit l = phaseFits l && (statesFit l && (unusedFit l && (numbersDiffer l && linksFit l)))
+entriesFit l = phaseFits l && (all seats (seatFits l) && all seats (lotFits l))

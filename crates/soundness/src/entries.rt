@@ -1,16 +1,13 @@
 // Phase and entries: the clauses of soundness that name no link of a seated lot and no message.
 ghost use mathlib.Core.Path.{_≡_};
-ghost use mathlib.Core.Bool.{_||_};
 ghost use Prim.Native.Nat.{_<_};
 ghost use lib.Dec.{eqb};
 ghost use lib.ListN.{length, getD};
 ghost use Rattle.memory.specs.Loops.{all};
 ghost use Rattle.protocol.specs.Numbering.{any};
-ghost use Rattle.protocol.specs.State.{seated};
 ghost use Rattle.record.specs.Layout.{seats, levels, size};
-ghost use Rattle.record.specs.Meaning.{rosterIn};
-ghost use Rattle.record.specs.Sound.{phaseFits, statesFit, asOpened, unusedFit, numbersDiffer};
-ghost use Rattle.soundness.specs.Parts.{HasNumbers, unlinked, differ};
+ghost use Rattle.record.specs.Sound.{phaseFits, asOpened};
+ghost use Rattle.soundness.specs.Parts.{HasNumbers, unlinked, differ, seatFits};
 use record::ENTRIES;
 use record::ENTRY;
 use record::LEVELS;
@@ -30,18 +27,6 @@ pub fn phase_fits(rec: &[u8]) -> bool
     record::phase(rec) < PHASES
 }
 
-pub fn states_fit(rec: &[u8]) -> bool
-    requires { ⌜ length (now rec) ≡ size ⌝ }
-    ensures { λ r. ⌜ r ≡ statesFit (now (rec .entry)) ⌝ }
-{
-    for s in 0..SEATS {
-        if STATES <= record::state(rec, s) {
-            return false;
-        }
-    }
-    true
-}
-
 // Whether seat s has no link.
 fn no_links(rec: &[u8], s: usize) -> bool
     requires { ⌜ (length (now rec) ≡ size) × (s < seats) ⌝ }
@@ -58,16 +43,17 @@ fn as_opened(rec: &[u8], s: usize) -> bool
     record::number(rec, s) == 0 && (record::vector(rec, s) == 0 && no_links(rec, s))
 }
 
+// The clauses of one seat: its state, and if it is free its entry.
 fn seat_fits(rec: &[u8], s: usize) -> bool
     requires { ⌜ (length (now rec) ≡ size) × (s < seats) ⌝ }
-    ensures { λ r. ⌜ r ≡ seated (rosterIn (now (rec .entry))) s || asOpened (now (rec .entry)) s ⌝ }
+    ensures { λ r. ⌜ r ≡ seatFits (now (rec .entry)) s ⌝ }
 {
-    is_seated(rec, s) || as_opened(rec, s)
+    record::state(rec, s) < STATES && (is_seated(rec, s) || as_opened(rec, s))
 }
 
-pub fn unused_fit(rec: &[u8]) -> bool
+pub fn seats_fit(rec: &[u8]) -> bool
     requires { ⌜ length (now rec) ≡ size ⌝ }
-    ensures { λ r. ⌜ r ≡ unusedFit (now (rec .entry)) ⌝ }
+    ensures { λ r. ⌜ r ≡ all seats (seatFits (now (rec .entry))) ⌝ }
 {
     for s in 0..SEATS {
         if !seat_fits(rec, s) {
@@ -130,27 +116,9 @@ fn repeats(numbers: &[u64; SEATS], x: usize) -> bool
 }
 
 // Whether x is free, or no seated lot below x has its number.
-fn number_differs(rec: &[u8], numbers: &[u64; SEATS], x: usize) -> bool
+pub fn number_differs(rec: &[u8], numbers: &[u64; SEATS], x: usize) -> bool
     requires { ⌜ (length (now rec) ≡ size) × HasNumbers (now rec) (now numbers) × (x < seats) ⌝ }
     ensures { λ r. ⌜ r ≡ all x (differ (now (rec .entry)) x) ⌝ }
 {
-    if !is_seated(rec, x) {
-        return true;
-    }
-    if !repeats(numbers, x) {
-        return true;
-    }
-    pairs_differ(rec, numbers, x)
-}
-
-pub fn numbers_differ(rec: &[u8], numbers: &[u64; SEATS]) -> bool
-    requires { ⌜ (length (now rec) ≡ size) × HasNumbers (now rec) (now numbers) ⌝ }
-    ensures { λ r. ⌜ r ≡ numbersDiffer (now (rec .entry)) ⌝ }
-{
-    for x in 0..SEATS {
-        if !number_differs(rec, numbers, x) {
-            return false;
-        }
-    }
-    true
+    !repeats(numbers, x) || pairs_differ(rec, numbers, x)
 }

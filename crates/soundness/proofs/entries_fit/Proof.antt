@@ -9,48 +9,28 @@ use Rattle.soundness.proofs.entries_fit.Tie as tie
 phase-fits-requires : tie.Need-phase-fits-requires
 phase-fits-requires c κs = search needs
 
-states-fit-requires : tie.Need-states-fit-requires
-states-fit-requires c κs = search needs
-
-unused-fit-requires : tie.Need-unused-fit-requires
-unused-fit-requires c κs = search needs
+seats-fit-requires : tie.Need-seats-fit-requires
+seats-fit-requires c κs = search needs
 
 lots-fit-requires : tie.Need-lots-fit-requires
-lots-fit-requires c κs = (search needs, sym (c .before .unused-fit .ensures) ∙ c .if3 .taken)
+lots-fit-requires c κs = (search needs, sym (c .before .seats-fit .ensures) ∙ c .if2 .taken)
 
 returns : tie.Need-returns
 unfolding entriesFit
 returns c =
-    and-go (c .before .before .before .before .before .before .phase-fits .ensures) (c .before .before .before .before .before .if1 .taken)
-    (and-go (c .before .before .before .before .states-fit .ensures) (c .before .before .before .if2 .taken)
-    (and-go (c .before .before .unused-fit .ensures) (c .before .if3 .taken) (c .lots-fit .ensures)))
+    and-go (c .before .before .before .before .phase-fits .ensures) (c .before .before .before .if1 .taken)
+    (and-go (c .before .before .seats-fit .ensures) (c .before .if2 .taken) (c .lots-fit .ensures))
 
 returns-2 : tie.Need-returns-2
 unfolding entriesFit
 returns-2 c =
-    and-go (c .before .before .before .before .before .phase-fits .ensures) (c .before .before .before .before .if1 .taken)
-    (and-go (c .before .before .before .states-fit .ensures) (c .before .before .if2 .taken)
-    (and-stop _ (c .before .unused-fit .ensures) (c .if3 .left)))
+    and-go (c .before .before .before .phase-fits .ensures) (c .before .before .if1 .taken) (and-stop _ (c .before .seats-fit .ensures) (c .if2 .left))
 
 returns-3 : tie.Need-returns-3
 unfolding entriesFit
-returns-3 c =
-    and-go (c .before .before .before .phase-fits .ensures) (c .before .before .if1 .taken)
-    (and-stop _ (c .before .states-fit .ensures) (c .if2 .left))
-
-returns-4 : tie.Need-returns-4
-unfolding entriesFit
-returns-4 c = and-stop _ (c .before .phase-fits .ensures) (c .if1 .left)
+returns-3 c = and-stop _ (c .before .phase-fits .ensures) (c .if1 .left)
 
 pub entries-fit-spec : {M : Type 1} → statement M
 entries-fit-spec =
     tie.close
-    (tie.spec
-    phase-fits-requires
-    states-fit-requires
-    unused-fit-requires
-    lots-fit-requires
-    returns
-    returns-2
-    returns-3
-    returns-4)
+    (tie.spec phase-fits-requires seats-fit-requires lots-fit-requires returns returns-2 returns-3)

@@ -1,21 +1,18 @@
--- `soundness::entries::unused_fit` meets its contract. The loop's invariant: all below s pass. Assumes nothing.
+-- `soundness::entries::seats_fit` meets its contract. The loop's invariant: all below s pass. Assumes nothing.
 use Prim.Native.Nat.{_≤_, _-_}
 use mathlib.Core.Path.{_≡_}
 use mathlib.Core.Bool.{true}
 use borrow.Author.Needs.{needs}
 use Rattle.memory.specs.Loops.{all}
 use Rattle.memory.proofs.All.{all-none}
-use mathlib.Core.Bool.{_||_}
-use Rattle.protocol.specs.State.{seated}
 use Rattle.record.specs.Layout.{seats}
-use Rattle.record.specs.Meaning.{rosterIn}
-use Rattle.record.specs.Sound.{asOpened, unusedFit}
 use Rattle.roster.proofs.Tests.{all-stop, all-go, all-end}
-use Rattle.soundness.proofs.entries.unused_fit.Statement.{statement}
-use Rattle.soundness.proofs.entries.unused_fit.Tie as tie
+use Rattle.soundness.specs.Parts.{seatFits}
+use Rattle.soundness.proofs.entries.seats_fit.Statement.{statement}
+use Rattle.soundness.proofs.entries.seats_fit.Tie as tie
 
 abbrev Inv-loop : tie.InvT-loop
-Inv-loop rec s₀ s = (s ≤ seats) × (all s (λ i. seated (rosterIn rec) i || asOpened rec i) ≡ true)
+Inv-loop rec s₀ s = (s ≤ seats) × (all s (seatFits rec) ≡ true)
 
 abbrev μ-loop : tie.MeasureT-loop
 μ-loop rec s₀ s = seats - s
@@ -27,7 +24,6 @@ seat-fits-requires : tie.Need-seat-fits-requires Inv-loop μ-loop
 seat-fits-requires c κs = search needs
 
 returns : tie.Need-returns Inv-loop μ-loop
-unfolding unusedFit
 returns c = all-stop _ _ _ (c .before .before .loop-test .taken) (c .before .seat-fits .ensures) (c .if1 .taken)
 
 add-s : tie.Need-add-s Inv-loop μ-loop
@@ -40,11 +36,10 @@ loop-again : tie.Need-loop-again Inv-loop μ-loop
 loop-again c = (search needs, all-go _ _ (c .before .before .before .loop .inv .1) (c .before .seat-fits .ensures) (c .if1 .left))
 
 returns-2 : tie.Need-returns-2 Inv-loop μ-loop
-unfolding unusedFit
 returns-2 c = all-end _ _ _ (c .before .loop .inv .0) (c .loop-test .left) (c .before .loop .inv .1)
 
-pub unused-fit-spec : {M : Type 1} → statement M
-unused-fit-spec =
+pub seats-fit-spec : {M : Type 1} → statement M
+seats-fit-spec =
     tie.close
     (tie.spec
     Inv-loop
