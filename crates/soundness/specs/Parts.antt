@@ -8,9 +8,9 @@ use lib.ListN.{getD}
 use Rattle.memory.specs.Loops.{all}
 use Rattle.graph.specs.Side.{left, right}
 use Rattle.protocol.specs.State.{seated}
-use Rattle.record.specs.Layout.{seats, levels, noLink, stateAt, linkAt}
+use Rattle.record.specs.Layout.{seats, noLink, stateAt, linkAt}
 use Rattle.record.specs.Meaning.{rosterIn}
-use Rattle.record.specs.Sound.{phaseFits, asOpened, linkFits}
+use Rattle.record.specs.Sound.{phaseFits, asOpened, numbersDiffer, linksFit}
 
 -- a has the number of each seat
 abbrev pub HasNumbers : (l a : List ℕ) → Type 0
@@ -28,10 +28,6 @@ differ l x y = not (seated (rosterIn l) x && (seated (rosterIn l) y && eqb (rost
 abbrev pub seatFits : (l : List ℕ) (s : ℕ) → Bool
 seatFits l s = ltb (getD l (stateAt s) 0) 3 && (seated (rosterIn l) s || asOpened l s)
 
--- the clauses of one lot: its number and its links
-abbrev pub lotFits : (l : List ℕ) (x : ℕ) → Bool
-lotFits l x = all x (differ l x) && all levels (λ k. linkFits l x k left && linkFits l x k right)
-
--- every clause of `sound` but that of the messages, seat by seat
+-- every clause of `sound` but that of the messages, those of the seats together
 unfoldable pub entriesFit : List ℕ → Bool
-entriesFit l = phaseFits l && (all seats (seatFits l) && all seats (lotFits l))
+entriesFit l = phaseFits l && (all seats (seatFits l) && (numbersDiffer l && linksFit l))

@@ -6,7 +6,7 @@ ghost use lib.ListN.{length, getD};
 ghost use Rattle.memory.specs.Loops.{all};
 ghost use Rattle.protocol.specs.Numbering.{any};
 ghost use Rattle.record.specs.Layout.{seats, levels, size};
-ghost use Rattle.record.specs.Sound.{phaseFits, asOpened};
+ghost use Rattle.record.specs.Sound.{phaseFits, asOpened, numbersDiffer};
 ghost use Rattle.soundness.specs.Parts.{HasNumbers, unlinked, differ, seatFits};
 use record::ENTRIES;
 use record::ENTRY;
@@ -116,9 +116,27 @@ fn repeats(numbers: &[u64; SEATS], x: usize) -> bool
 }
 
 // Whether x is free, or no seated lot below x has its number.
-pub fn number_differs(rec: &[u8], numbers: &[u64; SEATS], x: usize) -> bool
+fn number_differs(rec: &[u8], numbers: &[u64; SEATS], x: usize) -> bool
     requires { ⌜ (length (now rec) ≡ size) × HasNumbers (now rec) (now numbers) × (x < seats) ⌝ }
     ensures { λ r. ⌜ r ≡ all x (differ (now (rec .entry)) x) ⌝ }
 {
-    !repeats(numbers, x) || pairs_differ(rec, numbers, x)
+    if !is_seated(rec, x) {
+        return true;
+    }
+    if !repeats(numbers, x) {
+        return true;
+    }
+    pairs_differ(rec, numbers, x)
+}
+
+pub fn numbers_differ(rec: &[u8], numbers: &[u64; SEATS]) -> bool
+    requires { ⌜ (length (now rec) ≡ size) × HasNumbers (now rec) (now numbers) ⌝ }
+    ensures { λ r. ⌜ r ≡ numbersDiffer (now (rec .entry)) ⌝ }
+{
+    for x in 0..SEATS {
+        if !number_differs(rec, numbers, x) {
+            return false;
+        }
+    }
+    true
 }

@@ -1,47 +1,28 @@
 // Whether bytes of a record's size are a sound record (document 01, "Sound"): a function for each clause of record's specs/Sound.antt, the
 // clause of the messages in postbox. Any bytes are read without fault.
 ghost use mathlib.Core.Path.{_≡_};
-ghost use mathlib.Core.Bool.{true};
-ghost use Prim.Native.Nat.{_<_};
+ghost use mathlib.Core.Bool.{true, _&&_};
 ghost use lib.ListN.{length};
 ghost use Rattle.memory.specs.Loops.{all};
 ghost use Rattle.record.specs.Layout.{seats, size};
 ghost use Rattle.record.specs.Reading.{recordRefusal};
-ghost use Rattle.soundness.specs.Parts.{HasNumbers, seatFits, lotFits, entriesFit};
-ghost use Rattle.record.specs.Sound.{messagesFit};
+ghost use Rattle.soundness.specs.Parts.{seatFits, entriesFit};
+ghost use Rattle.record.specs.Sound.{numbersDiffer, linksFit, messagesFit};
 
 mod entries;
 mod links;
 
-use record::SEATS;
 use record::SIZE;
 use record::refusals::UNSOUND;
 use record::refusals::WRONG_SIZE;
-use roster::is_seated;
 
-// The clauses of one lot: its number and its links. A free seat is known to have none.
-fn lot_fits(rec: &[u8], numbers: &[u64; SEATS], x: usize) -> bool
-    requires { ⌜ (length (now rec) ≡ size) × HasNumbers (now rec) (now numbers) × (x < seats) × (all seats (seatFits (now rec)) ≡ true) ⌝ }
-    ensures { λ r. ⌜ r ≡ lotFits (now (rec .entry)) x ⌝ }
-{
-    if !is_seated(rec, x) {
-        return true;
-    }
-    entries::number_differs(rec, numbers, x) && links::links_fit(rec, numbers, x)
-}
-
-// The clauses of all lots. The numbers are read once.
+// The clauses on numbers and links. The numbers are read once.
 fn lots_fit(rec: &[u8]) -> bool
     requires { ⌜ (length (now rec) ≡ size) × (all seats (seatFits (now rec)) ≡ true) ⌝ }
-    ensures { λ r. ⌜ r ≡ all seats (lotFits (now (rec .entry))) ⌝ }
+    ensures { λ r. ⌜ r ≡ numbersDiffer (now (rec .entry)) && linksFit (now (rec .entry)) ⌝ }
 {
     let numbers = entries::numbers_of(rec);
-    for x in 0..SEATS {
-        if !lot_fits(rec, &numbers, x) {
-            return false;
-        }
-    }
-    true
+    entries::numbers_differ(rec, &numbers) && links::links_fit(rec, &numbers)
 }
 
 // All clauses but that of the messages.

@@ -11,8 +11,8 @@ ghost use Rattle.protocol.specs.Sound.{linkOk};
 ghost use Rattle.record.specs.Layout.{seats, levels, size};
 ghost use Rattle.record.specs.Meaning.{rosterIn};
 ghost use Rattle.record.specs.Reading.{sideOfNumber};
-ghost use Rattle.record.specs.Sound.{linkFits};
-ghost use Rattle.soundness.specs.Parts.{HasNumbers};
+ghost use Rattle.record.specs.Sound.{linkFits, linksFit};
+ghost use Rattle.soundness.specs.Parts.{HasNumbers, seatFits};
 use record::LEVELS;
 use record::NONE;
 use record::SEATS;
@@ -56,12 +56,35 @@ fn level_fits(rec: &[u8], numbers: &[u64; SEATS], x: usize, k: usize) -> bool
 }
 
 // All links of the lot on seat x.
-pub fn links_fit(rec: &[u8], numbers: &[u64; SEATS], x: usize) -> bool
+fn lot_fits(rec: &[u8], numbers: &[u64; SEATS], x: usize) -> bool
     requires { ⌜ (length (now rec) ≡ size) × HasNumbers (now rec) (now numbers) × (x < seats) × (seated (rosterIn (now rec)) x ≡ true) ⌝ }
     ensures { λ r. ⌜ r ≡ all levels (λ k. linkFits (now (rec .entry)) x k left && linkFits (now (rec .entry)) x k right) ⌝ }
 {
     for k in 0..LEVELS {
         if !level_fits(rec, numbers, x, k) {
+            return false;
+        }
+    }
+    true
+}
+
+// All links of seat x: a free seat is known to have none.
+fn seat_fits(rec: &[u8], numbers: &[u64; SEATS], x: usize) -> bool
+    requires { ⌜ (length (now rec) ≡ size) × HasNumbers (now rec) (now numbers) × (x < seats) × (all seats (seatFits (now rec)) ≡ true) ⌝ }
+    ensures { λ r. ⌜ r ≡ all levels (λ k. linkFits (now (rec .entry)) x k left && linkFits (now (rec .entry)) x k right) ⌝ }
+{
+    if !is_seated(rec, x) {
+        return true;
+    }
+    lot_fits(rec, numbers, x)
+}
+
+pub fn links_fit(rec: &[u8], numbers: &[u64; SEATS]) -> bool
+    requires { ⌜ (length (now rec) ≡ size) × HasNumbers (now rec) (now numbers) × (all seats (seatFits (now rec)) ≡ true) ⌝ }
+    ensures { λ r. ⌜ r ≡ linksFit (now (rec .entry)) ⌝ }
+{
+    for x in 0..SEATS {
+        if !seat_fits(rec, numbers, x) {
             return false;
         }
     }

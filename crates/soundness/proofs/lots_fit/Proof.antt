@@ -1,57 +1,25 @@
--- `soundness::lots_fit` meets its contract. The loop's invariant: all below x pass. Assumes nothing.
-use Prim.Native.Nat.{_≤_, _-_}
-use mathlib.Core.Path.{_≡_}
-use mathlib.Core.Bool.{true}
+-- `soundness::lots_fit` meets its contract. Assumes nothing.
 use borrow.Author.Needs.{needs}
-use Rattle.memory.specs.Loops.{all}
-use Rattle.memory.proofs.All.{all-none}
-use Rattle.record.specs.Layout.{seats}
-use Rattle.roster.proofs.Tests.{all-stop, all-go, all-end}
-use Rattle.soundness.specs.Parts.{lotFits}
+use Rattle.roster.proofs.Tests.{and-stop, and-go}
 use Rattle.soundness.proofs.lots_fit.Statement.{statement}
 use Rattle.soundness.proofs.lots_fit.Tie as tie
 
-abbrev Inv-loop : tie.InvT-loop
-Inv-loop rec numbers x₀ x = (x ≤ seats) × (all x (lotFits rec) ≡ true)
-
-abbrev μ-loop : tie.MeasureT-loop
-μ-loop rec numbers x₀ x = seats - x
-
-numbers-of-requires : tie.Need-numbers-of-requires Inv-loop μ-loop
+numbers-of-requires : tie.Need-numbers-of-requires
 numbers-of-requires c κs = search needs
 
-loop-holds : tie.Need-loop-holds Inv-loop μ-loop
-loop-holds c = (search needs, all-none _)
+numbers-differ-requires : tie.Need-numbers-differ-requires
+numbers-differ-requires c κs = search needs
 
-lot-fits-requires : tie.Need-lot-fits-requires Inv-loop μ-loop
-lot-fits-requires c κs = search needs
+links-fit-requires : tie.Need-links-fit-requires
+links-fit-requires c κs = search needs
 
-returns : tie.Need-returns Inv-loop μ-loop
-returns c = all-stop _ _ _ (c .before .before .before .loop-test .taken) (c .before .lot-fits .ensures) (c .if1 .taken)
+returns : tie.Need-returns
+returns c = and-go (c .before .before .before .numbers-differ .ensures) (c .before .before .if1 .taken) (c .links-fit .ensures)
 
-add-x : tie.Need-add-x Inv-loop μ-loop
-add-x c = search needs
-
-loop-less : tie.Need-loop-less Inv-loop μ-loop
-loop-less c = search needs
-
-loop-again : tie.Need-loop-again Inv-loop μ-loop
-loop-again c = (search needs, all-go _ _ (c .before .before .before .before .loop .inv .1) (c .before .lot-fits .ensures) (c .if1 .left))
-
-returns-2 : tie.Need-returns-2 Inv-loop μ-loop
-returns-2 c = all-end _ _ _ (c .before .loop .inv .0) (c .loop-test .left) (c .before .loop .inv .1)
+returns-2 : tie.Need-returns-2
+returns-2 c = and-stop _ (c .before .numbers-differ .ensures) (c .if1 .left)
 
 pub lots-fit-spec : {M : Type 1} → statement M
 lots-fit-spec =
     tie.close
-    (tie.spec
-    Inv-loop
-    μ-loop
-    numbers-of-requires
-    loop-holds
-    lot-fits-requires
-    returns
-    add-x
-    loop-less
-    loop-again
-    returns-2)
+    (tie.spec numbers-of-requires numbers-differ-requires links-fit-requires returns returns-2)
