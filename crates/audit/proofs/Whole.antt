@@ -1,18 +1,16 @@
--- The whole check: the test of the links part by part, that on sound bytes it is the check of specs/, and each answer. Assumes nothing.
+-- The whole check: that on sound bytes the test of the links is the check of specs/, and each answer. Assumes nothing.
 use Prim.Native.Nat.{ℕ, zero, suc, _+_, _*_, _<_}
 use mathlib.Core.Path.{_≡_, refl, sym, ap, _∙_}
 use mathlib.Core.Logic.{_≢_}
 use mathlib.Core.Option.{some}
-use mathlib.Core.Bool.{Bool, true, not, _&&_, _||_}
+use mathlib.Core.Bool.{Bool, true}
 use mathlib.Core.List.{List}
-use lib.Dec.{T, leb}
+use lib.Dec.{T}
 use lib.ListN.{length, getD}
 use borrow.Author.Tests.{eq-eqb, ne-eqb}
 use Rattle.memory.specs.Bytes.{AreBytes}
-use Rattle.memory.proofs.Cases.{and-assoc}
-use Rattle.graph.specs.Side.{right}
 use Rattle.graph.specs.Vector.{width}
-use Rattle.graph.specs.Graph.{Lots, Links, Laws}
+use Rattle.graph.specs.Graph.{Laws}
 use Rattle.protocol.specs.State.{seated, members}
 use Rattle.protocol.specs.Sound.{Sound}
 use Rattle.protocol.proofs.SoundFacts.{link-linked}
@@ -23,26 +21,13 @@ use Rattle.record.specs.Sound.{sound}
 use Rattle.record.specs.Reading.{sideOfNumber, recordRefusal}
 use Rattle.record.proofs.Links.{linkOf-some, link-read}
 use Rattle.record.proofs.Sound.{sound-is}
-use Rattle.search.specs.Check.{every, check}
-use Rattle.search.proofs.Count.{count}
-use Rattle.search.proofs.LocalCheck.{backAt, leftmost, upOn, lotOk, localCheck}
+use Rattle.search.specs.Check.{check}
+use Rattle.search.proofs.LocalCheck.{localCheck}
 use Rattle.search.proofs.Local.{Sided, local-check}
 use Rattle.record.proofs.Refused.{record-passed}
 use Rattle.audit.specs.Check.{checkIn}
 use Rattle.audit.specs.Answer.{verdictOf, answered}
 use Rattle.audit.specs.declared.Verdict.the-variants.{Refused}
-use Rattle.audit.proofs.Loops.{every-parts}
-
--- links back, levels and leftmost members one after the other
-pub local-parts : (N W : ℕ) (G : Lots) (L : Links) → localCheck N W G L
-    ≡ every N (λ x. not (G .member x) || every (suc W) (backAt G L x))
-    && (every N (λ x. not (G .member x) || every W (upOn N W G L right x)) && leb (count N (leftmost G L)) 1)
-unfolding localCheck lotOk
-local-parts N W G L =
-    let backs = every N (λ x. not (G .member x) || every (suc W) (backAt G L x)) in
-    let ups = every N (λ x. not (G .member x) || every W (upOn N W G L right x)) in
-    rw (every-parts N (G .member) (λ x. every (suc W) (backAt G L x)) (λ x. every W (upOn N W G L right x)))
-    (and-assoc backs ups (leb (count N (leftmost G L)) 1))
 
 module _ (l : List ℕ) (e : length l ≡ size) (b : AreBytes l) (s : sound l ≡ true) where
   pub bytes-sound : Sound seats width (meaning l)
@@ -54,7 +39,7 @@ module _ (l : List ℕ) (e : length l ≡ size) (b : AreBytes l) (s : sound l �
 
   links-sided : Sided width (members (rosterIn l)) (meaning l .link)
   unfolding meaning
-  links-sided x k y d m h f = link-linked bytes-sound {x = x} {k = k} {d = d} f .1
+  links-sided x k y d m h f = let k = link-linked bytes-sound {x = x} {k = k} {d = d} f in (k .1, k .0 .bits)
 
   -- a link, by its byte, names a seated lot
   pub link-seated : (x k d y : ℕ) → x < seats → k < levels → d < 2 → y ≡ getD l (entryAt x + 10 + 2 * k + d) 0 → y < seats

@@ -1,0 +1,99 @@
+-- Where links have their links back and no list has two left ends, every list is one chain. Assumes the laws of the lots, and links that name
+-- members of their list on their side.
+use Prim.Native.Nat.{ℕ, zero, suc, _≤_, _<_}
+use mathlib.Core.Path.{_≡_, refl, subst}
+use mathlib.Core.Option.{Option, none, some}
+use native.Mathlib.Omega.{arith}
+use native.Mathlib.Decide.{decLe}
+use lib.Dec.{T}
+use Rattle.graph.specs.Side.{Side, left, right, opp}
+use Rattle.graph.specs.Graph.{Lots, Links, Laws}
+use Rattle.graph.proofs.Tests.{none-some}
+use Rattle.graph.proofs.Order.{Lt, lt-ne, lt-side}
+use Rattle.graph.proofs.Neighbour.{InList, list-refl, list-sym, list-trans, Nearest, nobody, nearest}
+use Rattle.graph.proofs.Walk.{Walk, here, there, walk-zero, walk-snoc, walk-rest, walk-order, walk-beyond, Sorted}
+use Rattle.search.proofs.Ordered.{sorted-ordered, rank, rank-less}
+
+-- what the tests say of the links: they name members of their list on their side, have their links back, and a list has one left end
+pub record Chains (W : ℕ) (G : Lots) (L : Links) : Type 0 where
+  pub list : {x k y : ℕ} {d : Side} → T (G .member x) → k ≤ W → L x k d ≡ some y → InList W G k x y
+  pub order : {x k y : ℕ} {d : Side} → T (G .member x) → k ≤ W → L x k d ≡ some y → Lt (G .number) d x y
+  pub back : {x k y : ℕ} {d : Side} → T (G .member x) → k ≤ W → L x k d ≡ some y → L y k (opp d) ≡ some x
+  pub one : {x k y : ℕ} → T (G .member x) → k ≤ W → InList W G k x y → L x k left ≡ none → L y k left ≡ none → x ≡ y
+
+-- the lot at the left end of x's chain
+record LeftEnd (W : ℕ) (G : Lots) (L : Links) (k x : ℕ) : Type 0 where
+  lot : ℕ
+  list : InList W G k x lot
+  last : L lot k left ≡ none
+  steps : ℕ
+  walk : Walk L k left steps x lot
+
+module _ {N W : ℕ} {G : Lots} {L : Links} (laws : Laws N G) (c : Chains W G L) {k : ℕ} (low : k ≤ W) where
+  sorted : Sorted W G L
+  sorted = record { within = λ m l e. c .list m l e .member; order = λ m l e. c .order m l e }
+
+  walk-back : {j x z : ℕ} {d : Side} → T (G .member x) → Walk L k d j x z → Walk L k (opp d) j z x
+  walk-back m here = here
+  walk-back m (there e w) = walk-snoc (walk-back (c .list m low e .member) w) (c .back m low e)
+
+  leftward : (f : ℕ) (x : ℕ) → T (G .member x) → rank N (G .member) (G .number) left x < f → LeftEnd W G L k x
+  leftward zero x m r = absurd (omega arith)
+  leftward (suc f) x m r = by (L x k left) refl (λ y e.
+      let n = c .list m low e .member in
+      leftward f y n (omega (arith, rank-less (sorted-ordered laws sorted) n (c .order m low e))))
+    where
+      by : (o : Option ℕ) → L x k left ≡ o → ((y : ℕ) → L x k left ≡ some y → LeftEnd W G L k y) → LeftEnd W G L k x
+      by none e on = record { lot = x; list = list-refl m low; last = e; steps = 0; walk = here }
+      by (some y) e on = let r = on y e in
+          record { lot = r .lot; list = list-trans (c .list m low e) (r .list); last = r .last; steps = suc (r .steps); walk = there e (r .walk) }
+
+  left-end : (x : ℕ) → T (G .member x) → LeftEnd W G L k x
+  left-end x m = leftward (suc (rank N (G .member) (G .number) left x)) x m (omega arith)
+
+  -- two lots of one list have one left end: from it the longer walk passes the end of the shorter
+  joined : {x y : ℕ} → T (G .member x) → InList W G k x y → (d : Side) × (j : ℕ) × Walk L k d j x y
+  joined {x} {y} m p = by (decLe (a .steps) (b .steps))
+    where
+      a : LeftEnd W G L k x
+      a = left-end x m
+
+      b : LeftEnd W G L k y
+      b = left-end y (p .member)
+
+      same : a .lot ≡ b .lot
+      same = c .one (a .list .member) low (list-trans (list-sym m (a .list)) (list-trans p (b .list))) (a .last) (b .last)
+
+      from-a : Walk L k right (a .steps) (b .lot) x
+      from-a = subst (λ (z : ℕ). Walk L k right (a .steps) z x) same (walk-back m (a .walk))
+
+      from-b : Walk L k right (b .steps) (b .lot) y
+      from-b = walk-back (p .member) (b .walk)
+
+      by : Dec (a .steps ≤ b .steps) → (d : Side) × (j : ℕ) × Walk L k d j x y
+      by (yes l) = let (n, q, w) = walk-rest l from-a from-b in (right, n, w)
+      by (no l) = let (n, q, w) = walk-rest (omega arith) from-b from-a in (left, n, walk-back (p .member) w)
+
+  -- every lot of the list on side d is reached by links
+  reach : {x z : ℕ} {d : Side} → T (G .member x) → InList W G k x z → Lt (G .number) d x z → (j : ℕ) × Walk L k d (suc j) x z
+  reach {x} {z} {d} m p s = by (joined m p)
+    where
+      go : (e : Side) (j : ℕ) → Walk L k e j x z → (j : ℕ) × Walk L k d (suc j) x z
+      go e zero w = absurd (lt-ne s (walk-zero w))
+      go e (suc j) w = (j, subst (λ (a : Side). Walk L k a (suc j) x z) (lt-side (walk-order sorted low m w) s) w)
+
+      by : (e : Side) × (j : ℕ) × Walk L k e j x z → (j : ℕ) × Walk L k d (suc j) x z
+      by (e, j, w) = go e j w
+
+  -- so the links are the nearest of the list
+  pub chains-nearest : (x : ℕ) (d : Side) → T (G .member x) → Nearest W G k x d (L x k d)
+  chains-nearest x d m = by (L x k d) refl
+    where
+      no-step : {j z : ℕ} → L x k d ≡ none → Walk L k d (suc j) x z → ⊥
+      no-step e (there f w) = none-some e f
+
+      by : (o : Option ℕ) → L x k d ≡ o → Nearest W G k x d o
+      by none e = nobody (λ z p s. no-step e (reach m p s .1))
+      by (some y) e = nearest (c .list m low e) (c .order m low e) (λ z p s.
+          let w = walk-rest (omega arith) (there e here) (reach m p s .1) in
+          walk-beyond sorted low (c .list m low e .member) (w .2))
