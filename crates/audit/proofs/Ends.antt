@@ -125,11 +125,11 @@ module _ (l : List ℕ) (b : AreBytes l) where
         → (r ≡ leftOk l x k) × (r ≡ true → Marked l (x * levels + k + 1) o)
     left-none i n q f u w =
         let end : EndOf l x k ≡ true = rw (ends-byte l x k h g, ← e, le-leb seats y n, t) in (
-          rw (← back-none l x k 0 y h g (omega arith) e n) (u ∙ end-free x k i m h g a q end),
+          rw (← back-none l x k y h g e n) (u ∙ end-free x k i m h g a q end),
           λ z. rw (w, q) (marked-more l x k g m a end (rw q at f)),
         )
 
-    pub left-some : {r : Bool} → y < seats → r ≡ backOf (members (rosterIn l)) (meaning l .link) x k left (meaning l .link x k left)
+    pub left-some : {r : Bool} → y < seats → r ≡ backOf (members (rosterIn l)) (meaning l .link) x k (meaning l .link x k left)
         → (r ≡ leftOk l x k) × (r ≡ true → Marked l (x * levels + k + 1) m)
     unfolding apart
     left-some n u =

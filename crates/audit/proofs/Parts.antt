@@ -1,8 +1,8 @@
--- The parts of the check that looks only at neighbours (search's LocalCheck), by the bytes that the code reads. Assumes nothing.
-use Prim.Native.Nat.{ℕ, _+_, _-_, _*_, _≤_, _<_}
+-- The parts of the check that looks only at neighbours and ends (search's LocalCheck), by the bytes that the code reads. Assumes nothing.
+use Prim.Native.Nat.{ℕ, _+_, _*_, _≤_, _<_}
 use mathlib.Core.Path.{_≡_, refl}
 use mathlib.Core.Logic.{⊎-elim}
-use mathlib.Core.Option.{Option, none, some}
+use mathlib.Core.Option.{none, some}
 use mathlib.Core.Bool.{Bool, true, false, not, cond, _&&_, _||_}
 use mathlib.Core.List.{List}
 use native.Mathlib.Omega.{arith}
@@ -10,16 +10,15 @@ use lib.Dec.{T, eqb, leb}
 use lib.ListN.{getD}
 use borrow.Author.Tests.{ne-eqb, lt-leb, le-leb}
 use Rattle.memory.proofs.Cases.{lt-or-ge, eq-or-ne, and-true, and-false}
+use Rattle.graph.specs.Side.{left, right}
 use Rattle.graph.proofs.Tests.{T-true}
 use Rattle.protocol.specs.State.{seated, member, members}
 use Rattle.record.specs.Layout.{seats, levels, phaseAt, stateAt, entryAt}
 use Rattle.record.specs.Meaning.{linkOf, rosterIn, meaning}
-use Rattle.record.specs.Reading.{sideOfNumber}
 use Rattle.search.specs.Check.{sameLink}
-use Rattle.search.proofs.LocalCheck.{backOf, endsAt}
+use Rattle.search.proofs.LocalCheck.{backOf, knownOf, endsAt}
 use Rattle.roster.proofs.Bytes.{clearing-byte, seated-byte, stays-byte}
 use Rattle.record.proofs.Links.{linkOf-some, linkOf-none, link-read}
-use Rattle.audit.proofs.Read.{link-back}
 
 -- two links by their bytes
 same-seat : (y x : ℕ) → x < seats → sameLink (linkOf y) (some x) ≡ eqb y x
@@ -34,9 +33,6 @@ unfolding sameLink
 same-none y = ⊎-elim (λ q. rw (linkOf-some y q, lt-leb seats y q)) (λ q. rw (linkOf-none y q, le-leb seats y q)) (lt-or-ge y seats)
 
 module _ (l : List ℕ) where
-  abbrev links : (x k d : ℕ) → Option ℕ
-  links x k d = meaning l .link x k (sideOfNumber d)
-
   -- a member, by the bytes of state and phase
   pub member-byte : (s : ℕ) → s < seats
       → let b = getD l (stateAt s) 0 in member (rosterIn l) s ≡ eqb b 1 || (not (eqb b 0) && eqb (getD l phaseAt 0) 0)
@@ -63,16 +59,26 @@ module _ (l : List ℕ) where
       by true = T-true t
       by false = refl
 
-  module _ (x k d y : ℕ) (h : x < seats) (g : k < levels) (b : d < 2) (e : y ≡ getD l (entryAt x + 10 + 2 * k + d) 0) where
-    -- the link back
-    pub back-none : seats ≤ y → true ≡ backOf (members (rosterIn l)) (meaning l .link) x k (sideOfNumber d) (links x k d)
+  -- the left link with its link back
+  module _ (x k y : ℕ) (h : x < seats) (g : k < levels) (e : y ≡ getD l (entryAt x + 10 + 2 * k + 0) 0) where
+    pub back-none : seats ≤ y → true ≡ backOf (members (rosterIn l)) (meaning l .link) x k (meaning l .link x k left)
     unfolding backOf
-    back-none q = rw (link-read l x k d y h g b e, linkOf-none y q)
+    back-none q = rw (link-read l x k 0 y h g (omega arith) e, linkOf-none y q)
 
-    pub back-some : y < seats → backOf (members (rosterIn l)) (meaning l .link) x k (sideOfNumber d) (links x k d)
-        ≡ member (rosterIn l) y && eqb (getD l (entryAt y + 10 + 2 * k + (1 - d)) 0) x
+    pub back-some : y < seats → backOf (members (rosterIn l)) (meaning l .link) x k (meaning l .link x k left)
+        ≡ member (rosterIn l) y && eqb (getD l (entryAt y + 10 + 2 * k + 1) 0) x
     unfolding backOf
-    back-some q = rw (link-read l x k d y h g b e, linkOf-some y q, link-back l y k d _ q g b refl, same-seat _ x h)
+    back-some q = rw (link-read l x k 0 y h g (omega arith) e, linkOf-some y q, link-read l y k 1 _ q g (omega arith) refl, same-seat _ x h)
+
+  -- the right link
+  module _ (x k y : ℕ) (h : x < seats) (g : k < levels) (e : y ≡ getD l (entryAt x + 10 + 2 * k + 1) 0) where
+    pub known-none : seats ≤ y → true ≡ knownOf (members (rosterIn l)) (meaning l .link x k right)
+    unfolding knownOf
+    known-none q = rw (link-read l x k 1 y h g (omega arith) e, linkOf-none y q)
+
+    pub known-some : y < seats → knownOf (members (rosterIn l)) (meaning l .link x k right) ≡ member (rosterIn l) y
+    unfolding knownOf
+    known-some q = rw (link-read l x k 1 y h g (omega arith) e, linkOf-some y q)
 
   -- a left end
   pub ends-byte : (x k : ℕ) → x < seats → k < levels

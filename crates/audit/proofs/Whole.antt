@@ -1,30 +1,34 @@
 -- The whole check: that on sound bytes the test of the links is the check of specs/, and each answer. Assumes nothing.
 use Prim.Native.Nat.{ℕ, zero, suc, _+_, _*_, _<_}
 use mathlib.Core.Path.{_≡_, refl, sym, ap, _∙_}
-use mathlib.Core.Logic.{_≢_}
+use mathlib.Core.Logic.{_≢_, ⊎-elim}
 use mathlib.Core.Option.{some}
 use mathlib.Core.Bool.{Bool, true}
 use mathlib.Core.List.{List}
 use lib.Dec.{T}
+use native.Mathlib.Omega.{arith}
 use lib.ListN.{length, getD}
 use borrow.Author.Tests.{eq-eqb, ne-eqb}
 use Rattle.memory.specs.Bytes.{AreBytes}
+use Rattle.memory.proofs.Cases.{lt-or-ge}
+use Rattle.graph.specs.Side.{right}
 use Rattle.graph.specs.Vector.{width}
 use Rattle.graph.specs.Graph.{Laws}
 use Rattle.protocol.specs.State.{seated, members}
 use Rattle.protocol.specs.Sound.{Sound}
 use Rattle.protocol.proofs.SoundFacts.{link-linked}
 use Rattle.protocol.proofs.Reached.{members-laws}
-use Rattle.record.specs.Layout.{seats, levels, size, entryAt}
+use Rattle.record.specs.Layout.{seats, levels, size, phaseAt, entryAt}
 use Rattle.record.specs.Meaning.{rosterIn, meaning}
 use Rattle.record.specs.Sound.{sound}
 use Rattle.record.specs.Reading.{sideOfNumber, recordRefusal}
 use Rattle.record.proofs.Links.{linkOf-some, link-read}
 use Rattle.record.proofs.Sound.{sound-is}
 use Rattle.search.specs.Check.{check}
-use Rattle.search.proofs.LocalCheck.{localCheck}
+use Rattle.search.proofs.LocalCheck.{knownOf, localCheck}
 use Rattle.search.proofs.Local.{Sided, local-check}
 use Rattle.record.proofs.Refused.{record-passed}
+use Rattle.audit.proofs.Parts.{seated-member, known-none, known-some}
 use Rattle.audit.specs.Check.{checkIn}
 use Rattle.audit.specs.Answer.{verdictOf, answered}
 use Rattle.audit.specs.declared.Verdict.the-variants.{Refused}
@@ -48,7 +52,14 @@ module _ (l : List ℕ) (e : length l ≡ size) (b : AreBytes l) (s : sound l �
   link-seated x k d y h g a f q = let e : meaning l .link x k (sideOfNumber d) ≡ some y = link-read l x k d y h g a f ∙ linkOf-some y q in
       link-linked bytes-sound {x = x} {k = k} {d = sideOfNumber d} e .0 .two
 
-  -- looking only at neighbours is enough
+  -- in phase open a right link names a member
+  pub known-open : (x k : ℕ) → x < seats → k < levels → getD l phaseAt 0 ≡ 0 → true ≡ knownOf (members (rosterIn l)) (meaning l .link x k right)
+  known-open x k h g z = let y = getD l (entryAt x + 10 + 2 * k + 1) 0 in ⊎-elim
+      (λ q. rw (known-some l x k y h g refl q, seated-member l y q (link-seated x k 1 y h g (omega arith) refl q), eq-eqb (getD l phaseAt 0) 0 z))
+      (λ q. known-none l x k y h g refl q)
+      (lt-or-ge y seats)
+
+  -- looking only at neighbours and ends is enough
   pub local-right : localCheck seats width (members (rosterIn l)) (meaning l .link) ≡ check seats width (members (rosterIn l)) (meaning l .link)
   local-right = local-check lots-laws links-sided (λ x y m n. refl)
 

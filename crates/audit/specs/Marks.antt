@@ -25,7 +25,7 @@ module _ (l : List ℕ) where
 
   -- the test of x at level k on the left
   abbrev pub leftOk : (x k : ℕ) → Bool
-  leftOk x k = backOf (members (rosterIn l)) (meaning l .link) x k left (meaning l .link x k left)
+  leftOk x k = backOf (members (rosterIn l)) (meaning l .link) x k (meaning l .link x k left)
       && every x (apart width (members (rosterIn l)) (meaning l .link) k x)
 
   -- m marks the lists of the first n lots and levels, lot by lot, and no others

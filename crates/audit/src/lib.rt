@@ -1,20 +1,20 @@
-// The check of the links over a lent record (document 01, "Check"). It looks only at neighbours and at the ends of lists: every link of a
-// member has its link back, and at every level no two members of one list are without a left link. Links of a sound record lie in their list
-// and on their side, so with the links back the lists are made of chains, and one left end for each list says that each is one chain. Linear
-// in the links.
+// The check of the links over a lent record (document 01, "Check"). It looks only at neighbours and at the ends of lists: the left link of a
+// member has its link back, its right link names a member, and at every level no two members of one list are without a left link. Links of a
+// sound record lie in their list and on their side, so the left links with their links back make chains, and one left end for each list says
+// that each is one chain; then nobody is left whom the last right link could name. Linear in the links.
 ghost use mathlib.Core.Path.{_≡_};
 ghost use mathlib.Core.Bool.{true, not, _||_};
 ghost use Prim.Native.Nat.{_+_, _*_, _<_};
 ghost use lib.Dec.{T, eqb};
 ghost use lib.ListN.{length, getD, set};
+ghost use Rattle.graph.specs.Side.{left, right};
 ghost use Rattle.graph.specs.Vector.{width};
 ghost use Rattle.protocol.specs.State.{seated, member, members};
 ghost use Rattle.record.specs.Layout.{seats, levels, size};
 ghost use Rattle.record.specs.Meaning.{rosterIn, meaning};
-ghost use Rattle.record.specs.Reading.{sideOfNumber};
 ghost use Rattle.record.specs.Sound.{sound};
 ghost use Rattle.search.specs.Check.{every};
-ghost use Rattle.search.proofs.LocalCheck.{backOf, levelOk, localCheck};
+ghost use Rattle.search.proofs.LocalCheck.{backOf, knownOf, levelOk, localCheck};
 ghost use Rattle.audit.specs.Check.{checkIn};
 ghost use Rattle.audit.specs.Answer.{answered};
 ghost use Rattle.audit.specs.Marks.{places, placeOf, leftOk, Marked};
@@ -54,17 +54,28 @@ fn seated_is_member(rec: &[u8], s: usize) -> bool
     record::phase(rec) == 0 || record::state(rec, s) == 1
 }
 
-// Whether the link of x at level k on side d is none, or a member whose link back is x. On a sound record it names a seated lot.
-fn back_fits(rec: &[u8], x: usize, k: usize, d: usize) -> bool
-    requires { ⌜ (length (now rec) ≡ size) × (sound (now rec) ≡ true) × (x < seats) × (k < levels) × (d < 2) ⌝ }
-    ensures { λ r. ⌜ (let l = now (rec .entry) in
-        r ≡ backOf (members (rosterIn l)) (meaning l .link) x k (sideOfNumber d) (meaning l .link x k (sideOfNumber d))) ⌝ }
+// Whether the left link of x at level k is none, or a member whose right link is x. On a sound record it names a seated lot.
+fn back_fits(rec: &[u8], x: usize, k: usize) -> bool
+    requires { ⌜ (length (now rec) ≡ size) × (sound (now rec) ≡ true) × (x < seats) × (k < levels) ⌝ }
+    ensures { λ r. ⌜ (let l = now (rec .entry) in r ≡ backOf (members (rosterIn l)) (meaning l .link) x k (meaning l .link x k left)) ⌝ }
 {
-    let y = record::link(rec, x, k, d) as usize;
+    let y = record::link(rec, x, k, LEFT) as usize;
     if y >= SEATS {
         return true;
     }
-    seated_is_member(rec, y) && record::link(rec, y, k, 1 - d) as usize == x
+    seated_is_member(rec, y) && record::link(rec, y, k, RIGHT) as usize == x
+}
+
+// Whether the right link of x at level k is none or a member. In phase open that is known of a sound record.
+fn right_fits(rec: &[u8], x: usize, k: usize) -> bool
+    requires { ⌜ (length (now rec) ≡ size) × (sound (now rec) ≡ true) × (x < seats) × (k < levels) ⌝ }
+    ensures { λ r. ⌜ (let l = now (rec .entry) in r ≡ knownOf (members (rosterIn l)) (meaning l .link x k right)) ⌝ }
+{
+    if record::phase(rec) == 0 {
+        return true;
+    }
+    let y = record::link(rec, x, k, RIGHT) as usize;
+    y >= SEATS || is_member(rec, y)
 }
 
 // The list of x at level k among those of all levels: a 1 and the first k bits of its vector, as a number.
@@ -94,7 +105,7 @@ fn left_fits(rec: &[u8], marks: &mut [u8; PLACES], x: usize, k: usize) -> bool
     if record::link(rec, x, k, LEFT) as usize >= SEATS {
         return take_mark(marks, place_of(rec, x, k));
     }
-    back_fits(rec, x, k, LEFT)
+    back_fits(rec, x, k)
 }
 
 // Both links of member x at level k.
@@ -104,7 +115,7 @@ fn level_fits(rec: &[u8], marks: &mut [u8; PLACES], x: usize, k: usize) -> bool
     ensures { λ r. ⌜ (let l = now (rec .entry) in (r ≡ levelOk width (members (rosterIn l)) (meaning l .link) x k)
         × (r ≡ true → Marked l (x * levels + k + 1) (now (marks .exit)))) ⌝ }
 {
-    left_fits(rec, marks, x, k) && back_fits(rec, x, k, RIGHT)
+    left_fits(rec, marks, x, k) && right_fits(rec, x, k)
 }
 
 // All links of x, if it is a member.

@@ -8,7 +8,7 @@ use mathlib.Core.Bool.{Bool, true, false, not, _&&_}
 use native.Mathlib.Omega.{arith}
 use native.Mathlib.Decide.{decLt}
 use lib.Dec.{T, leb, leb→le, le→leb}
-use Rattle.graph.specs.Side.{Side, left, right, opp}
+use Rattle.graph.specs.Side.{Side, left, right}
 use Rattle.graph.specs.Vector.{shared}
 use Rattle.graph.specs.Graph.{Lots, Links, Laws, IsGraph}
 use Rattle.graph.specs.Constraints.{Constraints}
@@ -21,7 +21,7 @@ use Rattle.search.specs.Check.{sameLink, every, check}
 use Rattle.search.proofs.Count.{test-eq, every-at, all-every}
 use Rattle.search.proofs.Ordered.{OneComponent}
 use Rattle.search.proofs.Check.{link-eq, eq-link, members-at, check-graph}
-use Rattle.search.proofs.LocalCheck.{backOf, endsAt, apart, levelOk, localCheck}
+use Rattle.search.proofs.LocalCheck.{backOf, knownOf, endsAt, apart, levelOk, localCheck}
 use Rattle.search.proofs.Chains.{Chains, chains-nearest}
 
 -- the links of members lie on their side and share the level's bits
@@ -38,45 +38,54 @@ T-not true f = f tt
 T-not false f = tt
 
 module _ (N W : ℕ) (G : Lots) (L : Links) where
-  back-test : (x k y : ℕ) (d : Side) → T (backOf G L x k d (L x k d)) → L x k d ≡ some y → T (G .member y) × (L y k (opp d) ≡ some x)
+  back-test : (x k y : ℕ) → T (backOf G L x k (L x k left)) → L x k left ≡ some y → T (G .member y) × (L y k right ≡ some x)
   unfolding backOf
-  back-test x k y d t e =
-      let b = sameLink (L y k (opp d)) (some x) in
+  back-test x k y t e =
+      let b = sameLink (L y k right) (some x) in
       let u : T (G .member y && b) = rw e at t in
-      (and-fst (G .member y) b u, link-eq (L y k (opp d)) (some x) (and-snd (G .member y) b u))
+      (and-fst (G .member y) b u, link-eq (L y k right) (some x) (and-snd (G .member y) b u))
 
-  test-back : (x k : ℕ) (d : Side) → ((y : ℕ) → L x k d ≡ some y → T (G .member y) × (L y k (opp d) ≡ some x))
-      → T (backOf G L x k d (L x k d))
+  test-back : (x k : ℕ) → ((y : ℕ) → L x k left ≡ some y → T (G .member y) × (L y k right ≡ some x)) → T (backOf G L x k (L x k left))
   unfolding backOf
-  test-back x k d h = by (L x k d) refl
+  test-back x k h = by (L x k left) refl
     where
-      by : (o : Option ℕ) → L x k d ≡ o → T (backOf G L x k d o)
+      by : (o : Option ℕ) → L x k left ≡ o → T (backOf G L x k o)
       by none e = tt
-      by (some y) e = let (m, b) = h y e in and-T (G .member y) (sameLink (L y k (opp d)) (some x)) m (eq-link b)
+      by (some y) e = let (m, b) = h y e in and-T (G .member y) (sameLink (L y k right) (some x)) m (eq-link b)
+
+  known-test : (y : ℕ) (o : Option ℕ) → T (knownOf G o) → o ≡ some y → T (G .member y)
+  unfolding knownOf
+  known-test y o t e = rw e at t
+
+  test-known : (o : Option ℕ) → ((y : ℕ) → o ≡ some y → T (G .member y)) → T (knownOf G o)
+  unfolding knownOf
+  test-known none h = tt
+  test-known (some y) h = h y refl
 
   -- the tests of a member at a level
-  level-back : (x k : ℕ) (d : Side) → T (levelOk W G L x k) → T (backOf G L x k d (L x k d))
+  level-back : (x k : ℕ) → T (levelOk W G L x k) → T (backOf G L x k (L x k left))
   unfolding levelOk
-  level-back x k left t =
-      let b = backOf G L x k left (L x k left) in
+  level-back x k t =
+      let b = backOf G L x k (L x k left) in
       let e = every x (apart W G L k x) in
-      and-fst b e (and-fst (b && e) (backOf G L x k right (L x k right)) t)
-  level-back x k right t =
-      and-snd (backOf G L x k left (L x k left) && every x (apart W G L k x)) (backOf G L x k right (L x k right)) t
+      and-fst b e (and-fst (b && e) (knownOf G (L x k right)) t)
+
+  level-known : (x k : ℕ) → T (levelOk W G L x k) → T (knownOf G (L x k right))
+  unfolding levelOk
+  level-known x k t = and-snd (backOf G L x k (L x k left) && every x (apart W G L k x)) (knownOf G (L x k right)) t
 
   level-apart : (x k : ℕ) → T (levelOk W G L x k) → T (every x (apart W G L k x))
   unfolding levelOk
   level-apart x k t =
-      let b = backOf G L x k left (L x k left) in
+      let b = backOf G L x k (L x k left) in
       let e = every x (apart W G L k x) in
-      and-snd b e (and-fst (b && e) (backOf G L x k right (L x k right)) t)
+      and-snd b e (and-fst (b && e) (knownOf G (L x k right)) t)
 
-  level-both : (x k : ℕ) → ((d : Side) → T (backOf G L x k d (L x k d))) → T (every x (apart W G L k x)) → T (levelOk W G L x k)
+  level-all : (x k : ℕ) → T (backOf G L x k (L x k left)) → T (every x (apart W G L k x)) → T (knownOf G (L x k right)) → T (levelOk W G L x k)
   unfolding levelOk
-  level-both x k b a =
+  level-all x k b a r =
       let e = every x (apart W G L k x) in
-      let r = backOf G L x k right (L x k right) in
-      and-T (backOf G L x k left (L x k left) && e) r (and-T (backOf G L x k left (L x k left)) e (b left) a) (b right)
+      and-T (backOf G L x k (L x k left) && e) (knownOf G (L x k right)) (and-T (backOf G L x k (L x k left)) e b a) r
 
   -- those of all
   local-levels : ((x : ℕ) → T (G .member x) → x < N)
@@ -116,8 +125,12 @@ module _ {N W : ℕ} {G : Lots} {L : Links} (laws : Laws N G) (one : OneComponen
   levels-graph : Sided W G L → ((x k : ℕ) → T (G .member x) → k ≤ W → T (levelOk W G L x k)) → IsGraph N W G L
   levels-graph sided t = record { link = λ x k d m l. nearest-graph laws (chains-nearest laws chains l x d m) }
     where
-      back-at : {x k y : ℕ} {d : Side} → T (G .member x) → k ≤ W → L x k d ≡ some y → T (G .member y) × (L y k (opp d) ≡ some x)
-      back-at {x} {k} {y} {d} m l e = back-test N W G L x k y d (level-back N W G L x k d (t x k m l)) e
+      back-at : {x k y : ℕ} → T (G .member x) → k ≤ W → L x k left ≡ some y → T (G .member y) × (L y k right ≡ some x)
+      back-at {x} {k} {y} m l e = back-test N W G L x k y (level-back N W G L x k (t x k m l)) e
+
+      within : (d : Side) {x k y : ℕ} → T (G .member x) → k ≤ W → L x k d ≡ some y → T (G .member y)
+      within left m l e = back-at m l e .0
+      within right {x} {k} {y} m l e = known-test N W G L y (L x k right) (level-known N W G L x k (t x k m l)) e
 
       apart-at : (k x y : ℕ) → k ≤ W → T (G .member x) → y < x → T (apart W G L k x y)
       apart-at k x y l m h = every-at x (apart W G L k x) y h (level-apart N W G L x k (t x k m l))
@@ -135,18 +148,19 @@ module _ {N W : ℕ} {G : Lots} {L : Links} (laws : Laws N G) (one : OneComponen
 
       chains : Chains W G L
       chains = record {
-        list = λ {x} {k} {y} {d} m l e. let n = back-at m l e .0 in record { member = n; same = one x y m n; bits = sided x k y d m l e .1 };
+        list = λ {x} {k} {y} {d} m l e. let n = within d m l e in record { member = n; same = one x y m n; bits = sided x k y d m l e .1 };
         order = λ {x} {k} {y} {d} m l e. sided x k y d m l e .0;
         back = λ m l e. back-at m l e .1;
         one = one-end;
       }
 
   graph-levels : IsGraph N W G L → (x k : ℕ) → T (G .member x) → k ≤ W → T (levelOk W G L x k)
-  graph-levels g x k m l = level-both N W G L x k
-      (λ d. test-back N W G L x k d (λ y e. (c .within x k y d m l e, c .back x k y d m l e)))
+  graph-levels g x k m l = level-all N W G L x k
+      (test-back N W G L x k (λ y e. (c .within x k y left m l e, c .back x k y left m l e)))
       (all-every x (apart W G L k x) (λ y i. ends-apart N W G L k x y (λ t u s.
       let (n, f) = ends-test N W G L k y .0 u in
       one-end y i (ends-test N W G L k x .0 t .1) n f s (member-compare laws left x y m n))))
+      (test-known N W G L (L x k right) (λ y e. c .within x k y right m l e))
     where
       c : Constraints W G L
       c = graph-constraints laws g

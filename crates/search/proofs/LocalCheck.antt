@@ -1,19 +1,25 @@
--- A check that looks only at neighbours and at the ends of lists, as code makes it: links and links back, and one end for each list.
+-- A check that looks only at neighbours and at the ends of lists, as code makes it: left links have their links back, right
+-- links name members, and each list has one left end.
 -- Assumes nothing.
 use Prim.Native.Nat.{ℕ, suc}
 use mathlib.Core.Option.{Option, none, some}
 use mathlib.Core.Bool.{Bool, true, not, _&&_, _||_}
 use lib.Dec.{leb}
-use Rattle.graph.specs.Side.{Side, left, right, opp}
+use Rattle.graph.specs.Side.{left, right}
 use Rattle.graph.specs.Vector.{shared}
 use Rattle.graph.specs.Graph.{Lots, Links}
 use Rattle.search.specs.Check.{sameLink, every}
 
+-- a link is none, or a member
+unfoldable pub knownOf : Lots → Option ℕ → Bool
+knownOf G none = true
+knownOf G (some y) = G .member y
+
 module _ (G : Lots) (L : Links) where
-  -- the link o of x at level k on side d is none, or a member whose link back is x
-  unfoldable pub backOf : (x k : ℕ) (d : Side) → Option ℕ → Bool
-  backOf x k d none = true
-  backOf x k d (some y) = G .member y && sameLink (L y k (opp d)) (some x)
+  -- the left link o of x at level k is none, or a member whose right link is x
+  unfoldable pub backOf : (x k : ℕ) → Option ℕ → Bool
+  backOf x k none = true
+  backOf x k (some y) = G .member y && sameLink (L y k right) (some x)
 
   -- x is a member without a left link at level k
   unfoldable pub endsAt : (k x : ℕ) → Bool
@@ -24,9 +30,9 @@ module _ (W : ℕ) (G : Lots) (L : Links) where
   unfoldable pub apart : (k x y : ℕ) → Bool
   apart k x y = not (endsAt G L k x && (endsAt G L k y && leb k (shared W (G .vector x) (G .vector y))))
 
-  -- the tests of x at level k: both links back, and if x is a left end, that none below it is another of its list
+  -- the tests of x at level k: the left link back, if x is a left end that none below it is another of its list, and the right link
   unfoldable pub levelOk : (x k : ℕ) → Bool
-  levelOk x k = (backOf G L x k left (L x k left) && every x (apart k x)) && backOf G L x k right (L x k right)
+  levelOk x k = (backOf G L x k (L x k left) && every x (apart k x)) && knownOf G (L x k right)
 
 -- every member passes at every level
 unfoldable pub localCheck : (N W : ℕ) → Lots → Links → Bool
