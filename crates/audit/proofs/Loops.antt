@@ -1,12 +1,9 @@
--- Loops that make the test `every` and the count of search: each way on and out. r is what the body answered at i. Assumes nothing.
+-- Loops that make the test `every` of search: each way on and out. r is what the body answered at i. Assumes nothing.
 use Prim.Native.Nat.{ℕ, zero, suc, _+_, _≤_, _<_}
 use mathlib.Core.Path.{_≡_, refl, sym, _∙_}
-use mathlib.Core.Bool.{Bool, true, false, not, _&&_, _||_}
-use native.Mathlib.Omega.{arith}
-use native.Mathlib.Numerals.{add-one}
+use mathlib.Core.Bool.{Bool, true, false, not, _||_}
 use Rattle.memory.specs.Loops.{all}
 use Rattle.search.specs.Check.{every}
-use Rattle.search.proofs.Count.{count}
 use Rattle.roster.proofs.Tests.{all-stop, all-go, all-end}
 
 -- `every` is `all`
@@ -35,30 +32,10 @@ when-out b e f = rw (← e, f)
 pub when-in : {r m b s : Bool} → r ≡ m → not r ≡ false → s ≡ b → s ≡ not m || b
 when-in e t h = rw (← e, t) h
 
--- a test in two parts of those that m picks
-pub every-parts : (n : ℕ) (m p q : ℕ → Bool)
-    → every n (λ x. not (m x) || (p x && q x)) ≡ every n (λ x. not (m x) || p x) && every n (λ x. not (m x) || q x)
-unfolding every
-every-parts zero m p q = refl
-every-parts (suc n) m p q = rw (every-parts n m p q) (four (every n (λ x. not (m x) || p x)) (every n (λ x. not (m x) || q x)) (m n) (p n) (q n))
-  where
-    four : (a b m p q : Bool) → (a && b) && (not m || (p && q)) ≡ (a && (not m || p)) && (b && (not m || q))
-    four false b m p q = refl
-    four true false false p q = refl
-    four true false true false q = refl
-    four true false true true q = refl
-    four true true false p q = refl
-    four true true true p q = refl
+pub not-true : {r : Bool} → not r ≡ true → r ≡ false
+not-true {r = true} e = sym e
+not-true {r = false} e = refl
 
--- a loop that counts
-pub count-start : (p : ℕ → Bool) → 0 ≡ count 0 p
-unfolding count
-count-start p = refl
-
-pub count-pass : (i : ℕ) (p : ℕ → Bool) {r : Bool} → r ≡ p i → r ≡ true → count (i + 1) p ≡ count i p + 1
-unfolding count
-count-pass i p e t = rw (add-one i, ← e, t)
-
-pub count-skip : (i : ℕ) (p : ℕ → Bool) {r : Bool} → r ≡ p i → r ≡ false → count (i + 1) p ≡ count i p
-unfolding count
-count-skip i p e f = rw (add-one i, ← e, f) (omega arith)
+pub not-false : {r : Bool} → not r ≡ false → r ≡ true
+not-false {r = true} e = refl
+not-false {r = false} e = sym e

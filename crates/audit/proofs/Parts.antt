@@ -1,27 +1,24 @@
--- The parts of the check that looks only at neighbours (search's LocalCheck), by the bytes that the code reads. Assumes nothing.
-use Prim.Native.Nat.{ℕ, zero, suc, _+_, _-_, _*_, _≤_, _<_}
-use mathlib.Core.Path.{_≡_, refl, sym}
+-- The parts of the check that looks only at neighbours and ends (search's LocalCheck), by the bytes that the code reads. Assumes nothing.
+use Prim.Native.Nat.{ℕ, _+_, _*_, _≤_, _<_}
+use mathlib.Core.Path.{_≡_, refl}
 use mathlib.Core.Logic.{⊎-elim}
-use mathlib.Core.Option.{Option, none, some}
+use mathlib.Core.Option.{none, some}
 use mathlib.Core.Bool.{Bool, true, false, not, cond, _&&_, _||_}
 use mathlib.Core.List.{List}
 use native.Mathlib.Omega.{arith}
-use native.Mathlib.Numerals.{add-one}
-use lib.Dec.{T, eqb, ltb, leb}
+use lib.Dec.{T, eqb, leb}
 use lib.ListN.{getD}
 use borrow.Author.Tests.{ne-eqb, lt-leb, le-leb}
 use Rattle.memory.proofs.Cases.{lt-or-ge, eq-or-ne, and-true, and-false}
-use Rattle.graph.specs.Vector.{width, shared}
+use Rattle.graph.specs.Side.{left, right}
 use Rattle.graph.proofs.Tests.{T-true}
 use Rattle.protocol.specs.State.{seated, member, members}
 use Rattle.record.specs.Layout.{seats, levels, phaseAt, stateAt, entryAt}
 use Rattle.record.specs.Meaning.{linkOf, rosterIn, meaning}
-use Rattle.record.specs.Reading.{sideOfNumber}
 use Rattle.search.specs.Check.{sameLink}
-use Rattle.search.proofs.LocalCheck.{backOf, leftmost, follow, upOn}
+use Rattle.search.proofs.LocalCheck.{backOf, knownOf, endsAt}
 use Rattle.roster.proofs.Bytes.{clearing-byte, seated-byte, stays-byte}
 use Rattle.record.proofs.Links.{linkOf-some, linkOf-none, link-read}
-use Rattle.audit.proofs.Read.{link-back}
 
 -- two links by their bytes
 same-seat : (y x : ℕ) → x < seats → sameLink (linkOf y) (some x) ≡ eqb y x
@@ -36,9 +33,6 @@ unfolding sameLink
 same-none y = ⊎-elim (λ q. rw (linkOf-some y q, lt-leb seats y q)) (λ q. rw (linkOf-none y q, le-leb seats y q)) (lt-or-ge y seats)
 
 module _ (l : List ℕ) where
-  abbrev links : (x k d : ℕ) → Option ℕ
-  links x k d = meaning l .link x k (sideOfNumber d)
-
   -- a member, by the bytes of state and phase
   pub member-byte : (s : ℕ) → s < seats
       → let b = getD l (stateAt s) 0 in member (rosterIn l) s ≡ eqb b 1 || (not (eqb b 0) && eqb (getD l phaseAt 0) 0)
@@ -65,47 +59,29 @@ module _ (l : List ℕ) where
       by true = T-true t
       by false = refl
 
-  module _ (x k d y : ℕ) (h : x < seats) (g : k < levels) (b : d < 2) (e : y ≡ getD l (entryAt x + 10 + 2 * k + d) 0) where
-    -- the link back
-    pub back-none : seats ≤ y → true ≡ backOf (members (rosterIn l)) (meaning l .link) x k (sideOfNumber d) (links x k d)
+  -- the left link with its link back
+  module _ (x k y : ℕ) (h : x < seats) (g : k < levels) (e : y ≡ getD l (entryAt x + 10 + 2 * k + 0) 0) where
+    pub back-none : seats ≤ y → true ≡ backOf (members (rosterIn l)) (meaning l .link) x k (meaning l .link x k left)
     unfolding backOf
-    back-none q = rw (link-read l x k d y h g b e, linkOf-none y q)
+    back-none q = rw (link-read l x k 0 y h g (omega arith) e, linkOf-none y q)
 
-    pub back-some : y < seats → backOf (members (rosterIn l)) (meaning l .link) x k (sideOfNumber d) (links x k d)
-        ≡ member (rosterIn l) y && eqb (getD l (entryAt y + 10 + 2 * k + (1 - d)) 0) x
+    pub back-some : y < seats → backOf (members (rosterIn l)) (meaning l .link) x k (meaning l .link x k left)
+        ≡ member (rosterIn l) y && eqb (getD l (entryAt y + 10 + 2 * k + 1) 0) x
     unfolding backOf
-    back-some q = rw (link-read l x k d y h g b e, linkOf-some y q, link-back l y k d _ q g b refl, same-seat _ x h)
+    back-some q = rw (link-read l x k 0 y h g (omega arith) e, linkOf-some y q, link-read l y k 1 _ q g (omega arith) refl, same-seat _ x h)
 
-  -- one level up: u is the link there; along level k at most n lots are left to look at, from the link y on
-  module _ (x k d u : ℕ) where
-    unfoldable pub UpFrom : (n y : ℕ) → Bool
-    UpFrom n y = sameLink (linkOf u) (follow width (members (rosterIn l)) (meaning l .link) x k (sideOfNumber d) n (linkOf y))
+  -- the right link
+  module _ (x k y : ℕ) (h : x < seats) (g : k < levels) (e : y ≡ getD l (entryAt x + 10 + 2 * k + 1) 0) where
+    pub known-none : seats ≤ y → true ≡ knownOf (members (rosterIn l)) (meaning l .link x k right)
+    unfolding knownOf
+    known-none q = rw (link-read l x k 1 y h g (omega arith) e, linkOf-none y q)
 
-    pub up-start : (y : ℕ) → x < seats → k < width → d < 2 → u ≡ getD l (entryAt x + 10 + 2 * (k + 1) + d) 0
-        → y ≡ getD l (entryAt x + 10 + 2 * k + d) 0
-        → upOn seats width (members (rosterIn l)) (meaning l .link) (sideOfNumber d) x k ≡ UpFrom seats y
-    unfolding UpFrom upOn
-    up-start y h g b e f = rw (← add-one k, link-read l x (k + 1) d u h (omega arith) b e, link-read l x k d y h (omega arith) b f)
+    pub known-some : y < seats → knownOf (members (rosterIn l)) (meaning l .link x k right) ≡ member (rosterIn l) y
+    unfolding knownOf
+    known-some q = rw (link-read l x k 1 y h g (omega arith) e, linkOf-some y q)
 
-    pub up-end : (y : ℕ) → leb seats u ≡ UpFrom 0 y
-    unfolding UpFrom follow
-    up-end y = sym (same-none u)
-
-    pub up-none : (n y : ℕ) → seats ≤ y → leb seats u ≡ UpFrom n y
-    unfolding UpFrom follow
-    up-none zero y q = sym (same-none u)
-    up-none (suc n) y q = rw (linkOf-none y q) (sym (same-none u))
-
-    pub up-here : (n y : ℕ) → y < seats → ltb k (shared width (rosterIn l .vector x) (rosterIn l .vector y)) ≡ true → eqb u y ≡ UpFrom (suc n) y
-    unfolding UpFrom follow
-    up-here n y q t = rw (linkOf-some y q, t) (sym (same-seat u y q))
-
-    pub up-next : (n y z : ℕ) → y < seats → k < levels → d < 2 → ltb k (shared width (rosterIn l .vector x) (rosterIn l .vector y)) ≡ false
-        → z ≡ getD l (entryAt y + 10 + 2 * k + d) 0 → UpFrom (suc n) y ≡ UpFrom n z
-    unfolding UpFrom follow
-    up-next n y z q g b t f = rw (linkOf-some y q, t, link-read l y k d z q g b f)
-
-  pub leftmost-byte : (x : ℕ) → x < seats
-      → leftmost (members (rosterIn l)) (meaning l .link) x ≡ member (rosterIn l) x && leb seats (getD l (entryAt x + 10 + 2 * 0 + 0) 0)
-  unfolding leftmost
-  leftmost-byte x h = rw (link-read l x 0 0 _ h (omega arith) (omega arith) refl, same-none (getD l (entryAt x + 10 + 2 * 0 + 0) 0))
+  -- a left end
+  pub ends-byte : (x k : ℕ) → x < seats → k < levels
+      → endsAt (members (rosterIn l)) (meaning l .link) k x ≡ leb seats (getD l (entryAt x + 10 + 2 * k + 0) 0) && member (rosterIn l) x
+  unfolding endsAt
+  ends-byte x k h g = rw (link-read l x k 0 _ h g (omega arith) refl, same-none (getD l (entryAt x + 10 + 2 * k + 0) 0))

@@ -1,48 +1,37 @@
--- The whole check: the test of the links part by part, that on sound bytes it is the check of specs/, and each answer. Assumes nothing.
+-- The whole check: that on sound bytes the test of the links is the check of specs/, and each answer. Assumes nothing.
 use Prim.Native.Nat.{ℕ, zero, suc, _+_, _*_, _<_}
 use mathlib.Core.Path.{_≡_, refl, sym, ap, _∙_}
-use mathlib.Core.Logic.{_≢_}
+use mathlib.Core.Logic.{_≢_, ⊎-elim}
 use mathlib.Core.Option.{some}
-use mathlib.Core.Bool.{Bool, true, not, _&&_, _||_}
+use mathlib.Core.Bool.{Bool, true}
 use mathlib.Core.List.{List}
-use lib.Dec.{T, leb}
+use lib.Dec.{T}
+use native.Mathlib.Omega.{arith}
 use lib.ListN.{length, getD}
 use borrow.Author.Tests.{eq-eqb, ne-eqb}
 use Rattle.memory.specs.Bytes.{AreBytes}
-use Rattle.memory.proofs.Cases.{and-assoc}
+use Rattle.memory.proofs.Cases.{lt-or-ge}
 use Rattle.graph.specs.Side.{right}
 use Rattle.graph.specs.Vector.{width}
-use Rattle.graph.specs.Graph.{Lots, Links, Laws}
+use Rattle.graph.specs.Graph.{Laws}
 use Rattle.protocol.specs.State.{seated, members}
 use Rattle.protocol.specs.Sound.{Sound}
 use Rattle.protocol.proofs.SoundFacts.{link-linked}
 use Rattle.protocol.proofs.Reached.{members-laws}
-use Rattle.record.specs.Layout.{seats, levels, size, entryAt}
+use Rattle.record.specs.Layout.{seats, levels, size, phaseAt, entryAt}
 use Rattle.record.specs.Meaning.{rosterIn, meaning}
 use Rattle.record.specs.Sound.{sound}
 use Rattle.record.specs.Reading.{sideOfNumber, recordRefusal}
 use Rattle.record.proofs.Links.{linkOf-some, link-read}
 use Rattle.record.proofs.Sound.{sound-is}
-use Rattle.search.specs.Check.{every, check}
-use Rattle.search.proofs.Count.{count}
-use Rattle.search.proofs.LocalCheck.{backAt, leftmost, upOn, lotOk, localCheck}
+use Rattle.search.specs.Check.{check}
+use Rattle.search.proofs.LocalCheck.{knownOf, localCheck}
 use Rattle.search.proofs.Local.{Sided, local-check}
 use Rattle.record.proofs.Refused.{record-passed}
+use Rattle.audit.proofs.Parts.{seated-member, known-none, known-some}
 use Rattle.audit.specs.Check.{checkIn}
 use Rattle.audit.specs.Answer.{verdictOf, answered}
 use Rattle.audit.specs.declared.Verdict.the-variants.{Refused}
-use Rattle.audit.proofs.Loops.{every-parts}
-
--- links back, levels and leftmost members one after the other
-pub local-parts : (N W : ℕ) (G : Lots) (L : Links) → localCheck N W G L
-    ≡ every N (λ x. not (G .member x) || every (suc W) (backAt G L x))
-    && (every N (λ x. not (G .member x) || every W (upOn N W G L right x)) && leb (count N (leftmost G L)) 1)
-unfolding localCheck lotOk
-local-parts N W G L =
-    let backs = every N (λ x. not (G .member x) || every (suc W) (backAt G L x)) in
-    let ups = every N (λ x. not (G .member x) || every W (upOn N W G L right x)) in
-    rw (every-parts N (G .member) (λ x. every (suc W) (backAt G L x)) (λ x. every W (upOn N W G L right x)))
-    (and-assoc backs ups (leb (count N (leftmost G L)) 1))
 
 module _ (l : List ℕ) (e : length l ≡ size) (b : AreBytes l) (s : sound l ≡ true) where
   pub bytes-sound : Sound seats width (meaning l)
@@ -54,7 +43,7 @@ module _ (l : List ℕ) (e : length l ≡ size) (b : AreBytes l) (s : sound l �
 
   links-sided : Sided width (members (rosterIn l)) (meaning l .link)
   unfolding meaning
-  links-sided x k y d m h f = link-linked bytes-sound {x = x} {k = k} {d = d} f .1
+  links-sided x k y d m h f = let k = link-linked bytes-sound {x = x} {k = k} {d = d} f in (k .1, k .0 .bits)
 
   -- a link, by its byte, names a seated lot
   pub link-seated : (x k d y : ℕ) → x < seats → k < levels → d < 2 → y ≡ getD l (entryAt x + 10 + 2 * k + d) 0 → y < seats
@@ -63,7 +52,14 @@ module _ (l : List ℕ) (e : length l ≡ size) (b : AreBytes l) (s : sound l �
   link-seated x k d y h g a f q = let e : meaning l .link x k (sideOfNumber d) ≡ some y = link-read l x k d y h g a f ∙ linkOf-some y q in
       link-linked bytes-sound {x = x} {k = k} {d = sideOfNumber d} e .0 .two
 
-  -- looking only at neighbours is enough
+  -- in phase open a right link names a member
+  pub known-open : (x k : ℕ) → x < seats → k < levels → getD l phaseAt 0 ≡ 0 → true ≡ knownOf (members (rosterIn l)) (meaning l .link x k right)
+  known-open x k h g z = let y = getD l (entryAt x + 10 + 2 * k + 1) 0 in ⊎-elim
+      (λ q. rw (known-some l x k y h g refl q, seated-member l y q (link-seated x k 1 y h g (omega arith) refl q), eq-eqb (getD l phaseAt 0) 0 z))
+      (λ q. known-none l x k y h g refl q)
+      (lt-or-ge y seats)
+
+  -- looking only at neighbours and ends is enough
   pub local-right : localCheck seats width (members (rosterIn l)) (meaning l .link) ≡ check seats width (members (rosterIn l)) (meaning l .link)
   local-right = local-check lots-laws links-sided (λ x y m n. refl)
 

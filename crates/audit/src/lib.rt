@@ -1,30 +1,34 @@
-// The check of the links over a lent record (document 01, "Check"). It looks only at neighbours: every link of a member has its link back,
-// each level follows on the right from the one below, and one member at most has no left neighbour. Once the links have their links back, the
-// lists are chains, what holds on the right holds on the left, and the rest is linear in the links.
+// The check of the links over a lent record (document 01, "Check"). It looks only at neighbours and at the ends of lists: the left link of a
+// member has its link back, its right link names a member, and at every level no two members of one list are without a left link. Links of a
+// sound record lie in their list and on their side, so the left links with their links back make chains, and one left end for each list says
+// that each is one chain; then nobody is left whom the last right link could name. Linear in the links.
 ghost use mathlib.Core.Path.{_≡_};
 ghost use mathlib.Core.Bool.{true, not, _||_};
-ghost use Prim.Native.Nat.{_<_};
-ghost use lib.Dec.{T, ltb};
-ghost use lib.ListN.{length};
-ghost use Rattle.graph.specs.Side.{right};
-ghost use Rattle.graph.specs.Vector.{width, shared};
+ghost use Prim.Native.Nat.{_+_, _*_, _<_};
+ghost use lib.Dec.{T, eqb};
+ghost use lib.ListN.{length, getD, set};
+ghost use Rattle.graph.specs.Side.{left, right};
+ghost use Rattle.graph.specs.Vector.{width};
 ghost use Rattle.protocol.specs.State.{seated, member, members};
 ghost use Rattle.record.specs.Layout.{seats, levels, size};
 ghost use Rattle.record.specs.Meaning.{rosterIn, meaning};
-ghost use Rattle.record.specs.Reading.{sideOfNumber};
 ghost use Rattle.record.specs.Sound.{sound};
 ghost use Rattle.search.specs.Check.{every};
-ghost use Rattle.search.proofs.Count.{count};
-ghost use Rattle.search.proofs.LocalCheck.{backOf, backAt, leftmost, upOn, localCheck};
+ghost use Rattle.search.proofs.LocalCheck.{backOf, knownOf, levelOk, localCheck};
 ghost use Rattle.audit.specs.Check.{checkIn};
 ghost use Rattle.audit.specs.Answer.{answered};
+ghost use Rattle.audit.specs.Marks.{places, placeOf, leftOk, Marked};
 use record::LEVELS;
 use record::SEATS;
+use record::WIDTH;
 
 // The sides, as link numbers them.
 const LEFT: usize = 0;
 
 const RIGHT: usize = 1;
+
+// How many places there are for marks: level k has 2^k lists, with the places from 2^k on.
+const PLACES: usize = 2 << WIDTH;
 
 // What the check answers: a refusal's number, or whether the links are right.
 pub enum Verdict {
@@ -50,136 +54,86 @@ fn seated_is_member(rec: &[u8], s: usize) -> bool
     record::phase(rec) == 0 || record::state(rec, s) == 1
 }
 
-// Whether the link of x at level k on side d is none, or a member whose link back is x. On a sound record it names a seated lot.
-fn back_fits(rec: &[u8], x: usize, k: usize, d: usize) -> bool
-    requires { ⌜ (length (now rec) ≡ size) × (sound (now rec) ≡ true) × (x < seats) × (k < levels) × (d < 2) ⌝ }
-    ensures { λ r. ⌜ (let l = now (rec .entry) in
-        r ≡ backOf (members (rosterIn l)) (meaning l .link) x k (sideOfNumber d) (meaning l .link x k (sideOfNumber d))) ⌝ }
+// Whether the left link of x at level k is none, or a member whose right link is x. On a sound record it names a seated lot.
+fn back_fits(rec: &[u8], x: usize, k: usize) -> bool
+    requires { ⌜ (length (now rec) ≡ size) × (sound (now rec) ≡ true) × (x < seats) × (k < levels) ⌝ }
+    ensures { λ r. ⌜ (let l = now (rec .entry) in r ≡ backOf (members (rosterIn l)) (meaning l .link) x k (meaning l .link x k left)) ⌝ }
 {
-    let y = record::link(rec, x, k, d) as usize;
+    let y = record::link(rec, x, k, LEFT) as usize;
     if y >= SEATS {
         return true;
     }
-    seated_is_member(rec, y) && record::link(rec, y, k, 1 - d) as usize == x
+    seated_is_member(rec, y) && record::link(rec, y, k, RIGHT) as usize == x
 }
 
-// Both links of x at level k.
-fn level_backs_fit(rec: &[u8], x: usize, k: usize) -> bool
+// Whether the right link of x at level k is none or a member. In phase open that is known of a sound record.
+fn right_fits(rec: &[u8], x: usize, k: usize) -> bool
     requires { ⌜ (length (now rec) ≡ size) × (sound (now rec) ≡ true) × (x < seats) × (k < levels) ⌝ }
-    ensures { λ r. ⌜ (let l = now (rec .entry) in r ≡ backAt (members (rosterIn l)) (meaning l .link) x k) ⌝ }
+    ensures { λ r. ⌜ (let l = now (rec .entry) in r ≡ knownOf (members (rosterIn l)) (meaning l .link x k right)) ⌝ }
 {
-    back_fits(rec, x, k, LEFT) && back_fits(rec, x, k, RIGHT)
+    if record::phase(rec) == 0 {
+        return true;
+    }
+    let y = record::link(rec, x, k, RIGHT) as usize;
+    y >= SEATS || is_member(rec, y)
+}
+
+// The list of x at level k among those of all levels: a 1 and the first k bits of its vector, as a number.
+fn place_of(rec: &[u8], x: usize, k: usize) -> usize
+    requires { ⌜ (length (now rec) ≡ size) × (x < seats) × (k < levels) ⌝ }
+    ensures { λ r. ⌜ (r ≡ placeOf (now (rec .entry)) x k) × (r < places) ⌝ }
+{
+    ((1 << WIDTH) + record::vector(rec, x) as usize) >> (WIDTH - k)
+}
+
+// Whether place i is not marked yet. It is from now on.
+fn take_mark(marks: &mut [u8; PLACES], i: usize) -> bool
+    requires { ⌜ i < places ⌝ }
+    ensures { λ r. ⌜ (r ≡ eqb (getD (now (marks .entry)) i 0) 0) × (now (marks .exit) ≡ set (now (marks .entry)) i 1) ⌝ }
+{
+    let free = marks[i] == 0;
+    marks[i] = 1;
+    free
+}
+
+// The left link of member x at level k: it has its link back, or there is none and x is the first such lot of its list, which it marks.
+fn left_fits(rec: &[u8], marks: &mut [u8; PLACES], x: usize, k: usize) -> bool
+    requires { ⌜ (length (now rec) ≡ size) × (sound (now rec) ≡ true) × (x < seats) × (k < levels) × (member (rosterIn (now rec)) x ≡ true)
+        × Marked (now rec) (x * levels + k) (now marks) ⌝ }
+    ensures { λ r. ⌜ (let l = now (rec .entry) in (r ≡ leftOk l x k) × (r ≡ true → Marked l (x * levels + k + 1) (now (marks .exit)))) ⌝ }
+{
+    if record::link(rec, x, k, LEFT) as usize >= SEATS {
+        return take_mark(marks, place_of(rec, x, k));
+    }
+    back_fits(rec, x, k)
+}
+
+// Both links of member x at level k.
+fn level_fits(rec: &[u8], marks: &mut [u8; PLACES], x: usize, k: usize) -> bool
+    requires { ⌜ (length (now rec) ≡ size) × (sound (now rec) ≡ true) × (x < seats) × (k < levels) × (member (rosterIn (now rec)) x ≡ true)
+        × Marked (now rec) (x * levels + k) (now marks) ⌝ }
+    ensures { λ r. ⌜ (let l = now (rec .entry) in (r ≡ levelOk width (members (rosterIn l)) (meaning l .link) x k)
+        × (r ≡ true → Marked l (x * levels + k + 1) (now (marks .exit)))) ⌝ }
+{
+    left_fits(rec, marks, x, k) && right_fits(rec, x, k)
 }
 
 // All links of x, if it is a member.
-fn lot_backs_fit(rec: &[u8], x: usize) -> bool
-    requires { ⌜ (length (now rec) ≡ size) × (sound (now rec) ≡ true) × (x < seats) ⌝ }
+fn lot_fits(rec: &[u8], marks: &mut [u8; PLACES], x: usize) -> bool
+    requires { ⌜ (length (now rec) ≡ size) × (sound (now rec) ≡ true) × (x < seats) × Marked (now rec) (x * levels) (now marks) ⌝ }
     ensures { λ r. ⌜ (let l = now (rec .entry) in
-        r ≡ not (member (rosterIn l) x) || every levels (backAt (members (rosterIn l)) (meaning l .link) x)) ⌝ }
+        (r ≡ not (member (rosterIn l) x) || every levels (levelOk width (members (rosterIn l)) (meaning l .link) x))
+        × (r ≡ true → Marked l ((x + 1) * levels) (now (marks .exit)))) ⌝ }
 {
     if !is_member(rec, x) {
         return true;
     }
     for k in 0..LEVELS {
-        if !level_backs_fit(rec, x, k) {
+        if !level_fits(rec, marks, x, k) {
             return false;
         }
     }
     true
-}
-
-// Constraints 3 and 4: every link of a member names a member and has its link back.
-fn backs_fit(rec: &[u8]) -> bool
-    requires { ⌜ (length (now rec) ≡ size) × (sound (now rec) ≡ true) ⌝ }
-    ensures { λ r. ⌜ (let l = now (rec .entry) in
-        r ≡ every seats (λ x. not (member (rosterIn l) x) || every levels (backAt (members (rosterIn l)) (meaning l .link) x))) ⌝ }
-{
-    for x in 0..SEATS {
-        if !lot_backs_fit(rec, x) {
-            return false;
-        }
-    }
-    true
-}
-
-// Whether x and y share more than k bits.
-fn shares_more(rec: &[u8], x: usize, y: usize, k: usize) -> bool
-    requires { ⌜ (length (now rec) ≡ size) × (x < seats) × (y < seats) ⌝ }
-    ensures { λ r. ⌜ (let l = now (rec .entry) in r ≡ ltb k (shared width (rosterIn l .vector x) (rosterIn l .vector y))) ⌝ }
-{
-    k < graph::share(record::vector(rec, x), record::vector(rec, y)) as usize
-}
-
-// Whether the link of x on side d one level above k is the first lot along level k that shares one bit more, or none if no lot does.
-fn up_fits(rec: &[u8], x: usize, k: usize, d: usize) -> bool
-    requires { ⌜ (length (now rec) ≡ size) × (x < seats) × (k < width) × (d < 2) ⌝ }
-    ensures { λ r. ⌜ (let l = now (rec .entry) in r ≡ upOn seats width (members (rosterIn l)) (meaning l .link) (sideOfNumber d) x k) ⌝ }
-{
-    let up = record::link(rec, x, k + 1, d) as usize;
-    let mut y = record::link(rec, x, k, d) as usize;
-    for i in 0..SEATS {
-        if y >= SEATS {
-            return up >= SEATS;
-        }
-        if shares_more(rec, x, y, k) {
-            return up == y;
-        }
-        y = record::link(rec, y, k, d) as usize;
-    }
-    up >= SEATS
-}
-
-// All right links of x above level 0, if it is a member.
-fn lot_ups_fit(rec: &[u8], x: usize) -> bool
-    requires { ⌜ (length (now rec) ≡ size) × (x < seats) ⌝ }
-    ensures { λ r. ⌜ (let l = now (rec .entry) in
-        r ≡ not (member (rosterIn l) x) || every width (upOn seats width (members (rosterIn l)) (meaning l .link) right x)) ⌝ }
-{
-    if !is_member(rec, x) {
-        return true;
-    }
-    for k in 0..LEVELS - 1 {
-        if !up_fits(rec, x, k, RIGHT) {
-            return false;
-        }
-    }
-    true
-}
-
-// Constraints 5 and 6: each level of a member's links follows from the one below. With the links back, the right side gives the left.
-fn ups_fit(rec: &[u8]) -> bool
-    requires { ⌜ length (now rec) ≡ size ⌝ }
-    ensures { λ r. ⌜ (let l = now (rec .entry) in
-        r ≡ every seats (λ x. not (member (rosterIn l) x) || every width (upOn seats width (members (rosterIn l)) (meaning l .link) right x))) ⌝ }
-{
-    for x in 0..SEATS {
-        if !lot_ups_fit(rec, x) {
-            return false;
-        }
-    }
-    true
-}
-
-// Whether x is a member without a left link at level 0.
-fn is_leftmost(rec: &[u8], x: usize) -> bool
-    requires { ⌜ (length (now rec) ≡ size) × (x < seats) ⌝ }
-    ensures { λ r. ⌜ (let l = now (rec .entry) in r ≡ leftmost (members (rosterIn l)) (meaning l .link) x) ⌝ }
-{
-    is_member(rec, x) && record::link(rec, x, 0, LEFT) as usize >= SEATS
-}
-
-// How many such members there are: one for each level-0 list.
-fn count_leftmost(rec: &[u8]) -> usize
-    requires { ⌜ length (now rec) ≡ size ⌝ }
-    ensures { λ r. ⌜ (let l = now (rec .entry) in r ≡ count seats (leftmost (members (rosterIn l)) (meaning l .link))) ⌝ }
-{
-    let mut n: usize = 0;
-    for x in 0..SEATS {
-        if is_leftmost(rec, x) {
-            n += 1;
-        }
-    }
-    n
 }
 
 // The whole test of the links.
@@ -187,7 +141,13 @@ fn links_fit(rec: &[u8]) -> bool
     requires { ⌜ (length (now rec) ≡ size) × (sound (now rec) ≡ true) ⌝ }
     ensures { λ r. ⌜ (let l = now (rec .entry) in r ≡ localCheck seats width (members (rosterIn l)) (meaning l .link)) ⌝ }
 {
-    backs_fit(rec) && (ups_fit(rec) && count_leftmost(rec) <= 1)
+    let mut marks = [0u8; PLACES];
+    for x in 0..SEATS {
+        if !lot_fits(rec, &mut marks, x) {
+            return false;
+        }
+    }
+    true
 }
 
 // Whether the links of the members are those of their skip graph: yes exactly if Constraints 1 to 6 hold for all members and they lie in one

@@ -1,12 +1,11 @@
 -- Tests of the numbers below n: that every one passes, and how many do. Assumes nothing.
 use Prim.Native.Nat.{ℕ, zero, suc, _+_, _≤_, _<_}
 use mathlib.Core.Path.{_≡_, refl, sym, subst}
-use mathlib.Core.Logic.{_≢_}
-use mathlib.Core.Bool.{Bool, true, false, cond, not, _&&_, _||_}
+use mathlib.Core.Bool.{Bool, true, false, cond, not, _||_}
 use native.Mathlib.Omega.{arith}
 use native.Mathlib.Decide.{ℕ-discrete}
-use lib.Dec.{T, eqb, eqb→eq, eqb-refl}
-use Rattle.graph.proofs.Tests.{dec-T, T-true, not-T-false, and-T, and-fst, and-snd}
+use lib.Dec.{T}
+use Rattle.graph.proofs.Tests.{T-true, not-T-false, and-T, and-fst, and-snd}
 use Rattle.graph.proofs.Below.{below-suc}
 use Rattle.search.specs.Check.{every}
 
@@ -69,40 +68,3 @@ count-less (suc n) p q j l t f h = by (ℕ-discrete j n) (λ m. count-less n p q
         let b : p n ≡ false = not-T-false (subst (λ (i : ℕ). ¬ (T (p i))) e f) in
         rw (a, b) (omega (arith, count-mono n p q h))
     by (no e) ih = omega (arith, ih (omega arith), one-le (p n) (q n) (h n))
-
-pub count-some : (n : ℕ) (p : ℕ → Bool) (j : ℕ) → j < n → T (p j) → 0 < count n p
-count-some n p j l t = omega (arith, count-less n (λ z. false) p j l t (λ f. f) (λ z f. absurd f))
-
-pub count-none : (n : ℕ) (p : ℕ → Bool) → ((i : ℕ) → i < n → ¬ (T (p i))) → count n p ≡ 0
-unfolding count
-count-none zero p h = refl
-count-none (suc n) p h = let e : p n ≡ false = not-T-false (h n (omega arith)) in rw (e, count-none n p (λ i l. h i (omega arith))) (omega arith)
-
--- at most one passes
-pub count-one : (n : ℕ) (p : ℕ → Bool) → ((i j : ℕ) → i < n → j < n → T (p i) → T (p j) → i ≡ j) → count n p ≤ 1
-unfolding count
-count-one zero p h = omega arith
-count-one (suc n) p h = by (dec-T (p n)) (count-one n p (λ i j a b. h i j (omega arith) (omega arith)))
-  where
-    by : Dec (T (p n)) → count n p ≤ 1 → count n p + cond (p n) 1 0 ≤ 1
-    by (yes t) ih =
-        let e : p n ≡ true = T-true t in
-        let none : count n p ≡ 0 = count-none n p (λ i l u. let q = h i n (omega arith) (omega arith) u t in omega arith) in
-        rw (e, none) (omega arith)
-    by (no f) ih = let e : p n ≡ false = not-T-false f in rw e (omega arith)
-
-pub one-count : (n : ℕ) (p : ℕ → Bool) → count n p ≤ 1 → (i j : ℕ) → i < n → j < n → T (p i) → T (p j) → i ≡ j
-one-count n p c i j a b t u = by (ℕ-discrete i j)
-  where
-    only : ℕ → Bool
-    only z = p z && eqb z i
-
-    other : i ≢ j → T (only j) → ⊥
-    other ne v = ne (sym (eqb→eq j i (and-snd (p j) (eqb j i) v)))
-
-    by : Dec (i ≡ j) → i ≡ j
-    by (yes e) = e
-    by (no ne) =
-        let one = count-some n only i a (and-T (p i) (eqb i i) t (eqb-refl i)) in
-        let two = count-less n only p j b u (other ne) (λ z v. and-fst (p z) (eqb z i) v) in
-        absurd (omega arith)

@@ -12,8 +12,7 @@ use Rattle.graph.specs.Graph.{Lots, Links, inList, beside, nearer, nearest, gra
 use Rattle.graph.proofs.Examples.{settledQ, linkQ}
 use Rattle.search.specs.Walk.{Found, along, stepAt, walk, path, holderAt, find}
 use Rattle.search.specs.Check.{sameLink, every, levelRight, check}
-use Rattle.search.proofs.Count.{count}
-use Rattle.search.proofs.LocalCheck.{backOf, backAt, leftmost, follow, upOn, lotOk, localCheck}
+use Rattle.search.proofs.LocalCheck.{backOf, knownOf, endsAt, apart, levelOk, localCheck}
 
 -- F start number, in Q
 abbrev findQ : (s x : ℕ) → Found
@@ -40,7 +39,7 @@ abbrev Checked : Lots → Links → Bool → Type 0
 Checked G L b = (check 4 8 G L ≡ b) × (localCheck 4 8 G L ≡ b)
 
 pub yes-Q : Checked settledQ linkQ true
-unfolding check levelRight every sameLink localCheck lotOk backAt backOf upOn follow leftmost count
+unfolding check levelRight every sameLink localCheck levelOk backOf knownOf apart endsAt
     graph nearest nearer beside inList onSide shared equalBits bit
 yes-Q = (refl, refl)
 
@@ -50,7 +49,7 @@ missing x k left = cond (eqb x 2 && eqb k 1) none (linkQ x k left)
 missing x k right = linkQ x k right
 
 pub no-missing : Checked settledQ missing false
-unfolding check levelRight every sameLink localCheck lotOk backAt backOf upOn follow leftmost count
+unfolding check levelRight every sameLink localCheck levelOk backOf knownOf apart endsAt
     graph nearest nearer beside inList onSide shared equalBits bit
 no-missing = (refl, refl)
 
@@ -71,12 +70,12 @@ pub yes-each : check 4 8 (fourLots (λ x. x / 2)) twoLists ≡ true
 unfolding check levelRight every sameLink graph nearest nearer beside inList onSide shared equalBits bit
 yes-each = refl
 
--- every lot passes by itself: what fails is that two are leftmost
-pub lots-pass : (every 4 (lotOk 4 8 (fourLots (λ x. 0)) twoLists) ≡ true) × (count 4 (leftmost (fourLots (λ x. 0)) twoLists) ≡ 2)
-unfolding every sameLink lotOk backAt backOf upOn follow leftmost count graph nearest nearer beside inList onSide shared equalBits bit
-lots-pass = (refl, refl)
+-- what fails is that lot 300 is a second one without a left link at level 0
+pub second-end : (levelOk 8 (fourLots (λ x. 0)) twoLists 2 0 ≡ false) × (every 2 (levelOk 8 (fourLots (λ x. 0)) twoLists 0) ≡ true)
+unfolding every sameLink levelOk backOf knownOf apart endsAt graph nearest nearer beside inList onSide shared equalBits bit
+second-end = (refl, refl)
 
 pub no-two-lists : Checked (fourLots (λ x. 0)) twoLists false
-unfolding check levelRight every sameLink localCheck lotOk backAt backOf upOn follow leftmost count
+unfolding check levelRight every sameLink localCheck levelOk backOf knownOf apart endsAt
     graph nearest nearer beside inList onSide shared equalBits bit
 no-two-lists = (refl, refl)

@@ -1,4 +1,4 @@
--- Why a search on a settled record is right, and a check that looks only at neighbours says the same as the definition.
+-- Why a search on a settled record is right, and a check that looks only at neighbours and ends of lists says the same as the definition.
 pub mod Count
 pub mod Ordered
 pub mod Step
@@ -7,8 +7,6 @@ pub mod Hops
 pub mod Holder
 pub mod Check
 pub mod LocalCheck
-pub mod Follow
-pub mod OtherSide
-pub mod Leftmost
+pub mod Chains
 pub mod Local
 pub mod Examples

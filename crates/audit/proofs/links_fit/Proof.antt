@@ -1,53 +1,64 @@
--- `audit::links_fit` meets its contract. Assumes nothing.
-use Prim.Native.Nat.{ℕ}
-use mathlib.Core.Path.{ap}
-use lib.Dec.{leb}
+-- `audit::links_fit` meets its contract. The loop's invariant: all seats below x pass, and the lists of their lots are marked. Assumes nothing.
+use Prim.Native.Nat.{_*_, _≤_, _-_}
+use mathlib.Core.Path.{_≡_}
+use mathlib.Core.Bool.{true, not, _||_}
 use Rattle.graph.specs.Vector.{width}
-use Rattle.protocol.specs.State.{members}
-use Rattle.record.specs.Layout.{seats}
+use Rattle.protocol.specs.State.{member, members}
+use Rattle.record.specs.Layout.{seats, levels}
 use Rattle.record.specs.Meaning.{rosterIn, meaning}
-use Rattle.roster.proofs.Tests.{and-stop, and-go}
-use Rattle.audit.proofs.Whole.{local-parts}
+use Rattle.search.specs.Check.{every}
+use Rattle.search.proofs.LocalCheck.{levelOk, localCheck}
+use Rattle.audit.specs.Marks.{Marked}
+use Rattle.audit.proofs.Loops.{every-none, every-stop, every-go, every-end, not-false}
+use Rattle.audit.proofs.Marks.{marked-none}
 use borrow.Author.Needs.{needs}
 use Rattle.audit.proofs.links_fit.Statement.{statement}
 use Rattle.audit.proofs.links_fit.Tie as tie
 
-backs-fit-requires : tie.Need-backs-fit-requires
-backs-fit-requires c κs = search needs
+abbrev Inv-loop : tie.InvT-loop
+Inv-loop rec marks₀ x₀ marks x = (x ≤ seats)
+    × (every x (λ i. not (member (rosterIn rec) i) || every levels (levelOk width (members (rosterIn rec)) (meaning rec .link) i)) ≡ true)
+    × Marked rec (x * levels) marks
 
-ups-fit-requires : tie.Need-ups-fit-requires
-ups-fit-requires c κs = search needs
+abbrev μ-loop : tie.MeasureT-loop
+μ-loop rec marks₀ x₀ marks x = seats - x
 
-count-leftmost-requires : tie.Need-count-leftmost-requires
-count-leftmost-requires c κs = search needs
+loop-holds : tie.Need-loop-holds Inv-loop μ-loop
+loop-holds c = (search needs, every-none _, marked-none _)
 
-returns : tie.Need-returns
-returns c =
-    let l = c .before .before .before .before .before .before .args .rec .now in
-    let b = c .before .before .before in
-    rw (local-parts seats width (members (rosterIn l)) (meaning l .link))
-    (and-go (b .before .backs-fit .ensures) (b .if1 .taken)
-    (and-go (c .before .before .ups-fit .ensures) (c .before .if2 .taken) (ap (λ (n : ℕ). leb n 1) (c .count-leftmost .ensures))))
+lot-fits-requires : tie.Need-lot-fits-requires Inv-loop μ-loop
+lot-fits-requires c κs = search needs
 
-returns-2 : tie.Need-returns-2
-returns-2 c =
-    let l = c .before .before .before .before .before .args .rec .now in
-    let b = c .before .before in
-    rw (local-parts seats width (members (rosterIn l)) (meaning l .link))
-    (and-go (b .before .backs-fit .ensures) (b .if1 .taken) (and-stop _ (c .before .ups-fit .ensures) (c .if2 .left)))
+returns : tie.Need-returns Inv-loop μ-loop
+unfolding localCheck
+returns c = every-stop _ _ _ (search needs) (c .before .lot-fits .ensures .0) (c .if1 .taken)
 
-returns-3 : tie.Need-returns-3
-returns-3 c =
-    let l = c .before .before .before .args .rec .now in
-    rw (local-parts seats width (members (rosterIn l)) (meaning l .link)) (and-stop _ (c .before .backs-fit .ensures) (c .if1 .left))
+add-x : tie.Need-add-x Inv-loop μ-loop
+add-x c = search needs
+
+loop-less : tie.Need-loop-less Inv-loop μ-loop
+loop-less c = search needs
+
+loop-again : tie.Need-loop-again Inv-loop μ-loop
+loop-again c =
+    let r = c .before .lot-fits .ensures in
+    let f = c .if1 .left in
+    (search needs, every-go _ _ (c .before .before .before .before .loop .inv .1) (r .0) f, r .1 (not-false f))
+
+returns-2 : tie.Need-returns-2 Inv-loop μ-loop
+unfolding localCheck
+returns-2 c = every-end _ _ _ (search needs) (search needs) (c .before .loop .inv .1)
 
 pub links-fit-spec : {M : Type 1} → statement M
 links-fit-spec =
     tie.close
     (tie.spec
-    backs-fit-requires
-    ups-fit-requires
-    count-leftmost-requires
+    Inv-loop
+    μ-loop
+    loop-holds
+    lot-fits-requires
     returns
-    returns-2
-    returns-3)
+    add-x
+    loop-less
+    loop-again
+    returns-2)
