@@ -16,6 +16,7 @@ use Rattle.memory.specs.Bytes.{AreBytes}
 use Rattle.memory.proofs.Cases.{eq-or-ne, and-false}
 use Rattle.graph.specs.Side.{left}
 use Rattle.graph.specs.Vector.{width, shared}
+use Rattle.graph.proofs.Leading.{shared-top}
 use Rattle.graph.proofs.Tests.{T-true}
 use Rattle.protocol.specs.State.{member, members}
 use Rattle.record.specs.Layout.{seats, levels, vectorAt, entryAt}
@@ -26,7 +27,6 @@ use Rattle.search.specs.Check.{sameLink, every}
 use Rattle.search.proofs.Count.{all-every}
 use Rattle.search.proofs.LocalCheck.{backOf, endsAt, apart}
 use Rattle.audit.specs.Marks.{places, placeOf, leftOk, Marked}
-use Rattle.audit.proofs.Index.{shared-top}
 use Rattle.audit.proofs.Loops.{every-stop}
 use Rattle.audit.proofs.Parts.{back-none, ends-byte}
 use Rattle.audit.proofs.Marks.{EndOf, marked-skip, marked-more}

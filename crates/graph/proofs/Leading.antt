@@ -26,22 +26,21 @@ odd-same m n e = by (eqb (n % 2) 1) refl
     by false f = let p = eqb-false (m % 2) 1 (e ∙ f) in let q = eqb-false (n % 2) 1 f in omega arith
 
 -- the first k bits of a vector of W bits, as a number
-top : (W k v : ℕ) → ℕ
+abbrev pub top : (W k v : ℕ) → ℕ
 top W k v = v / 2 ^ (W - k)
 
 top-half : (W k v : ℕ) → k < W → top W k v ≡ top W (suc k) v / 2
-unfolding top
 top-half W k v l = let e : W - k ≡ suc (W - suc k) = omega arith in rw (e, pow-suc) (sym (div-div-eq-div-mul v (2 ^ (W - suc k)) 2))
 
 module _ (W a b : ℕ) where
   top-bits : (k : ℕ) → k ≤ W → top W k a ≡ top W k b → (i : ℕ) → i < k → bit W i a ≡ bit W i b
-  unfolding bit top
+  unfolding bit
   top-bits zero l e = λ i n. absurd (omega arith)
   top-bits (suc k) l e = let lower : top W k a ≡ top W k b = omega (arith, top-half W k a l, top-half W k b l) in
       below-suc (top-bits k (omega arith) lower) (ap (λ (v : ℕ). eqb (v % 2) 1) e)
 
   bits-top : (k : ℕ) → k ≤ W → a < 2 ^ W → b < 2 ^ W → ((i : ℕ) → i < k → bit W i a ≡ bit W i b) → top W k a ≡ top W k b
-  unfolding bit top
+  unfolding bit
   bits-top zero l p q f = let e : W - 0 ≡ W = omega arith in rw e (div-eq-of-lt p ∙ sym (div-eq-of-lt q))
   bits-top (suc k) l p q f =
       let low = bits-top k (omega arith) p q (λ i n. f i (omega arith)) in
@@ -49,7 +48,7 @@ module _ (W a b : ℕ) where
 
 module _ (W a b : ℕ) (fits-a : a < 2 ^ W) (fits-b : b < 2 ^ W) where
   -- both counts are at least k exactly if the first k bits are equal
-  shared-top : (k : ℕ) → k ≤ W → (k ≤ shared W a b) ↔ (top W k a ≡ top W k b)
+  pub shared-top : (k : ℕ) → k ≤ W → (k ≤ shared W a b) ↔ (top W k a ≡ top W k b)
   shared-top k l = (λ h. bits-top W a b k l fits-a fits-b (shared-bits W a b k h), λ e. bits-shared W a b k l (top-bits W a b k l e))
 
   -- how many bits are left after the leading zeros
@@ -57,7 +56,6 @@ module _ (W a b : ℕ) (fits-a : a < 2 ^ W) (fits-b : b < 2 ^ W) where
   length = leading-length W (bitXor a b) (xor-lt W a b fits-a fits-b)
 
   leading-top : (k : ℕ) → k ≤ W → (k ≤ leadingZeros W (bitXor a b)) ↔ (top W k a ≡ top W k b)
-  unfolding top
   leading-top k l = (
     (λ h. let fits : length .0 ≤ W - k = omega (arith, length .1) in
         let below : bitXor a b < 2 ^ (W - k) = omega (arith, length .2, pow-mono fits) in
