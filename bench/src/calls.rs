@@ -4,7 +4,7 @@
 use compare::call::Call;
 use compare::lent;
 use compare::model::Refusal;
-use robust::sys::*;
+use lots_record::sys::*;
 
 /// The sum of the bytes, one by one.
 #[inline(never)]

@@ -37,7 +37,8 @@
 mod reading;
 mod record;
 mod refusal;
-mod sys;
+#[doc(hidden)]
+pub mod sys;
 
 pub use reading::{Counts, Found, Lot, Message, Phase, State};
 pub use record::Record;

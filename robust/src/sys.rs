@@ -1,76 +1,10 @@
-//! The C interface of the static library. It is declared here and not taken from
-//! a safe wrapper, since a wrapper would hide lengths, outputs and guard bytes.
+//! Calls through the C interface of the static library, and not through the safe
+//! wrapper: that would hide lengths, outputs and guard bytes.
 
 use compare::call::{Answer, Call};
 use compare::model::Message;
+use lots_record::sys::*;
 use std::ops::Range;
-
-#[link(name = "exports", kind = "static")]
-extern "C" {
-    pub fn lots_open(record: *mut u8, length: usize) -> u8;
-    pub fn lots_join(
-        record: *mut u8,
-        length: usize,
-        seat: u8,
-        number: u64,
-        vector: u8,
-        contact: u8,
-    ) -> u8;
-    pub fn lots_leave(record: *mut u8, length: usize, seat: u8) -> u8;
-    pub fn lots_deliver(
-        record: *mut u8,
-        length: usize,
-        kind: u8,
-        to: u8,
-        about: u8,
-        level: u8,
-        side: u8,
-    ) -> u8;
-    pub fn lots_turn(record: *mut u8, length: usize) -> u8;
-    pub fn lots_find(
-        record: *const u8,
-        length: usize,
-        seat: u8,
-        number: u64,
-        holder: *mut u8,
-        hops: *mut u64,
-    ) -> u8;
-    pub fn lots_check(record: *const u8, length: usize, yes: *mut u8) -> u8;
-    pub fn lots_read_lot(
-        record: *const u8,
-        length: usize,
-        seat: u8,
-        state: *mut u8,
-        number: *mut u64,
-        vector: *mut u8,
-    ) -> u8;
-    pub fn lots_read_link(
-        record: *const u8,
-        length: usize,
-        seat: u8,
-        level: u8,
-        side: u8,
-        link: *mut u8,
-    ) -> u8;
-    pub fn lots_read_message(
-        record: *const u8,
-        length: usize,
-        kind: u8,
-        to: u8,
-        about: u8,
-        level: u8,
-        side: u8,
-        pending: *mut u8,
-    ) -> u8;
-    pub fn lots_read_counts(
-        record: *const u8,
-        length: usize,
-        lots: *mut u8,
-        phase: *mut u8,
-        pending: *mut u32,
-    ) -> u8;
-    pub fn lots_record_refusal(record: *const u8, length: usize) -> u8;
-}
 
 /// What came back from a call.
 #[derive(Clone, Copy, PartialEq, Eq, Debug)]

@@ -34,6 +34,19 @@ impl Message {
         }
     }
 
+    /// This message with one of its five numbers, counted from 0, taken from
+    /// another.
+    pub fn with_number_of(mut self, other: Message, which: usize) -> Message {
+        match which {
+            0 => self.kind = other.kind,
+            1 => self.to = other.to,
+            2 => self.about = other.about,
+            3 => self.level = other.level,
+            _ => self.side = other.side,
+        }
+        self
+    }
+
     pub fn meet(to: u8, about: u8, level: u8) -> Message {
         Message::new(Kind::Meet, to, about, level, Side::Left)
     }

@@ -402,16 +402,9 @@ impl Writer {
         }
     }
 
-    fn altered(&mut self, mut message: Message) -> Message {
+    fn altered(&mut self, message: Message) -> Message {
         let any = self.any_message();
-        match self.random.below(5) {
-            0 => message.kind = any.kind,
-            1 => message.to = any.to,
-            2 => message.about = any.about,
-            3 => message.level = any.level,
-            _ => message.side = any.side,
-        }
-        message
+        message.with_number_of(any, self.random.below(5))
     }
 
     fn some_level(&mut self) -> u8 {

@@ -28,7 +28,8 @@ fn on_side(d: usize, a: u64, b: u64) -> bool
 
 // Whether seat y may be the link of the lot on seat x at level k on side d. That y is another seat shows by its number.
 fn may_link(rec: &[u8], numbers: &[u64; SEATS], x: usize, k: usize, d: usize, y: usize) -> bool
-    requires { ⌜ (length (now rec) ≡ size) × HasNumbers (now rec) (now numbers) × (x < seats) × (y < seats) × (seated (rosterIn (now rec)) x ≡ true) ⌝ }
+    requires { ⌜ (length (now rec) ≡ size) × HasNumbers (now rec) (now numbers) × (x < seats) × (y < seats)
+        × (seated (rosterIn (now rec)) x ≡ true) ⌝ }
     ensures { λ r. ⌜ r ≡ linkOk width (rosterIn (now (rec .entry))) x k (sideOfNumber d) y ⌝ }
 {
     is_seated(rec, y) && (shares(rec, k, x, y) && on_side(d, numbers[x], numbers[y]))
@@ -36,7 +37,8 @@ fn may_link(rec: &[u8], numbers: &[u64; SEATS], x: usize, k: usize, d: usize, y:
 
 // The link of the lot on seat x at level k on side d.
 fn link_fits(rec: &[u8], numbers: &[u64; SEATS], x: usize, k: usize, d: usize) -> bool
-    requires { ⌜ (length (now rec) ≡ size) × HasNumbers (now rec) (now numbers) × (x < seats) × (k < levels) × (d < 2) × (seated (rosterIn (now rec)) x ≡ true) ⌝ }
+    requires { ⌜ (length (now rec) ≡ size) × HasNumbers (now rec) (now numbers) × (x < seats) × (k < levels) × (d < 2)
+        × (seated (rosterIn (now rec)) x ≡ true) ⌝ }
     ensures { λ r. ⌜ r ≡ linkFits (now (rec .entry)) x k (sideOfNumber d) ⌝ }
 {
     let b = record::link(rec, x, k, d);
@@ -49,7 +51,8 @@ fn link_fits(rec: &[u8], numbers: &[u64; SEATS], x: usize, k: usize, d: usize) -
 
 // Both links of the lot on seat x at level k.
 fn level_fits(rec: &[u8], numbers: &[u64; SEATS], x: usize, k: usize) -> bool
-    requires { ⌜ (length (now rec) ≡ size) × HasNumbers (now rec) (now numbers) × (x < seats) × (k < levels) × (seated (rosterIn (now rec)) x ≡ true) ⌝ }
+    requires { ⌜ (length (now rec) ≡ size) × HasNumbers (now rec) (now numbers) × (x < seats) × (k < levels)
+        × (seated (rosterIn (now rec)) x ≡ true) ⌝ }
     ensures { λ r. ⌜ r ≡ linkFits (now (rec .entry)) x k left && linkFits (now (rec .entry)) x k right ⌝ }
 {
     link_fits(rec, numbers, x, k, 0) && link_fits(rec, numbers, x, k, 1)
@@ -57,7 +60,8 @@ fn level_fits(rec: &[u8], numbers: &[u64; SEATS], x: usize, k: usize) -> bool
 
 // All links of the lot on seat x.
 fn lot_fits(rec: &[u8], numbers: &[u64; SEATS], x: usize) -> bool
-    requires { ⌜ (length (now rec) ≡ size) × HasNumbers (now rec) (now numbers) × (x < seats) × (seated (rosterIn (now rec)) x ≡ true) ⌝ }
+    requires { ⌜ (length (now rec) ≡ size) × HasNumbers (now rec) (now numbers) × (x < seats)
+        × (seated (rosterIn (now rec)) x ≡ true) ⌝ }
     ensures { λ r. ⌜ r ≡ all levels (λ k. linkFits (now (rec .entry)) x k left && linkFits (now (rec .entry)) x k right) ⌝ }
 {
     for k in 0..LEVELS {
