@@ -1,5 +1,7 @@
 -- Why the soundness test says what its clauses say.
 pub mod Numbers
+pub mod Buckets
+pub mod Kept
 pub mod Unlinked
 pub mod LinkByte
 pub mod Refusal

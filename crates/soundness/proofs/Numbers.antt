@@ -1,56 +1,38 @@
--- The numbers of the seats: an array that a loop fills, and two lots that do not have one number. Assumes nothing.
-use Prim.Native.Nat.{ℕ, _+_, _<_}
-use mathlib.Core.Path.{_≡_, refl, sym, _∙_}
-use mathlib.Core.Logic.{⊎-elim}
-use mathlib.Core.Bool.{Bool, true, false, not, _&&_}
+-- That numbers differ: of one seat and those below it, and of all seats. Assumes nothing.
+use Prim.Native.Nat.{ℕ, zero, suc}
+use mathlib.Core.Path.{_≡_, refl, _∙_}
+use mathlib.Core.Bool.{Bool, true, false, not, _&&_, _||_}
 use mathlib.Core.List.{List}
-use native.Mathlib.Omega.{arith}
-use lib.Dec.{eqb}
-use lib.ListN.{length, getD, set}
-use lib.Seq.{getD-set-same, getD-set-other}
-use borrow.Author.Tests.{eq-eqb, ne-eqb}
 use Rattle.memory.specs.Loops.{all}
-use Rattle.memory.proofs.Cases.{eq-or-ne, and-true}
-use Rattle.memory.proofs.All.{all-from}
-use Rattle.graph.proofs.Tests.{true-T}
+use Rattle.memory.proofs.All.{all-from, all-same, all-and}
 use Rattle.protocol.specs.Numbering.{any}
 use Rattle.protocol.specs.State.{seated}
-use Rattle.protocol.proofs.Any.{any-none}
 use Rattle.record.specs.Layout.{seats}
 use Rattle.record.specs.Meaning.{rosterIn}
-use Rattle.soundness.specs.Parts.{HasNumbers, differ}
+use Rattle.record.specs.Sound.{numbersDiffer}
+use Rattle.soundness.specs.Parts.{differ, seatFits}
+use Rattle.soundness.specs.Buckets.{sameNumber}
 
--- the first i elements are those of f, and one more is stored
-pub fill-more : (l : List ℕ) (i v : ℕ) (f : ℕ → ℕ) → i < length l → ((j : ℕ) → j < i → getD l j 0 ≡ f j) → v ≡ f i
-    → (j : ℕ) → j < i + 1 → getD (set l i v) j 0 ≡ f j
-fill-more l i v f h a e j p = ⊎-elim
-    (λ q. rw q (getD-set-same l i v 0 h ∙ e))
-    (λ ne. getD-set-other l i j v 0 ne ∙ a j (omega (arith, ne)))
-    (eq-or-ne j i)
+none-all : (n : ℕ) (p : ℕ → Bool) → all n (λ y. not (p y)) ≡ not (any n p)
+unfolding all any
+none-all zero p = refl
+none-all (suc n) p = rw (none-all n p) (by (any n p) (p n))
+  where
+    by : (a b : Bool) → not a && not b ≡ not (b || a)
+    by true true = refl
+    by true false = refl
+    by false true = refl
+    by false false = refl
 
-and-none : (b : Bool) → b && false ≡ false
-and-none true = refl
-and-none false = refl
+-- a lot and every seat below it, by the search for its number; a free seat
+module _ (l : List ℕ) (s : ℕ) where
+  pub all-differ : seated (rosterIn l) s ≡ true → all s (differ l s) ≡ not (any s (sameNumber l s))
+  all-differ t = all-same s (differ l s) (λ y. not (sameNumber l s y)) (λ y h. rw t) ∙ none-all s (sameNumber l s)
 
--- by their numbers, by the first, and where those say nothing by the second
-module _ (l : List ℕ) (x y : ℕ) where
-  pub differ-numbers : (rosterIn l .number x ≡ rosterIn l .number y → ⊥) → true ≡ differ l x y
-  differ-numbers ne = rw (ne-eqb _ _ ne, and-none (seated (rosterIn l) y), and-none (seated (rosterIn l) x))
+  pub free-differs : seated (rosterIn l) s ≡ false → all s (differ l s) ≡ true
+  free-differs f = all-from s (differ l s) (λ y h. rw f)
 
-  pub differ-first : seated (rosterIn l) x ≡ false → true ≡ differ l x y
-  differ-first f = rw f
-
-  pub differ-second : seated (rosterIn l) x ≡ true → rosterIn l .number x ≡ rosterIn l .number y
-      → not (seated (rosterIn l) y) ≡ differ l x y
-  differ-second t e = rw (t, eq-eqb _ _ e, and-true (seated (rosterIn l) y))
-
--- x with every seat below it, by the first alone or by their numbers
-module _ (l : List ℕ) (x : ℕ) where
-  pub all-first : seated (rosterIn l) x ≡ false → true ≡ all x (differ l x)
-  all-first f = sym (all-from x (differ l x) (λ y h. sym (differ-first l x y f)))
-
-  -- a has the numbers
-  pub all-numbers : (a : List ℕ) → HasNumbers l a → x < seats → any x (λ y. eqb (getD a y 0) (getD a x 0)) ≡ false → true ≡ all x (differ l x)
-  all-numbers a n g e = sym (all-from x (differ l x) (λ y h. sym (differ-numbers l x y (λ q.
-      any-none x (λ y. eqb (getD a y 0) (getD a x 0)) e y h
-      (true-T (eq-eqb (getD a y 0) (getD a x 0) (n y (omega arith) ∙ sym q ∙ sym (n x g))))))))
+-- the clauses of the seats and that on numbers, seat by seat
+pub seat-clauses : (l : List ℕ) → all seats (λ s. seatFits l s && all s (differ l s)) ≡ all seats (seatFits l) && numbersDiffer l
+unfolding numbersDiffer
+seat-clauses l = all-and seats (seatFits l) (λ s. all s (differ l s))

@@ -1,7 +1,7 @@
--- Parts of the clauses of record's specs/Sound.antt that have no name there, and the numbers of all seats in an array. Assumes nothing.
+-- Parts of the clauses of record's specs/Sound.antt that have no name there, and the numbers of all lots in an array. Assumes nothing.
 use Prim.Native.Nat.{ℕ, _<_}
 use mathlib.Core.Path.{_≡_}
-use mathlib.Core.Bool.{Bool, not, _&&_, _||_}
+use mathlib.Core.Bool.{Bool, true, not, _&&_, _||_}
 use mathlib.Core.List.{List}
 use lib.Dec.{eqb, ltb}
 use lib.ListN.{getD}
@@ -12,9 +12,9 @@ use Rattle.record.specs.Layout.{seats, noLink, stateAt, linkAt}
 use Rattle.record.specs.Meaning.{rosterIn}
 use Rattle.record.specs.Sound.{phaseFits, asOpened, numbersDiffer, linksFit}
 
--- a has the number of each seat
+-- a has the number of each lot
 abbrev pub HasNumbers : (l a : List ℕ) → Type 0
-HasNumbers l a = (s : ℕ) → s < seats → getD a s 0 ≡ rosterIn l .number s
+HasNumbers l a = (s : ℕ) → s < seats → seated (rosterIn l) s ≡ true → getD a s 0 ≡ rosterIn l .number s
 
 -- seat s has no link at level k
 abbrev pub unlinked : (l : List ℕ) (s k : ℕ) → Bool

@@ -1,13 +1,19 @@
-// Phase and entries: the clauses of soundness that name no link of a seated lot and no message.
+// Phase, states, entries of free seats, and numbers: the clauses of soundness that name no link of a seated lot and no message. That numbers
+// differ is found out without comparing all pairs: lots whose numbers have one remainder stand in one bucket, and each new lot is compared
+// with those of its bucket, the last one first.
 ghost use mathlib.Core.Path.{_≡_};
-ghost use Prim.Native.Nat.{_<_};
-ghost use lib.Dec.{eqb};
-ghost use lib.ListN.{length, getD};
+ghost use mathlib.Core.Bool.{true, false, _&&_};
+ghost use Prim.Native.Nat.{ℕ, _+_, _%_, _≤_, _<_};
+ghost use lib.Dec.{leb};
+ghost use lib.ListN.{length};
 ghost use Rattle.memory.specs.Loops.{all};
 ghost use Rattle.protocol.specs.Numbering.{any};
+ghost use Rattle.protocol.specs.State.{seated};
 ghost use Rattle.record.specs.Layout.{seats, levels, size};
+ghost use Rattle.record.specs.Meaning.{rosterIn};
 ghost use Rattle.record.specs.Sound.{phaseFits, asOpened, numbersDiffer};
 ghost use Rattle.soundness.specs.Parts.{HasNumbers, unlinked, differ, seatFits};
+ghost use Rattle.soundness.specs.Buckets.{buckets, sameNumber, Kept};
 use record::ENTRIES;
 use record::ENTRY;
 use record::LEVELS;
@@ -19,6 +25,12 @@ use roster::is_seated;
 const PHASES: u8 = 2;
 
 const STATES: u8 = 3;
+
+// How many buckets there are.
+const BUCKETS: usize = 512;
+
+// What says that a seat does not pass, where else the seats up to the last lot are counted.
+const NOT_FIT: usize = SEATS + 1;
 
 pub fn phase_fits(rec: &[u8]) -> bool
     requires { ⌜ length (now rec) ≡ size ⌝ }
@@ -43,100 +55,113 @@ fn as_opened(rec: &[u8], s: usize) -> bool
     record::number(rec, s) == 0 && (record::vector(rec, s) == 0 && no_links(rec, s))
 }
 
-// The clauses of one seat: its state, and if it is free its entry.
-fn seat_fits(rec: &[u8], s: usize) -> bool
-    requires { ⌜ (length (now rec) ≡ size) × (s < seats) ⌝ }
-    ensures { λ r. ⌜ r ≡ seatFits (now (rec .entry)) s ⌝ }
+// The bucket of a number.
+fn bucket(n: u64) -> usize
+    ensures { λ r. ⌜ (r ≡ n % buckets) × (r < buckets) ⌝ }
 {
-    record::state(rec, s) < STATES && (is_seated(rec, s) || as_opened(rec, s))
+    (n % (BUCKETS as u64)) as usize
 }
 
-pub fn seats_fit(rec: &[u8]) -> bool
-    requires { ⌜ length (now rec) ≡ size ⌝ }
-    ensures { λ r. ⌜ r ≡ all seats (seatFits (now (rec .entry))) ⌝ }
+// Whether a lot below seat s has its number: along the lots of its bucket.
+fn repeats(
+    rec: &[u8],
+    numbers: &[u64; SEATS],
+    last: &[u8; BUCKETS],
+    before: &[u8; SEATS],
+    s: usize,
+) -> bool
+    requires { ⌜ (length (now rec) ≡ size) × (s < seats) × Kept (now rec) s (now numbers) (now last) (now before) ⌝ }
+    ensures { λ r. ⌜ r ≡ any s (sameNumber (now (rec .entry)) s) ⌝ }
 {
+    let n = record::number(rec, s);
+    let mut y = last[bucket(n)] as usize;
+    while y != 0 {
+        if numbers[y - 1] == n {
+            return true;
+        }
+        y = before[y - 1] as usize;
+    }
+    false
+}
+
+// Puts seat s, with its number, behind the lots of its bucket.
+fn keep(
+    rec: &[u8],
+    numbers: &mut [u64; SEATS],
+    last: &mut [u8; BUCKETS],
+    before: &mut [u8; SEATS],
+    s: usize,
+)
+    requires { ⌜ (length (now rec) ≡ size) × (s < seats) × (seated (rosterIn (now rec)) s ≡ true)
+        × Kept (now rec) s (now numbers) (now last) (now before) ⌝ }
+    ensures { λ _. ⌜ Kept (now (rec .entry)) (s + 1) (now (numbers .exit)) (now (last .exit)) (now (before .exit)) ⌝ }
+{
+    let n = record::number(rec, s);
+    let b = bucket(n);
+    numbers[s] = n;
+    before[s] = last[b];
+    last[b] = (s + 1) as u8;
+}
+
+// Whether no lot below the lot on seat s has its number. It is kept for those above it.
+fn lot_fits(
+    rec: &[u8],
+    numbers: &mut [u64; SEATS],
+    last: &mut [u8; BUCKETS],
+    before: &mut [u8; SEATS],
+    s: usize,
+) -> bool
+    requires { ⌜ (length (now rec) ≡ size) × (s < seats) × (seated (rosterIn (now rec)) s ≡ true)
+        × Kept (now rec) s (now numbers) (now last) (now before) ⌝ }
+    ensures { λ r. ⌜ (let l = now (rec .entry) in (r ≡ all s (differ l s))
+        × (r ≡ true → Kept l (s + 1) (now (numbers .exit)) (now (last .exit)) (now (before .exit)))) ⌝ }
+{
+    if repeats(rec, numbers, last, before, s) {
+        return false;
+    }
+    keep(rec, numbers, last, before, s);
+    true
+}
+
+// The clauses of seat s: its state, and its number or, if it is free, its entry.
+fn seat_fits(
+    rec: &[u8],
+    numbers: &mut [u64; SEATS],
+    last: &mut [u8; BUCKETS],
+    before: &mut [u8; SEATS],
+    s: usize,
+) -> bool
+    requires { ⌜ (length (now rec) ≡ size) × (s < seats) × Kept (now rec) s (now numbers) (now last) (now before) ⌝ }
+    ensures { λ r. ⌜ (let l = now (rec .entry) in (r ≡ seatFits l s && all s (differ l s))
+        × (r ≡ true → Kept l (s + 1) (now (numbers .exit)) (now (last .exit)) (now (before .exit)))) ⌝ }
+{
+    if record::state(rec, s) >= STATES {
+        return false;
+    }
+    if is_seated(rec, s) {
+        return lot_fits(rec, numbers, last, before, s);
+    }
+    as_opened(rec, s)
+}
+
+// The clauses of all seats, and that numbers differ. Leaves the numbers of the lots, and answers how many seats there are up to the last
+// lot, or NOT_FIT.
+pub fn seats_fit(rec: &[u8], numbers: &mut [u64; SEATS]) -> usize
+    requires { ⌜ (length (now rec) ≡ size) × (length (now numbers) ≡ seats) ⌝ }
+    ensures says { λ r. ⌜ leb r seats ≡ all seats (seatFits (now (rec .entry))) && numbersDiffer (now (rec .entry)) ⌝ }
+    ensures numbers { λ r. ⌜ (r ≤ seats → HasNumbers (now (rec .entry)) (now (numbers .exit))) ⌝ }
+    ensures above { λ r. ⌜ ((s : ℕ) → s < seats → r ≤ s → seated (rosterIn (now (rec .entry))) s ≡ false) ⌝ }
+{
+    let mut last = [0u8; BUCKETS];
+    let mut before = [0u8; SEATS];
+    let mut top: usize = 0;
     for s in 0..SEATS {
-        if !seat_fits(rec, s) {
-            return false;
+        if !seat_fits(rec, numbers, &mut last, &mut before, s) {
+            return NOT_FIT;
+        }
+        if is_seated(rec, s) {
+            top = s + 1;
         }
     }
-    true
-}
-
-// The numbers of all seats, read once for the tests that compare them.
-pub fn numbers_of(rec: &[u8]) -> [u64; SEATS]
-    requires { ⌜ length (now rec) ≡ size ⌝ }
-    ensures { λ r. ⌜ HasNumbers (now (rec .entry)) r ⌝ }
-{
-    let mut numbers = [0u64; SEATS];
-    for s in 0..SEATS {
-        numbers[s] = record::number(rec, s);
-    }
-    numbers
-}
-
-// Whether x and y are not two seated lots with one number. The numbers come first: they differ nearly always.
-fn pair_differs(rec: &[u8], numbers: &[u64; SEATS], x: usize, y: usize) -> bool
-    requires { ⌜ (length (now rec) ≡ size) × HasNumbers (now rec) (now numbers) × (x < seats) × (y < seats) ⌝ }
-    ensures { λ r. ⌜ r ≡ differ (now (rec .entry)) x y ⌝ }
-{
-    if numbers[x] != numbers[y] {
-        return true;
-    }
-    if !is_seated(rec, x) {
-        return true;
-    }
-    !is_seated(rec, y)
-}
-
-// Whether no seated lot below x is a second one with its number.
-fn pairs_differ(rec: &[u8], numbers: &[u64; SEATS], x: usize) -> bool
-    requires { ⌜ (length (now rec) ≡ size) × HasNumbers (now rec) (now numbers) × (x < seats) ⌝ }
-    ensures { λ r. ⌜ r ≡ all x (differ (now (rec .entry)) x) ⌝ }
-{
-    for y in 0..x {
-        if !pair_differs(rec, numbers, x, y) {
-            return false;
-        }
-    }
-    true
-}
-
-// Whether seat x has the number of a seat below it, free ones too. All are looked at, so that several can be compared at once.
-fn repeats(numbers: &[u64; SEATS], x: usize) -> bool
-    requires { ⌜ x < seats ⌝ }
-    ensures { λ r. ⌜ r ≡ any x (λ y. eqb (getD (now (numbers .entry)) y 0) (getD (now (numbers .entry)) x 0)) ⌝ }
-{
-    let n = numbers[x];
-    let mut found = false;
-    for y in 0..x {
-        found = found | (numbers[y] == n);
-    }
-    found
-}
-
-// Whether x is free, or no seated lot below x has its number.
-fn number_differs(rec: &[u8], numbers: &[u64; SEATS], x: usize) -> bool
-    requires { ⌜ (length (now rec) ≡ size) × HasNumbers (now rec) (now numbers) × (x < seats) ⌝ }
-    ensures { λ r. ⌜ r ≡ all x (differ (now (rec .entry)) x) ⌝ }
-{
-    if !is_seated(rec, x) {
-        return true;
-    }
-    if !repeats(numbers, x) {
-        return true;
-    }
-    pairs_differ(rec, numbers, x)
-}
-
-pub fn numbers_differ(rec: &[u8], numbers: &[u64; SEATS]) -> bool
-    requires { ⌜ (length (now rec) ≡ size) × HasNumbers (now rec) (now numbers) ⌝ }
-    ensures { λ r. ⌜ r ≡ numbersDiffer (now (rec .entry)) ⌝ }
-{
-    for x in 0..SEATS {
-        if !number_differs(rec, numbers, x) {
-            return false;
-        }
-    }
-    true
+    top
 }

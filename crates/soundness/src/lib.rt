@@ -12,17 +12,22 @@ ghost use Rattle.record.specs.Sound.{numbersDiffer, linksFit, messagesFit};
 mod entries;
 mod links;
 
+use record::SEATS;
 use record::SIZE;
 use record::refusals::UNSOUND;
 use record::refusals::WRONG_SIZE;
 
-// The clauses on numbers and links. The numbers are read once.
+// The clauses on seats, numbers and links.
 fn lots_fit(rec: &[u8]) -> bool
-    requires { ⌜ (length (now rec) ≡ size) × (all seats (seatFits (now rec)) ≡ true) ⌝ }
-    ensures { λ r. ⌜ r ≡ numbersDiffer (now (rec .entry)) && linksFit (now (rec .entry)) ⌝ }
+    requires { ⌜ length (now rec) ≡ size ⌝ }
+    ensures { λ r. ⌜ (let l = now (rec .entry) in r ≡ all seats (seatFits l) && (numbersDiffer l && linksFit l)) ⌝ }
 {
-    let numbers = entries::numbers_of(rec);
-    entries::numbers_differ(rec, &numbers) && links::links_fit(rec, &numbers)
+    let mut numbers = [0u64; SEATS];
+    let top = entries::seats_fit(rec, &mut numbers);
+    if top > SEATS {
+        return false;
+    }
+    links::links_fit(rec, &numbers, top)
 }
 
 // All clauses but that of the messages.
@@ -30,7 +35,7 @@ fn entries_fit(rec: &[u8]) -> bool
     requires { ⌜ length (now rec) ≡ size ⌝ }
     ensures { λ r. ⌜ r ≡ entriesFit (now (rec .entry)) ⌝ }
 {
-    entries::phase_fits(rec) && (entries::seats_fit(rec) && lots_fit(rec))
+    entries::phase_fits(rec) && lots_fit(rec)
 }
 
 // The refusal of a record of the right size: 2 unsound, or 0. Where the caller knows that nothing is pending, the messages are not looked at.

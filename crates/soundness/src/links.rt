@@ -1,7 +1,7 @@
 // Links: each is none, or names another seated lot on its own side that shares the level's bits.
 ghost use mathlib.Core.Path.{_≡_};
-ghost use mathlib.Core.Bool.{true, _&&_};
-ghost use Prim.Native.Nat.{_<_};
+ghost use mathlib.Core.Bool.{true, false, _&&_};
+ghost use Prim.Native.Nat.{ℕ, _≤_, _<_};
 ghost use lib.ListN.{length};
 ghost use Rattle.memory.specs.Loops.{all};
 ghost use Rattle.graph.specs.Side.{left, right, onSide};
@@ -83,11 +83,13 @@ fn seat_fits(rec: &[u8], numbers: &[u64; SEATS], x: usize) -> bool
     lot_fits(rec, numbers, x)
 }
 
-pub fn links_fit(rec: &[u8], numbers: &[u64; SEATS]) -> bool
-    requires { ⌜ (length (now rec) ≡ size) × HasNumbers (now rec) (now numbers) × (all seats (seatFits (now rec)) ≡ true) ⌝ }
+// All links: those of the first `top` seats, above which no lot sits.
+pub fn links_fit(rec: &[u8], numbers: &[u64; SEATS], top: usize) -> bool
+    requires { ⌜ (length (now rec) ≡ size) × HasNumbers (now rec) (now numbers) × (all seats (seatFits (now rec)) ≡ true) × (top ≤ seats)
+        × ((s : ℕ) → s < seats → top ≤ s → seated (rosterIn (now rec)) s ≡ false) ⌝ }
     ensures { λ r. ⌜ r ≡ linksFit (now (rec .entry)) ⌝ }
 {
-    for x in 0..SEATS {
+    for x in 0..top {
         if !seat_fits(rec, numbers, x) {
             return false;
         }

@@ -33,7 +33,8 @@ returns : tie.Need-returns
 returns c =
     let r = c .before .before .before .before .before .before .before .before in
     let n = r .pre .1 in
-    let e = ap₂ (onSide (sideOfNumber (r .args .d))) (n (r .args .x) (search needs)) (n (r .args .y) (search needs)) in
+    let seated = sym (c .before .before .before .before .before .before .is-seated .ensures) ∙ c .before .before .before .before .before .if1 .taken in
+    let e = ap₂ (onSide (sideOfNumber (r .args .d))) (n (r .args .x) (search needs) (r .pre .4)) (n (r .args .y) (search needs) seated) in
     and-go (c .before .before .before .before .before .before .is-seated .ensures) (c .before .before .before .before .before .if1 .taken)
     (and-go (c .before .before .before .before .shares .ensures) (c .before .before .before .if2 .taken) (c .on-side .ensures ∙ e))
     ∙ sym (link-ok _ _ _ _ _ (r .pre .4))
