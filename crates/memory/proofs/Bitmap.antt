@@ -1,19 +1,21 @@
--- Bitmaps in bytes: a bit after one was set or cleared, other bytes, and a byte as its eight bits. Assumes nothing.
-use Prim.Native.Nat.{ℕ, _+_, _*_, _/_, _%_, _≤_, _<_}
+-- Bitmaps in bytes: a bit after one was set or cleared, other bytes, and bytes as their bits. Assumes nothing.
+use Prim.Native.Nat.{ℕ, _+_, _*_, _/_, _%_, _^_, _≤_, _<_}
 use mathlib.Core.Path.{_≡_, sym, ap, _∙_}
 use mathlib.Core.Logic.{_⊎_, ⊎-elim}
 use mathlib.Core.Bool.{Bool}
 use mathlib.Core.List.{List}
 use native.Mathlib.Omega.{arith}
-use native.Mathlib.Nat.{div-add-mod'}
+use native.Mathlib.Nat.{div-add-mod', mul-comm}
+use lib.Bits.{bitOr, or-shifted-r}
 use lib.ListN.{length, getD, set, length-set}
+use lib.Pow.{shl-exact}
 use lib.Seq.{getD-set-same, getD-set-other, set-getD, set-out}
 use Rattle.memory.specs.Bytes.{AreBytes, putNumber}
 use Rattle.memory.specs.Bits.{hasBit, withBit, packed, bitSet, putBit}
 use Rattle.memory.proofs.Cases.{lt-or-ge, eq-or-ne}
 use Rattle.memory.proofs.Bytes.{bytes-set, getD-putNumber-other}
 use Rattle.memory.proofs.Bits.{hasBit-withBit, hasBit-withBit-other, withBit-lt, withBit-hasBit}
-use Rattle.memory.proofs.Packed.{packed-is, packed-bits}
+use Rattle.memory.proofs.Packed.{packed-is, packed-bits, packed-lt, packed-append}
 
 -- a bit is of its own byte alone
 pub bitSet-agrees : (l m : List ℕ) (base i : ℕ) → getD l (base + i / 8) 0 ≡ getD m (base + i / 8) 0 → bitSet l base i ≡ bitSet m base i
@@ -45,6 +47,16 @@ bitSet-from l base b j =
 pub byte-packed : (l : List ℕ) (base b : ℕ) → AreBytes l → getD l (base + b) 0 ≡ packed 8 (λ j. bitSet l base (b * 8 + j))
 byte-packed l base b h =
     sym (packed-is 8 (getD l (base + b) 0) (λ j. bitSet l base (b * 8 + j)) (h (base + b)) (λ j q. sym (bitSet-byte l base b j q)))
+
+-- byte i of n joined to the bits before it: code's or with the shifted byte
+pub or-byte : (l : List ℕ) (base n i : ℕ) → AreBytes l → i < n
+    → bitOr (packed (8 * i) (bitSet l base)) ((getD l (base + i) 0 * 2 ^ (8 * i)) % 2 ^ (8 * n)) ≡ packed (8 * (i + 1)) (bitSet l base)
+or-byte l base n i b h =
+    let x = getD l (base + i) 0 in
+    let e : 8 * (i + 1) ≡ 8 * i + 8 = omega arith in
+    let whole : (x * 2 ^ (8 * i)) % 2 ^ (8 * n) ≡ x * 2 ^ (8 * i) = shl-exact 8 (8 * i) (8 * n) (b (base + i)) (omega arith) in
+    rw (whole, or-shifted-r x (8 * i) (packed (8 * i) (bitSet l base)) (packed-lt (8 * i) (bitSet l base)), e, packed-append)
+    (ap (λ (y : ℕ). y * 2 ^ (8 * i) + packed (8 * i) (bitSet l base)) (simp (mul-comm i 8) at (byte-packed l base i b)))
 
 -- a bit of a byte that was made of its bits
 pub bitSet-packed : (l : List ℕ) (base i : ℕ) (p : ℕ → Bool) → getD l (base + i / 8) 0 ≡ packed 8 (λ j. p (i / 8 * 8 + j))

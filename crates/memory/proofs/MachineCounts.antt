@@ -1,17 +1,20 @@
 -- The machine's counts of a number's bits: the trailing zeros are the first set bit, the ones the count of set bits. Assumes nothing.
 use Prim.Native.Nat.{ℕ, zero, suc, _+_, _-_, _/_, _%_, _^_, _≤_, _<_}
 use mathlib.Core.Path.{_≡_, refl, sym, ap, _∙_}
-use mathlib.Core.Bool.{true, false}
+use mathlib.Core.Logic.{⊎-elim}
+use mathlib.Core.Bool.{Bool, true, false}
 use native.Mathlib.Omega.{arith}
 use native.Mathlib.Nat.{suc-add, pow-suc}
 use native.Mathlib.Numerals.{one-add}
 use lib.Count.{ones, ones-step, ones-le, trailingZeros, trailing-of-zero, under}
 use lib.Pow.{shr-lt}
 use Rattle.memory.specs.Loops.{firstFrom, count}
-use Rattle.memory.specs.Bits.{hasBit}
+use Rattle.memory.specs.Bits.{hasBit, packed}
+use Rattle.memory.proofs.Cases.{lt-or-ge}
 use Rattle.memory.proofs.Bits.{bitOf-zero, oneIf-hasBit, hasBit-is, hasBit-shr}
-use Rattle.memory.proofs.First.{first-same, first-shift}
+use Rattle.memory.proofs.First.{first, first-same, first-shift}
 use Rattle.memory.proofs.Count.{count-append, count-more, count-none, count-same}
+use Rattle.memory.proofs.Packed.{packed-lt, packed-bits, packed-none}
 
 -- the first of the lowest n bits that is set
 pub trailing-first : (n x : ℕ) → trailingZeros n x ≡ firstFrom n 0 (hasBit x)
@@ -71,3 +74,17 @@ module _ (n k x : ℕ) (within : k ≤ n) (fits : x < 2 ^ n) where
 
   pub first-of-none : x / 2 ^ k ≡ 0 → firstFrom (n - k) k (hasBit x) ≡ n
   first-of-none e = shifted ∙ rw (e, trailing-of-zero) (omega arith)
+
+-- the trailing zeros of a word of w bits that is made of n bits, of which one is set
+module _ (w n : ℕ) (p : ℕ → Bool) (within : n ≤ w) (some : packed n p ≡ 0 → ⊥) where
+  pub trailing-packed : trailingZeros w (packed n p) ≡ firstFrom n 0 p
+  trailing-packed =
+      let e : n + (w - n) ≡ w = omega arith in
+      sym (rw e at (sym (trailing-fits n (w - n) (packed n p) (omega (arith, some)) (packed-lt n p))))
+      ∙ trailing-first n (packed n p)
+      ∙ first-same n 0 (hasBit (packed n p)) p (λ j a b. packed-bits n p j (omega arith))
+
+  pub first-set : firstFrom n 0 p < n
+  first-set =
+      ⊎-elim (λ q. q) (λ q. absurd (some (packed-none n p (λ j h. first n 0 p .before j (omega arith) (omega arith)))))
+      (lt-or-ge (firstFrom n 0 p) n)

@@ -1,14 +1,15 @@
--- A number made of its bits, and that a number is determined by them. Assumes nothing.
+-- A number made of its bits: that it is determined by them, bits joined above others, and the lowest shifted off. Assumes nothing.
 use Prim.Native.Nat.{ℕ, zero, suc, _+_, _*_, _/_, _^_, _<_}
 use mathlib.Core.Path.{_≡_, refl, sym, ap, _∙_}
-use mathlib.Core.Bool.{Bool}
+use mathlib.Core.Bool.{Bool, false}
 use native.Mathlib.Omega.{arith}
-use native.Mathlib.Nat.{pow-suc}
+use native.Mathlib.Nat.{zero-add, suc-add, mul-assoc, pow-suc}
 use lib.Dec.{eqb}
+use lib.Pow.{pow-pos, high}
 use Rattle.memory.specs.Loops.{oneIf}
 use Rattle.memory.specs.Bits.{bitOf, hasBit, packed}
 use Rattle.memory.proofs.Count.{oneIf-le}
-use Rattle.memory.proofs.Bits.{bitOf-zero, bitOf-suc, oneIf-hasBit, hasBit-is}
+use Rattle.memory.proofs.Bits.{bitOf-zero, bitOf-suc, oneIf-hasBit, hasBit-is, hasBit-none}
 
 pub packed-lt : (n : ℕ) (p : ℕ → Bool) → packed n p < 2 ^ n
 unfolding packed
@@ -48,3 +49,22 @@ packed-is n x p h f = packed-same n p (hasBit x) (λ j l. sym (f j l)) ∙ packe
 -- two numbers with the same bits are one
 pub bits-same : (n x y : ℕ) → x < 2 ^ n → y < 2 ^ n → ((j : ℕ) → j < n → hasBit x j ≡ hasBit y j) → x ≡ y
 bits-same n x y h k f = sym (packed-is n x (hasBit y) h f) ∙ packed-of n y k
+
+-- a number made of bits is 0 exactly if none is set
+pub packed-zero : (n : ℕ) (p : ℕ → Bool) → packed n p ≡ 0 → (j : ℕ) → j < n → p j ≡ false
+packed-zero n p e j h = sym (packed-bits n p j h) ∙ rw e (hasBit-none j)
+
+pub packed-none : (n : ℕ) (p : ℕ → Bool) → ((j : ℕ) → j < n → p j ≡ false) → packed n p ≡ 0
+packed-none n p h = packed-is n 0 p (pow-pos n) (λ j l. hasBit-none j ∙ sym (h j l))
+
+-- n bits above m bits, and the bits that a shift leaves
+pub packed-append : (m n : ℕ) (p : ℕ → Bool) → packed (m + n) p ≡ packed n (λ j. p (m + j)) * 2 ^ m + packed m p
+unfolding packed
+packed-append zero n p = simp zero-add (omega arith)
+packed-append (suc m) n p =
+    let ih = packed-append m n (λ j. p (suc j)) in
+    let x = packed n (λ j. p (suc (m + j))) in
+    simp (suc-add, pow-suc) (omega (arith, mul-assoc x (2 ^ m) 2))
+
+pub packed-shr : (m n : ℕ) (p : ℕ → Bool) → packed (m + n) p / 2 ^ m ≡ packed n (λ j. p (m + j))
+packed-shr m n p = rw packed-append (high (packed n (λ j. p (m + j))) m (packed-lt m p))

@@ -5,7 +5,7 @@ ghost use Prim.Native.Nat.{_+_, _-_, _*_, _/_, _%_, _≤_, _<_};
 ghost use lib.ListN.{length};
 ghost use Rattle.memory.specs.Loops.{firstFrom, count as countOf};
 ghost use Rattle.memory.specs.Bytes.{numberAt, putNumber, digit, nonZero, zeros, fulls};
-ghost use Rattle.memory.specs.Bits.{hasBit, bitSet, setBit, clearBit};
+ghost use Rattle.memory.specs.Bits.{hasBit, packed, bitSet, setBit, clearBit};
 
 // The bits of a byte.
 const BITS: usize = 8;
@@ -36,6 +36,18 @@ pub fn number(rec: &[u8], at: usize) -> u64
     let mut n: u64 = 0;
     for i in 0..WIDTH {
         n = n | (wide(rec[at + i]) << (BITS * (LAST - i)));
+    }
+    n
+}
+
+// The 8 bytes from `at` on as one number, the lowest byte first: its bit i is bit i of the bitmap at `at`.
+pub fn word(rec: &[u8], at: usize) -> u64
+    requires { ⌜ at + 8 ≤ length (now rec) ⌝ }
+    ensures { λ r. ⌜ r ≡ packed 64 (bitSet (now (rec .entry)) at) ⌝ }
+{
+    let mut n: u64 = 0;
+    for i in 0..WIDTH {
+        n = n | (wide(rec[at + i]) << (BITS * i));
     }
     n
 }

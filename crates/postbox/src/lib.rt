@@ -1,16 +1,16 @@
 // Pending messages: each names seated lots, fits its kind and stands in its kind's phase. Only the set bits are looked at.
 ghost use mathlib.Core.Path.{_≡_};
 ghost use mathlib.Core.Bool.{Bool};
-ghost use Prim.Native.Nat.{_≤_, _<_};
+ghost use Prim.Native.Nat.{_*_, _≤_, _<_};
 ghost use lib.ListN.{length};
 ghost use Rattle.graph.specs.Side.{Side};
 ghost use Rattle.graph.specs.Vector.{width};
 ghost use Rattle.protocol.specs.Message.{meet, probe, pull, going, seek, found, none-found};
-ghost use Rattle.protocol.specs.Numbering.{messageAt};
 ghost use Rattle.protocol.specs.Sound.{messageOk};
 ghost use Rattle.record.specs.Layout.{seats, messages, size};
 ghost use Rattle.record.specs.Meaning.{rosterIn};
 ghost use Rattle.record.specs.Sound.{messagesFit};
+ghost use Rattle.postbox.specs.Pending.{fits, placesPass};
 use record::LEVELS;
 use record::MESSAGES;
 use record::PENDING;
@@ -29,6 +29,11 @@ const PROBES: usize = SEATS * SEATS * WIDTH;
 const PULLS: usize = SEATS * 2 * WIDTH * 2;
 
 const GOINGS: usize = SEATS * LEVELS * 2;
+
+// How many messages are looked at together: the bits of a word, and its bytes.
+const WORD: usize = 64;
+
+const WORD_BYTES: usize = WORD / 8;
 
 fn meet_fits(rec: &[u8], to: usize, about: usize, level: usize) -> bool
     requires { ⌜ (length (now rec) ≡ size) × (to < seats) × (about < seats) ⌝ }
@@ -86,7 +91,7 @@ fn none_fits(rec: &[u8], to: usize, level: usize) -> bool
 // The message at place i: its kind by the block that holds i, its numbers by the digits of its place there.
 fn message_fits(rec: &[u8], i: usize) -> bool
     requires { ⌜ (length (now rec) ≡ size) × (i < messages) ⌝ }
-    ensures { λ r. ⌜ r ≡ messageOk width (rosterIn (now (rec .entry))) (messageAt seats width i) ⌝ }
+    ensures { λ r. ⌜ r ≡ fits (now (rec .entry)) i ⌝ }
 {
     if i < MEETS {
         return meet_fits(rec, i / LEVELS / SEATS, i / LEVELS % SEATS, i % LEVELS);
@@ -115,16 +120,36 @@ fn message_fits(rec: &[u8], i: usize) -> bool
     none_fits(rec, n / 2 / LEVELS, n / 2 % LEVELS)
 }
 
+// Whether the pending messages among the 64 from place 64 * w on fit. Their bits are read once.
+fn word_fits(rec: &[u8], w: usize) -> bool
+    requires { ⌜ (length (now rec) ≡ size) × (64 * w < messages) ⌝ }
+    ensures { λ r. ⌜ r ≡ placesPass (now (rec .entry)) (64 * w) 64 ⌝ }
+{
+    let mut rest = memory::word(rec, PENDING + WORD_BYTES * w);
+    let mut i = WORD * w;
+    while rest != 0 {
+        let z = u64::trailing_zeros(rest) as usize;
+        if !message_fits(rec, i + z) {
+            return false;
+        }
+        i += z + 1;
+        rest = (rest >> z) >> 1;
+    }
+    true
+}
+
+// Whether every pending message fits. Words with none are skipped.
 pub fn messages_fit(rec: &[u8]) -> bool
     requires { ⌜ length (now rec) ≡ size ⌝ }
     ensures { λ r. ⌜ r ≡ messagesFit (now (rec .entry)) ⌝ }
 {
     let mut i = memory::first_bit(rec, PENDING, 0, MESSAGES);
     while i < MESSAGES {
-        if !message_fits(rec, i) {
+        let w = i / WORD;
+        if !word_fits(rec, w) {
             return false;
         }
-        i = memory::first_bit(rec, PENDING, i + 1, MESSAGES);
+        i = memory::first_bit(rec, PENDING, WORD * w + WORD, MESSAGES);
     }
     true
 }

@@ -1,7 +1,6 @@
--- `postbox::messages_fit` meets its contract. The loop's invariant: i is the next pending message, and all before it pass.
--- Assumes nothing.
+-- `postbox::messages_fit` meets its contract. The loop's invariant: the places before i pass. Assumes nothing.
 use borrow.Author.Needs.{needs}
-use Prim.Native.Nat.{_+_, _-_}
+use Prim.Native.Nat.{_+_, _-_, _*_, _/_}
 use mathlib.Core.Path.{sym, _∙_}
 use borrow.Author.Tests.{not-true, not-false}
 use native.Mathlib.Omega.{arith}
@@ -24,14 +23,18 @@ first-bit-requires c κs = search needs
 loop-holds : tie.Need-loop-holds Inv-loop μ-loop
 loop-holds c = rw (c .first-bit .ensures) (next-first (c .before .before .args .rec .now) 0 (search needs) (all-none _))
 
-message-fits-requires : tie.Need-message-fits-requires Inv-loop μ-loop
-message-fits-requires c κs = search needs
+word-fits-requires : tie.Need-word-fits-requires Inv-loop μ-loop
+word-fits-requires c κs = search needs
 
 returns : tie.Need-returns Inv-loop μ-loop
 unfolding messagesFit
 returns c =
-    let fails = sym (c .before .message-fits .ensures) ∙ not-true _ (c .if1 .taken) in
-    sym (next-fails _ (c .before .before .before .loop .inv) (c .before .before .loop-test .taken) fails)
+    let b = c .before .before .before in
+    let fails = sym (c .before .word-fits .ensures) ∙ not-true _ (c .if1 .taken) in
+    sym (next-fails (b .before .before .before .args .rec .now) (64 * (b .loop .i / 64)) 64 (omega arith) fails)
+
+mul-first-bit : tie.Need-mul-first-bit Inv-loop μ-loop
+mul-first-bit c = search needs
 
 add-first-bit : tie.Need-add-first-bit Inv-loop μ-loop
 add-first-bit c = search needs
@@ -41,11 +44,12 @@ first-bit-requires-2 c κs = search needs
 
 -- the place found next
 found-next : (c : tie.After-first-bit2 Inv-loop μ-loop) → let b = c .before .before .before .before in
-    Next (b .before .before .before .args .rec .now) (b .loop .i + 1) (c .first-bit2 .result)
+    Next (b .before .before .before .args .rec .now) (64 * (b .loop .i / 64) + 64) (c .first-bit2 .result)
 found-next c =
     let b = c .before .before .before .before in
-    let ok = sym (c .before .before .message-fits .ensures) ∙ not-false _ (c .before .if1 .left) in
-    rw (c .first-bit2 .ensures) (next-first _ (b .loop .i + 1) (search needs) (next-more _ (b .loop .inv) ok))
+    let from = 64 * (b .loop .i / 64) in
+    let ok = sym (c .before .before .word-fits .ensures) ∙ not-false _ (c .before .if1 .left) in
+    rw (c .first-bit2 .ensures) (next-first _ (from + 64) (search needs) (next-more _ from 64 (b .loop .inv) (search needs) ok))
 
 loop-less : tie.Need-loop-less Inv-loop μ-loop
 loop-less c = omega (arith, found-next c .low)
@@ -65,8 +69,9 @@ messages-fit-spec =
     μ-loop
     first-bit-requires
     loop-holds
-    message-fits-requires
+    word-fits-requires
     returns
+    mul-first-bit
     add-first-bit
     first-bit-requires-2
     loop-less

@@ -1,0 +1,2 @@
+-- The test of the pending messages, place by place.
+pub mod Pending
