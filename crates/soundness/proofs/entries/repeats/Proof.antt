@@ -4,17 +4,14 @@ use borrow.Author.Needs.{needs, fits-under}
 use mir.Syntax.{w64}
 use Prim.Native.Nat.{ℕ, _-_, _%_, _≤_, _<_}
 use mathlib.Core.Path.{_≡_, refl, sym, ap, _∙_}
-use mathlib.Core.Bool.{true, false, _&&_}
 use native.Mathlib.Omega.{arith}
-use lib.Dec.{eqb}
 use lib.ListN.{getD}
 use borrow.Author.Tests.{eq-eqb, ne-eqb}
 use Rattle.protocol.specs.Numbering.{any}
 use Rattle.protocol.proofs.Any.{any-here}
-use Rattle.protocol.specs.State.{seated}
 use Rattle.record.specs.Meaning.{rosterIn}
 use Rattle.roster.proofs.Bytes.{number-bytes}
-use Rattle.soundness.specs.Buckets.{buckets, bucketOf, sameNumber, lastIn, Kept}
+use Rattle.soundness.specs.Buckets.{buckets, bucketOf, sameNumber, lastIn}
 use Rattle.soundness.proofs.Buckets.{LotOf, last-le, last-lot, any-below, any-end}
 use Rattle.soundness.proofs.entries.repeats.Statement.{statement}
 use Rattle.soundness.proofs.entries.repeats.Tie as tie

@@ -2,11 +2,11 @@
 -- them is a lot. Assumes nothing.
 use borrow.Author.Needs.{needs}
 use Prim.Native.Nat.{ℕ, _+_, _≤_, _<_, _-_}
-use mathlib.Core.Path.{_≡_, refl, sym, _∙_}
+use mathlib.Core.Path.{_≡_, sym, _∙_}
 use mathlib.Core.Logic.{⊎-elim}
 use mathlib.Core.Bool.{true, false, _&&_}
 use native.Mathlib.Omega.{arith}
-use borrow.Author.Tests.{not-false, le-leb, lt-leb}
+use borrow.Author.Tests.{not-false, le-leb}
 use Rattle.memory.specs.Loops.{all}
 use Rattle.memory.proofs.All.{all-none}
 use Rattle.protocol.specs.State.{seated}
