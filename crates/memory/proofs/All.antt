@@ -1,10 +1,10 @@
 -- A test of every number below n: the steps of a loop, what it says of each number, and ranges joined and nested. Assumes nothing.
 use Prim.Native.Nat.{ℕ, zero, suc, _+_, _*_, _<_}
-use mathlib.Core.Path.{_≡_, refl}
+use mathlib.Core.Path.{_≡_, refl, _∙_}
 use mathlib.Core.Logic.{⊎-elim}
 use mathlib.Core.Bool.{Bool, true, false, _&&_}
 use native.Mathlib.Omega.{arith}
-use native.Mathlib.Nat.{add-zero, add-suc, suc-mul, zero-mul}
+use native.Mathlib.Nat.{add-zero, add-suc, add-assoc, suc-mul, zero-mul}
 use native.Mathlib.Numerals.{add-one}
 use Rattle.memory.specs.Loops.{all}
 use Rattle.memory.proofs.Cases.{eq-or-ne, and-true, and-assoc, and-left, and-right, and-false}
@@ -58,6 +58,10 @@ pub all-append : (m n : ℕ) (p : ℕ → Bool) → all (m + n) p ≡ all m p &&
 unfolding all
 all-append m zero p = rw (add-zero, and-true)
 all-append m (suc n) p = rw (add-suc, all-append m n p) (and-assoc (all m p) (all n (λ j. p (m + j))) (p (m + n)))
+
+-- the same of ranges from a on
+pub all-range : (a m n : ℕ) (p : ℕ → Bool) → all (m + n) (λ j. p (a + j)) ≡ all m (λ j. p (a + j)) && all n (λ j. p (a + m + j))
+all-range a m n p = all-append m n (λ j. p (a + j)) ∙ simp add-assoc
 
 -- m ranges of n each
 pub all-product : (m n : ℕ) (p : ℕ → Bool) → all (m * n) p ≡ all m (λ i. all n (λ j. p (i * n + j)))

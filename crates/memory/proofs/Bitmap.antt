@@ -7,15 +7,18 @@ use mathlib.Core.List.{List}
 use native.Mathlib.Omega.{arith}
 use native.Mathlib.Nat.{div-add-mod', mul-comm}
 use lib.Bits.{bitOr, or-shifted-r}
+use lib.Dec.{eqb}
 use lib.ListN.{length, getD, set, length-set}
 use lib.Pow.{shl-exact}
 use lib.Seq.{getD-set-same, getD-set-other, set-getD, set-out}
+use Rattle.memory.specs.Loops.{all}
 use Rattle.memory.specs.Bytes.{AreBytes, putNumber}
 use Rattle.memory.specs.Bits.{hasBit, withBit, packed, bitSet, putBit}
 use Rattle.memory.proofs.Cases.{lt-or-ge, eq-or-ne}
+use Rattle.memory.proofs.All.{all-same}
 use Rattle.memory.proofs.Bytes.{bytes-set, getD-putNumber-other}
 use Rattle.memory.proofs.Bits.{hasBit-withBit, hasBit-withBit-other, withBit-lt, withBit-hasBit}
-use Rattle.memory.proofs.Packed.{packed-is, packed-bits, packed-lt, packed-append}
+use Rattle.memory.proofs.Packed.{packed-is, packed-bits, packed-lt, packed-append, packed-parts}
 
 -- a bit is of its own byte alone
 pub bitSet-agrees : (l m : List ℕ) (base i : ℕ) → getD l (base + i / 8) 0 ≡ getD m (base + i / 8) 0 → bitSet l base i ≡ bitSet m base i
@@ -47,6 +50,14 @@ bitSet-from l base b j =
 pub byte-packed : (l : List ℕ) (base b : ℕ) → AreBytes l → getD l (base + b) 0 ≡ packed 8 (λ j. bitSet l base (b * 8 + j))
 byte-packed l base b h =
     sym (packed-is 8 (getD l (base + b) 0) (λ j. bitSet l base (b * 8 + j)) (h (base + b)) (λ j q. sym (bitSet-byte l base b j q)))
+
+-- n bytes as one number are w, whose bits are all b, exactly if each byte is v, whose bits are too
+pub bytes-all : (l : List ℕ) (base n w v : ℕ) (b : Bool) → packed (n * 8) (λ j. b) ≡ w → packed 8 (λ j. b) ≡ v → AreBytes l
+    → eqb (packed (n * 8) (bitSet l base)) w ≡ all n (λ i. eqb (getD l (base + i) 0) v)
+bytes-all l base n w v b e f h =
+    ap (eqb (packed (n * 8) (bitSet l base))) (sym e)
+    ∙ packed-parts n 8 (bitSet l base) (λ j. b)
+    ∙ all-same n _ _ (λ i p. rw (byte-packed l base i h, f))
 
 -- byte i of n joined to the bits before it: code's or with the shifted byte
 pub or-byte : (l : List ℕ) (base n i : ℕ) → AreBytes l → i < n

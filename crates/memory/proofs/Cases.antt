@@ -5,6 +5,8 @@ use mathlib.Core.Logic.{_⊎_, inl, inr}
 use mathlib.Core.Bool.{Bool, true, false, not, _&&_}
 use native.Mathlib.Omega.{arith}
 use native.Mathlib.Decide.{decLt, ℕ-discrete}
+use lib.Dec.{eqb}
+use borrow.Author.Tests.{eq-eqb, eqb-true}
 
 pub lt-or-ge : (a b : ℕ) → (a < b) ⊎ (b ≤ a)
 lt-or-ge a b = by (decLt a b)
@@ -53,3 +55,10 @@ and-right false b e = cc
 pub and-false : (a b : Bool) → b ≡ false → a && b ≡ false
 and-false true b e = e
 and-false false b e = refl
+
+-- a ≡ b exactly if c ≡ d and e ≡ f, as tests
+pub eqb-both : (a b c d e f : ℕ) → (a ≡ b → (c ≡ d) × (e ≡ f)) → (c ≡ d → e ≡ f → a ≡ b) → eqb a b ≡ eqb c d && eqb e f
+eqb-both a b c d e f to from =
+    same-test (eqb a b) (eqb c d && eqb e f)
+    (λ t. let h = to (eqb-true a b t) in rw (eq-eqb c d (h .0), eq-eqb e f (h .1)))
+    (λ t. eq-eqb a b (from (eqb-true c d (and-left (eqb c d) (eqb e f) t)) (eqb-true e f (and-right (eqb c d) (eqb e f) t))))

@@ -1,13 +1,15 @@
--- A number made of its bits: that it is determined by them, bits joined above others, and the lowest shifted off. Assumes nothing.
-use Prim.Native.Nat.{ℕ, zero, suc, _+_, _*_, _/_, _^_, _<_}
+-- A number made of its bits: that they determine it, bits joined above others, the lowest shifted off, a test part by part. Assumes nothing.
+use Prim.Native.Nat.{ℕ, zero, suc, _+_, _*_, _/_, _%_, _^_, _<_}
 use mathlib.Core.Path.{_≡_, refl, sym, ap, _∙_}
-use mathlib.Core.Bool.{Bool, false}
+use mathlib.Core.Bool.{Bool, false, _&&_}
 use native.Mathlib.Omega.{arith}
-use native.Mathlib.Nat.{zero-add, suc-add, mul-assoc, pow-suc}
+use native.Mathlib.Nat.{zero-add, suc-add, zero-mul, suc-mul, mul-assoc, pow-suc}
 use lib.Dec.{eqb}
-use lib.Pow.{pow-pos, high}
-use Rattle.memory.specs.Loops.{oneIf}
+use lib.Pow.{pow-pos, high, low}
+use borrow.Author.Tests.{eq-eqb}
+use Rattle.memory.specs.Loops.{oneIf, all}
 use Rattle.memory.specs.Bits.{bitOf, hasBit, packed}
+use Rattle.memory.proofs.Cases.{eqb-both}
 use Rattle.memory.proofs.Count.{oneIf-le}
 use Rattle.memory.proofs.Bits.{bitOf-zero, bitOf-suc, oneIf-hasBit, hasBit-is, hasBit-none}
 
@@ -68,3 +70,21 @@ packed-append (suc m) n p =
 
 pub packed-shr : (m n : ℕ) (p : ℕ → Bool) → packed (m + n) p / 2 ^ m ≡ packed n (λ j. p (m + j))
 packed-shr m n p = rw packed-append (high (packed n (λ j. p (m + j))) m (packed-lt m p))
+
+-- two numbers that are made of m parts of n bits are one exactly if each part is
+pub packed-parts : (m n : ℕ) (p q : ℕ → Bool)
+    → eqb (packed (m * n) p) (packed (m * n) q) ≡ all m (λ i. eqb (packed n (λ j. p (i * n + j))) (packed n (λ j. q (i * n + j))))
+unfolding all
+packed-parts zero n p q = eq-eqb (packed (0 * n) p) (packed (0 * n) q) (packed-same (0 * n) p q (λ j h. absurd (omega (arith, zero-mul n))))
+packed-parts (suc m) n p q =
+    let k = m * n in
+    let x = packed n (λ j. p (k + j)) in
+    let y = packed n (λ j. q (k + j)) in
+    let a = packed k p in
+    let b = packed k q in
+    rw (suc-mul, packed-append k n p, packed-append k n q)
+    (eqb-both (x * 2 ^ k + a) (y * 2 ^ k + b) a b x y (λ e. (
+      sym (low x k (packed-lt k p)) ∙ ap (λ (z : ℕ). z % 2 ^ k) e ∙ low y k (packed-lt k q),
+      sym (high x k (packed-lt k p)) ∙ ap (λ (z : ℕ). z / 2 ^ k) e ∙ high y k (packed-lt k q),
+    )) (λ e f. rw (e, f))
+    ∙ ap (λ (t : Bool). t && eqb x y) (packed-parts m n p q))

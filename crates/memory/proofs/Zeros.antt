@@ -1,21 +1,19 @@
--- Bytes that are all 0: by their bits, by parts, and by the or of the bytes, as code tests it. Assumes nothing.
+-- Bytes that are all 0: by their bits, by parts, by the or of the bytes, as code tests it, and by the number in them. Assumes nothing.
 use Prim.Native.Nat.{ℕ, zero, suc, _+_, _-_, _*_, _≤_, _<_}
 use mathlib.Core.Path.{_≡_, refl, sym, ap, _∙_}
-use mathlib.Core.Logic.{⊎-elim}
 use mathlib.Core.Bool.{Bool, true, false, not, _&&_}
 use mathlib.Core.List.{List}
 use native.Mathlib.Omega.{arith}
-use native.Mathlib.Nat.{add-assoc}
 use native.Mathlib.Numerals.{add-one}
 use lib.Bits.{bitOr, or-add-and, and-le-l, and-le-r}
 use lib.Dec.{eqb}
 use lib.ListN.{getD}
-use borrow.Author.Tests.{eq-eqb, ne-eqb, eqb-true, not-true}
+use borrow.Author.Tests.{eq-eqb, eqb-true, not-true}
 use Rattle.memory.specs.Loops.{all, firstFrom}
-use Rattle.memory.specs.Bytes.{AreBytes, isZero, nonZero, zeros}
+use Rattle.memory.specs.Bytes.{AreBytes, numberAt, isZero, nonZero, zeros}
 use Rattle.memory.specs.Bits.{hasBit, bitSet}
-use Rattle.memory.proofs.Cases.{eq-or-ne, same-test, not-not, and-false}
-use Rattle.memory.proofs.All.{all-at, all-from, all-same, all-append, all-product}
+use Rattle.memory.proofs.Cases.{same-test, not-not, eqb-both}
+use Rattle.memory.proofs.All.{all-at, all-from, all-same, all-range, all-product}
 use Rattle.memory.proofs.First.{first-skip, first-all}
 use Rattle.memory.proofs.Bits.{hasBit-none}
 use Rattle.memory.proofs.Packed.{bits-same}
@@ -33,9 +31,7 @@ zeros-agrees l m a n h = all-same n (λ j. isZero l (a + j)) (λ j. isZero m (a 
 
 -- m bytes and n after them
 pub zeros-append : (l : List ℕ) (a m n : ℕ) → zeros l a (m + n) ≡ zeros l a m && zeros l (a + m) n
-zeros-append l a m n =
-    all-append m n (λ j. isZero l (a + j))
-    ∙ ap (λ (t : Bool). zeros l a m && t) (all-same n _ _ (λ j p. ap (isZero l) (sym (add-assoc a m j))))
+zeros-append l a m n = all-range a m n (isZero l)
 
 -- zeros are passed by a search for a byte that is not 0
 pub zeros-skip : (l : List ℕ) (e a n : ℕ) → a + n ≤ e → zeros l a n ≡ true
@@ -85,17 +81,23 @@ pub orOf-more : (l : List ℕ) (a n : ℕ) → orOf l a (n + 1) ≡ bitOr (orOf 
 unfolding orOf
 orOf-more l a n = rw add-one
 
-pub or-zero : (x y : ℕ) → eqb (bitOr x y) 0 ≡ eqb x 0 && eqb y 0
-or-zero x y = ⊎-elim
-    (λ e. ⊎-elim
-    (λ f. eq-eqb (bitOr x y) 0 (omega (arith, or-add-and x y)) ∙ sym (rw (eq-eqb x 0 e, eq-eqb y 0 f)))
-    (λ f. ne-eqb (bitOr x y) 0 (λ q. f (omega (arith, or-add-and x y, and-le-l x y))) ∙ sym (and-false (eqb x 0) (eqb y 0) (ne-eqb y 0 f)))
-    (eq-or-ne y 0))
-    (λ e. ne-eqb (bitOr x y) 0 (λ q. e (omega (arith, or-add-and x y, and-le-r x y))) ∙ sym (rw (ne-eqb x 0 e)))
-    (eq-or-ne x 0)
+or-zero : (x y : ℕ) → eqb (bitOr x y) 0 ≡ eqb x 0 && eqb y 0
+or-zero x y =
+    let s = or-add-and x y in
+    eqb-both (bitOr x y) 0 x 0 y 0 (λ e. (omega (arith, and-le-r x y), omega (arith, and-le-l x y))) (λ e f. omega arith)
 
 -- the or is 0 exactly if the bytes are
 pub orOf-zeros : (l : List ℕ) (a n : ℕ) → eqb (orOf l a n) 0 ≡ zeros l a n
 unfolding orOf all
 orOf-zeros l a zero = refl
 orOf-zeros l a (suc n) = or-zero (orOf l a n) (getD l (a + n) 0) ∙ ap (λ (t : Bool). t && isZero l (a + n)) (orOf-zeros l a n)
+
+-- a number is 0 exactly if its bytes are
+pub number-zero : (l : List ℕ) (a n : ℕ) → eqb (numberAt l a n) 0 ≡ zeros l a n
+unfolding numberAt all
+number-zero l a zero = refl
+number-zero l a (suc n) =
+    let x = numberAt l a n in
+    let y = getD l (a + n) 0 in
+    eqb-both (x * 256 + y) 0 x 0 y 0 (λ e. (omega arith, omega arith)) (λ e f. omega arith)
+    ∙ ap (λ (t : Bool). t && isZero l (a + n)) (number-zero l a n)

@@ -16,6 +16,11 @@ const WIDTH: usize = 8;
 // The last byte of a number.
 const LAST: usize = WIDTH - 1;
 
+// The byte and the word of 8 bytes that have every bit set: 2^8 - 1 and 2^64 - 1.
+const FULL_BYTE: u8 = 255;
+
+const FULL_WORD: u64 = 18446744073709551615;
+
 // The bytes that are tested for 0 at once: many while nothing is found, then few.
 const BLOCK: usize = 256;
 
@@ -50,6 +55,14 @@ pub fn word(rec: &[u8], at: usize) -> u64
         n = n | (wide(rec[at + i]) << (BITS * i));
     }
     n
+}
+
+// Whether the 8 bytes from `at` on are all 0.
+pub fn zero_word(rec: &[u8], at: usize) -> bool
+    requires { ⌜ at + 8 ≤ length (now rec) ⌝ }
+    ensures { λ r. ⌜ r ≡ zeros (now (rec .entry)) at 8 ⌝ }
+{
+    word(rec, at) == 0
 }
 
 // Byte j of a number, the highest is 0.
@@ -142,16 +155,40 @@ fn skip_zeros(rec: &[u8], at: usize, end: usize) -> usize
     skip_runs(rec, chunk, end, WIDTH)
 }
 
-// Whether the `n` bytes from `at` on are all 255.
+// Whether the 8 bytes from `at` on are all 255.
+fn full_word(rec: &[u8], at: usize) -> bool
+    requires { ⌜ at + 8 ≤ length (now rec) ⌝ }
+    ensures { λ r. ⌜ r ≡ fulls (now (rec .entry)) at 8 ⌝ }
+{
+    word(rec, at) == FULL_WORD
+}
+
+// Whether the `n` bytes from `at` on are all 255, looking at each.
+fn full_bytes(rec: &[u8], at: usize, n: usize) -> bool
+    requires { ⌜ at + n ≤ length (now rec) ⌝ }
+    ensures { λ r. ⌜ r ≡ fulls (now (rec .entry)) at n ⌝ }
+{
+    for i in 0..n {
+        if rec[at + i] != FULL_BYTE {
+            return false;
+        }
+    }
+    true
+}
+
+// Whether the `n` bytes from `at` on are all 255: word by word, then the bytes that are left.
 pub fn full_run(rec: &[u8], at: usize, n: usize) -> bool
     requires { ⌜ at + n ≤ length (now rec) ⌝ }
     ensures { λ r. ⌜ r ≡ fulls (now (rec .entry)) at n ⌝ }
 {
-    let mut or: u8 = 0;
-    for i in 0..n {
-        or = or | (255 - rec[at + i]);
+    let mut i: usize = 0;
+    while WIDTH <= n - i {
+        if !full_word(rec, at + i) {
+            return false;
+        }
+        i += WIDTH;
     }
-    or == 0
+    full_bytes(rec, at + i, n - i)
 }
 
 // Where the chunk from `at` on ends, or `end` if that comes first.

@@ -1,31 +1,41 @@
--- `memory::full_run` meets its contract. The loop's invariant: `or` is 0 exactly if the bytes passed are 255. Assumes nothing.
+-- `memory::full_run` meets its contract. The loop's invariant: the bytes are all 255 exactly if those from i on are. Assumes nothing.
 use Prim.Native.Nat.{_+_, _-_, _≤_}
-use mathlib.Core.Path.{_≡_, ap, _∙_}
+use mathlib.Core.Path.{_≡_, sym, _∙_}
+use mathlib.Core.Bool.{true, false}
 use native.Mathlib.Omega.{arith}
-use lib.Dec.{eqb}
+use native.Mathlib.Nat.{sub-zero, add-zero}
 use borrow.Author.Needs.{needs}
+use borrow.Author.Tests.{not-true, not-false}
 use Rattle.memory.specs.Bytes.{fulls}
-use Rattle.memory.proofs.Fulls.{fulls-none, fulls-more}
+use Rattle.memory.proofs.Fulls.{fulls-part}
 use Rattle.memory.proofs.full_run.Statement.{statement}
 use Rattle.memory.proofs.full_run.Tie as tie
 
 abbrev Inv-loop : tie.InvT-loop
-Inv-loop rec at n or₀ i₀ or i = (i ≤ n) × (eqb or 0 ≡ fulls rec at i)
+Inv-loop rec at n i₀ i = (i ≤ n) × (fulls rec at n ≡ fulls rec (at + i) (n - i))
 
 abbrev μ-loop : tie.MeasureT-loop
-μ-loop rec at n or₀ i₀ or i = n - i
+μ-loop rec at n i₀ i = n - i
 
 loop-holds : tie.Need-loop-holds Inv-loop μ-loop
-loop-holds c = (search needs, fulls-none (c .args .rec .now) (c .args .at))
+loop-holds c = (search needs, rw (sub-zero, add-zero))
 
-add-or : tie.Need-add-or Inv-loop μ-loop
-add-or c = search needs
+sub-loop : tie.Need-sub-loop Inv-loop μ-loop
+sub-loop c = search needs
 
-shared-slice-read-or : tie.Need-shared-slice-read-or Inv-loop μ-loop
-shared-slice-read-or c = search needs
+add-full-word : tie.Need-add-full-word Inv-loop μ-loop
+add-full-word c = search needs
 
-sub-or : tie.Need-sub-or Inv-loop μ-loop
-sub-or c = let b = c .before .before in omega (arith, c .shared-slice-known .given (b .before .args .at + b .loop .i))
+full-word-requires : tie.Need-full-word-requires Inv-loop μ-loop
+full-word-requires c κs = search needs
+
+returns : tie.Need-returns Inv-loop μ-loop
+returns c =
+    let b = c .before .before .before in
+    let s = b .before .before .args in
+    let r = c .before .full-word in
+    let f : fulls (s .rec .now) (s .at + b .loop .i) 8 ≡ false = sym (r .ensures) ∙ not-true (r .result) (c .if1 .taken) in
+    sym (b .loop .inv .1 ∙ fulls-part (s .rec .now) (s .at) (b .loop .i) 8 (s .n) (omega arith) ∙ rw f)
 
 add-i : tie.Need-add-i Inv-loop μ-loop
 add-i c = search needs
@@ -35,16 +45,23 @@ loop-less c = search needs
 
 loop-again : tie.Need-loop-again Inv-loop μ-loop
 loop-again c =
-    let b = c .before .before in
-    let at = b .before .args .at in
-    let i = b .loop .i in
-    (search needs, fulls-more (b .before .args .rec .now) at i (b .loop .or) (omega (arith, c .shared-slice-known .given (at + i))) (b .loop .inv .1))
+    let b = c .before .before .before in
+    let s = b .before .before .args in
+    let r = c .before .full-word in
+    let f : fulls (s .rec .now) (s .at + b .loop .i) 8 ≡ true = sym (r .ensures) ∙ not-false (r .result) (c .if1 .left) in
+    (search needs, b .loop .inv .1 ∙ fulls-part (s .rec .now) (s .at) (b .loop .i) 8 (s .n) (omega arith) ∙ rw f)
 
-returns : tie.Need-returns Inv-loop μ-loop
-returns c =
-    let s = c .before .before .args in
-    let e : c .before .loop .i ≡ s .n = omega arith in
-    c .before .loop .inv .1 ∙ ap (fulls (s .rec .now) (s .at)) e
+add-full-bytes : tie.Need-add-full-bytes Inv-loop μ-loop
+add-full-bytes c = search needs
+
+sub-full-bytes : tie.Need-sub-full-bytes Inv-loop μ-loop
+sub-full-bytes c = search needs
+
+full-bytes-requires : tie.Need-full-bytes-requires Inv-loop μ-loop
+full-bytes-requires c κs = search needs
+
+returns-2 : tie.Need-returns-2 Inv-loop μ-loop
+returns-2 c = c .full-bytes .ensures ∙ sym (c .before .before .loop .inv .1)
 
 pub full-run-spec : {M : Type 1} → statement M
 full-run-spec =
@@ -53,10 +70,14 @@ full-run-spec =
     Inv-loop
     μ-loop
     loop-holds
-    add-or
-    shared-slice-read-or
-    sub-or
+    sub-loop
+    add-full-word
+    full-word-requires
+    returns
     add-i
     loop-less
     loop-again
-    returns)
+    add-full-bytes
+    sub-full-bytes
+    full-bytes-requires
+    returns-2)
