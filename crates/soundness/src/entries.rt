@@ -18,6 +18,7 @@ use record::ENTRIES;
 use record::ENTRY;
 use record::LEVELS;
 use record::LINKS_AT;
+use record::NUMBER_AT;
 use record::SEATS;
 use roster::is_seated;
 
@@ -52,7 +53,8 @@ fn as_opened(rec: &[u8], s: usize) -> bool
     requires { ⌜ (length (now rec) ≡ size) × (s < seats) ⌝ }
     ensures { λ r. ⌜ r ≡ asOpened (now (rec .entry)) s ⌝ }
 {
-    record::number(rec, s) == 0 && (record::vector(rec, s) == 0 && no_links(rec, s))
+    memory::zero_word(rec, ENTRIES + ENTRY * s + NUMBER_AT)
+        && (record::vector(rec, s) == 0 && no_links(rec, s))
 }
 
 // The bucket of a number.
