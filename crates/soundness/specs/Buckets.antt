@@ -11,7 +11,7 @@ use Rattle.record.specs.Layout.{seats}
 use Rattle.record.specs.Meaning.{rosterIn}
 
 abbrev pub buckets : ℕ
-buckets = 512
+buckets = 509
 
 module _ (l : List ℕ) where
   -- the bucket of seat s

@@ -27,8 +27,8 @@ const PHASES: u8 = 2;
 
 const STATES: u8 = 3;
 
-// How many buckets there are.
-const BUCKETS: usize = 512;
+// How many buckets there are: a prime, so that numbers at equal distances, such as round ones, are spread.
+const BUCKETS: usize = 509;
 
 // What says that a seat does not pass, where else the seats up to the last lot are counted.
 const NOT_FIT: usize = SEATS + 1;
