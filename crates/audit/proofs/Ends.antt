@@ -32,13 +32,13 @@ use Rattle.audit.proofs.Parts.{back-none, ends-byte}
 use Rattle.audit.proofs.Marks.{EndOf, marked-skip, marked-more}
 
 -- the place as the highest bit and the first k bits
-module _ (v k : ℕ) (fits : v < 256) (g : k < levels) where
-  halves : 2 ^ k * 2 ^ (width - k) ≡ 256
+module _ (v k : ℕ) (fits : v < 2 ^ width) (g : k < levels) where
+  halves : 2 ^ k * 2 ^ (width - k) ≡ 2 ^ width
   halves = let e : k + (width - k) ≡ width = omega arith in sym (pow-add 2 k (width - k)) ∙ rw e
 
-  place-split : (256 + v) / 2 ^ (width - k) ≡ 2 ^ k + v / 2 ^ (width - k)
+  place-split : (2 ^ width + v) / 2 ^ (width - k) ≡ 2 ^ k + v / 2 ^ (width - k)
   place-split =
-      let e : 256 + v ≡ v + 2 ^ k * 2 ^ (width - k) = omega (arith, halves) in
+      let e : 2 ^ width + v ≡ v + 2 ^ k * 2 ^ (width - k) = omega (arith, halves) in
       rw e (add-mul-div-right v (2 ^ k) (pow-pos (width - k)) ∙ add-comm (v / 2 ^ (width - k)) (2 ^ k))
 
   first-fits : v / 2 ^ (width - k) < 2 ^ k
@@ -53,15 +53,15 @@ same-level j k a b p q e = by (decLt j k) (decLt k j)
     by (no h) (yes d) = absurd (omega (arith, pow-mono d, pow-suc 2 k))
     by (no h) (no d) = omega arith
 
-pub place-is : (l : List ℕ) (x k v : ℕ) → x < seats → v ≡ getD l (vectorAt x) 0 → (256 + v) / 2 ^ (width - k) ≡ placeOf l x k
+pub place-is : (l : List ℕ) (x k v : ℕ) → x < seats → v ≡ getD l (vectorAt x) 0 → (2 ^ width + v) / 2 ^ (width - k) ≡ placeOf l x k
 unfolding placeOf
 place-is l x k v h e = rw (vector-byte l x h, e)
 
-pub place-bound : (v n : ℕ) → v < 256 → (256 + v) / n < places
-place-bound v n h = omega (arith, div-le-self (256 + v) n)
+pub place-bound : (v n : ℕ) → v < 2 ^ width → (2 ^ width + v) / n < places
+place-bound v n h = omega (arith, div-le-self (2 ^ width + v) n)
 
 module _ (l : List ℕ) (b : AreBytes l) where
-  vector-fits : (x : ℕ) → x < seats → rosterIn l .vector x < 256
+  vector-fits : (x : ℕ) → x < seats → rosterIn l .vector x < 2 ^ width
   vector-fits x h = rw (vector-byte l x h) (b _)
 
   -- lots of one level with one place

@@ -1,6 +1,6 @@
 -- The marks as lots and levels are passed: none, passed by, and one more. Assumes nothing.
-use Prim.Native.Nat.{ℕ, zero, suc, _+_, _*_, _<_}
-use mathlib.Core.Path.{_≡_, refl, sym, _∙_}
+use Prim.Native.Nat.{ℕ, _+_, _*_, _<_}
+use mathlib.Core.Path.{_≡_, sym, _∙_}
 use mathlib.Core.Logic.{_≢_}
 use mathlib.Core.Bool.{Bool, true, false}
 use mathlib.Core.List.{List}
@@ -9,6 +9,7 @@ use native.Mathlib.Decide.{ℕ-discrete}
 use lib.Dec.{T}
 use lib.ListN.{getD, set, replicate, length-set, length-replicate}
 use lib.Seq.{getD-set-same, getD-set-other}
+use Rattle.memory.proofs.Zeros.{replicate-zero}
 use Rattle.graph.proofs.Tests.{true-T, false-T}
 use Rattle.protocol.specs.State.{members}
 use Rattle.record.specs.Layout.{levels}
@@ -16,18 +17,13 @@ use Rattle.record.specs.Meaning.{rosterIn, meaning}
 use Rattle.search.proofs.LocalCheck.{endsAt}
 use Rattle.audit.specs.Marks.{places, placeOf, Marked}
 
-zeros : (n i : ℕ) → getD {A = ℕ} (replicate n 0) i 0 ≡ 0
-zeros zero i = refl
-zeros (suc n) zero = refl
-zeros (suc n) (suc i) = zeros n i
-
 module _ (l : List ℕ) where
   -- y is a left end of level j
   abbrev pub EndOf : (y j : ℕ) → Bool
   EndOf y j = endsAt (members (rosterIn l)) (meaning l .link) j y
 
   pub marked-none : Marked l 0 (replicate places 0)
-  marked-none = record { sized = length-replicate {A = ℕ} places 0; put = λ y j g h. absurd (omega arith); from = λ i ne. absurd (ne (zeros places i)) }
+  marked-none = record { sized = length-replicate {A = ℕ} places 0; put = λ y j g h. absurd (omega arith); from = λ i ne. absurd (ne (replicate-zero places i)) }
 
   module _ (x : ℕ) (m : List ℕ) where
     -- x is at no level

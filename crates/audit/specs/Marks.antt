@@ -1,5 +1,5 @@
 -- Marks for the lists of all levels: each lot that is a left end of a level marks its list there. Assumes nothing.
-use Prim.Native.Nat.{ℕ, _+_, _-_, _*_, _^_, _/_, _<_}
+use Prim.Native.Nat.{ℕ, suc, _+_, _-_, _*_, _^_, _/_, _<_}
 use mathlib.Core.Path.{_≡_}
 use mathlib.Core.Logic.{_≢_}
 use mathlib.Core.Bool.{Bool, _&&_}
@@ -16,12 +16,12 @@ use Rattle.search.proofs.LocalCheck.{backOf, endsAt, apart}
 
 -- how many places there are
 abbrev pub places : ℕ
-places = 512
+places = 2 ^ suc width
 
 module _ (l : List ℕ) where
   -- the list of x at level k: a 1 and the first k bits of its vector
   unfoldable pub placeOf : (x k : ℕ) → ℕ
-  placeOf x k = (256 + rosterIn l .vector x) / 2 ^ (width - k)
+  placeOf x k = (2 ^ width + rosterIn l .vector x) / 2 ^ (width - k)
 
   -- the test of x at level k on the left
   abbrev pub leftOk : (x k : ℕ) → Bool

@@ -116,11 +116,6 @@ first-found e i k p a b h t = first-is (e - i) i p k (record { low = a; high = o
 pub first-here : (e i : ℕ) (p : ℕ → Bool) → i < e → p i ≡ true → firstFrom (e - i) i p ≡ i
 first-here e i p l t = first-found e i i p (omega arith) l (λ j a b. absurd (omega arith)) t
 
--- none passes
-pub first-none : (e i : ℕ) (p : ℕ → Bool) → i ≤ e → ((j : ℕ) → i ≤ j → j < e → p j ≡ false) → firstFrom (e - i) i p ≡ e
-first-none e i p l h =
-    first-is (e - i) i p e (record { low = l; high = omega arith; before = h; found = λ a. absurd (omega arith) })
-
 -- the search finds none exactly if all fail
 pub first-all : (n i : ℕ) (p : ℕ → Bool) → eqb (firstFrom n i p) (i + n) ≡ all n (λ j. not (p (i + j)))
 first-all n i p =

@@ -1,15 +1,12 @@
 -- Lists by their elements. Assumes nothing.
 use Prim.Native.Nat.{ℕ, zero, suc, _+_, _<_}
 use mathlib.Core.Path.{_≡_, refl, sym, ap, _∙_}
-use mathlib.Core.Logic.{⊎-elim}
 use mathlib.Core.List.{List}
 use native.Mathlib.Omega.{arith}
 use native.Mathlib.Nat.{add-zero}
-use lib.ListN.{length, getD, List·getD-eq-default}
+use lib.ListN.{length, getD}
 use lib.Seq.{ext-getD}
 use Rattle.memory.specs.Loops.{tabulateFrom, tabulate}
-use Rattle.memory.specs.Bytes.{AreBytes}
-use Rattle.memory.proofs.Cases.{lt-or-ge}
 
 length-from : (n a : ℕ) (f : ℕ → ℕ) → length (tabulateFrom n a f) ≡ n
 unfolding tabulateFrom
@@ -36,9 +33,3 @@ tabulate-is n f l e h =
 
 pub tabulate-same : (n : ℕ) (f g : ℕ → ℕ) → ((i : ℕ) → i < n → f i ≡ g i) → tabulate n f ≡ tabulate n g
 tabulate-same n f g h = tabulate-is n f (tabulate n g) (length-tabulate n g) (λ i l. h i l ∙ sym (getD-tabulate n g i l))
-
-pub bytes-tabulate : (n : ℕ) (f : ℕ → ℕ) → ((i : ℕ) → i < n → f i < 256) → AreBytes (tabulate n f)
-bytes-tabulate n f h i = ⊎-elim
-    (λ l. omega (arith, h i l, getD-tabulate n f i l))
-    (λ l. omega (arith, List·getD-eq-default (tabulate n f) 0 {n = i} (omega (arith, length-tabulate n f))))
-    (lt-or-ge i n)

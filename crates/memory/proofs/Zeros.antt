@@ -7,31 +7,26 @@ use native.Mathlib.Omega.{arith}
 use native.Mathlib.Numerals.{add-one}
 use lib.Bits.{bitOr, or-add-and, and-le-l, and-le-r}
 use lib.Dec.{eqb}
-use lib.ListN.{getD}
+use lib.ListN.{getD, replicate}
 use borrow.Author.Tests.{eq-eqb, eqb-true, not-true}
 use Rattle.memory.specs.Loops.{all, firstFrom}
 use Rattle.memory.specs.Bytes.{AreBytes, numberAt, isZero, nonZero, zeros}
 use Rattle.memory.specs.Bits.{hasBit, bitSet}
 use Rattle.memory.proofs.Cases.{same-test, not-not, eqb-both}
-use Rattle.memory.proofs.All.{all-at, all-from, all-same, all-range, all-product}
+use Rattle.memory.proofs.All.{all-at, all-from, all-same, all-product}
 use Rattle.memory.proofs.First.{first-skip, first-all}
 use Rattle.memory.proofs.Bits.{hasBit-none}
 use Rattle.memory.proofs.Packed.{bits-same}
 use Rattle.memory.proofs.Bitmap.{bitSet-byte}
 
+-- an array made of zeros
+pub replicate-zero : (n i : ℕ) → getD {A = ℕ} (replicate n 0) i 0 ≡ 0
+replicate-zero zero i = refl
+replicate-zero (suc n) zero = refl
+replicate-zero (suc n) (suc i) = replicate-zero n i
+
 pub zeros-at : (l : List ℕ) (a n j : ℕ) → zeros l a n ≡ true → j < n → getD l (a + j) 0 ≡ 0
 zeros-at l a n j e h = eqb-true (getD l (a + j) 0) 0 (all-at n j (λ i. isZero l (a + i)) e h)
-
-pub zeros-from : (l : List ℕ) (a n : ℕ) → ((j : ℕ) → j < n → getD l (a + j) 0 ≡ 0) → zeros l a n ≡ true
-zeros-from l a n h = all-from n (λ j. isZero l (a + j)) (λ j p. eq-eqb (getD l (a + j) 0) 0 (h j p))
-
--- zeros are of their own bytes alone
-pub zeros-agrees : (l m : List ℕ) (a n : ℕ) → ((j : ℕ) → j < n → getD l (a + j) 0 ≡ getD m (a + j) 0) → zeros l a n ≡ zeros m a n
-zeros-agrees l m a n h = all-same n (λ j. isZero l (a + j)) (λ j. isZero m (a + j)) (λ j p. ap (λ (x : ℕ). eqb x 0) (h j p))
-
--- m bytes and n after them
-pub zeros-append : (l : List ℕ) (a m n : ℕ) → zeros l a (m + n) ≡ zeros l a m && zeros l (a + m) n
-zeros-append l a m n = all-range a m n (isZero l)
 
 -- zeros are passed by a search for a byte that is not 0
 pub zeros-skip : (l : List ℕ) (e a n : ℕ) → a + n ≤ e → zeros l a n ≡ true

@@ -43,17 +43,6 @@ pub any-more : (n : ℕ) (p : ℕ → Bool) → any n p ≡ false → p n ≡ fa
 unfolding any
 any-more n p e f = rw (add-one, f, e)
 
--- the answer so far or that of one more
-pub any-next : (n : ℕ) (p : ℕ → Bool) {b : Bool} → b ≡ any n p → b || p n ≡ any (n + 1) p
-unfolding any
-any-next n p e = rw (add-one, e) (swap (any n p) (p n))
-  where
-    swap : (a b : Bool) → a || b ≡ b || a
-    swap true true = refl
-    swap true false = refl
-    swap false true = refl
-    swap false false = refl
-
 pub any-here : (n i : ℕ) (p : ℕ → Bool) → i < n → p i ≡ true → any n p ≡ true
 any-here n i p h t = T-true {b = any n p} (any-in n p i h (true-T {b = p i} t))
 

@@ -9,7 +9,7 @@ use native.Mathlib.Omega.{arith}
 use lib.Dec.{T, eqb, eqb→eq}
 use borrow.Author.Tests.{eqb-true, eq-eqb}
 use Rattle.graph.specs.Side.{Side, left, right}
-use Rattle.graph.proofs.Tests.{and-fst, and-snd, or-cases, or-left, or-right, dec-T}
+use Rattle.graph.proofs.Tests.{and-fst, and-snd, or-cases, or-left, or-right}
 use Rattle.protocol.specs.Message.{Msg, meet, probe, pull, going, seek, found, none-found, Name, name, nameOf, sideNumber, ifZero, ifBit, named}
 use Rattle.protocol.specs.Message.{sameMsg, among}
 
@@ -145,13 +145,6 @@ same-self m = let a = nameOf m in rw (eqb-self (a .kind), eqb-self (a .to), eqb-
 
 pub eq-same : {m n : Msg} → m ≡ n → T (sameMsg m n)
 eq-same {m} {n} e = subst (λ (x : Msg). T (sameMsg m x)) e (same-self m)
-
-pub eq-msg : (m n : Msg) → Dec (m ≡ n)
-eq-msg m n = by (dec-T (sameMsg m n))
-  where
-    by : Dec (T (sameMsg m n)) → Dec (m ≡ n)
-    by (yes t) = yes (same-eq m n t)
-    by (no f) = no (λ e. f (eq-same e))
 
 -- the test is membership
 pub among-mem : (l : List Msg) {m : Msg} → T (among l m) → List·Memᴰ m l

@@ -7,16 +7,14 @@ use mathlib.Core.Option.{none}
 use mathlib.Core.Bool.{Bool, true, false, cond, _&&_}
 use mathlib.Core.List.{List, _++_}
 use native.Mathlib.Omega.{arith}
-use native.Mathlib.Numerals.{add-one}
 use lib.Dec.{eqb, ltb}
-use lib.ListN.{length, getD, set, drop, replicate, length-drop}
-use lib.Seq.{length-take-le, getD-take, getD-drop}
+use lib.ListN.{length, set, replicate}
 use borrow.Author.Tests.{lt-ltb, le-ltb, eq-eqb, ne-eqb}
-use borrow.Rule.Slice.PartMut.{midOf, putMid}
+use borrow.Rule.Slice.PartMut.{putMid}
 use Rattle.memory.specs.Loops.{tabulate, tabulateFrom}
 use Rattle.memory.specs.Bytes.{putNumber, digit}
 use Rattle.memory.proofs.Cases.{lt-or-ge, eq-or-ne, and-true, and-false}
-use Rattle.memory.proofs.Tabulate.{length-tabulate, getD-tabulate, tabulate-is}
+use Rattle.memory.proofs.Tabulate.{length-tabulate, getD-tabulate}
 use Rattle.graph.specs.Side.{Side, left, right}
 use Rattle.protocol.specs.Rules.{SeatState, free}
 use Rattle.protocol.specs.State.{Meaning}
@@ -25,7 +23,7 @@ use Rattle.protocol.proofs.Numbering.{sideNumber-lt}
 use Rattle.protocol.proofs.Calls.{at-other}
 use Rattle.record.specs.Layout.{seats, levels, entrySize, noLink, entryAt, stateAt, numberFrom, vectorAt, linkAt}
 use Rattle.record.specs.Meaning.{stateByte, entryByte, bytesOf}
-use Rattle.record.proofs.Places.{at-entry, length-bytesOf, getD-bytesOf}
+use Rattle.record.proofs.Places.{at-entry, length-bytesOf}
 use Rattle.record.proofs.Frame.{Agree, agree-links, Same, bytes-same, Outside, range-bytes}
 use Rattle.record.proofs.Part.{getD-putMid, getD-putMid-other, length-putMid}
 use Rattle.record.proofs.Update.{withState, withNumber, withVector, withLinks, withLink}
@@ -34,21 +32,6 @@ use Rattle.record.proofs.Update.{bytes-withState, bytes-withNumber, byt
 -- the bytes of an entry, a part of the record
 unfoldable pub entryBytes : Meaning → (s : ℕ) → List ℕ
 entryBytes M s = tabulate entrySize (entryByte M s)
-
-pub entry-part : (M : Meaning) (s : ℕ) → s < seats → midOf (entryAt s) entrySize (bytesOf M) ≡ entryBytes M s
-unfolding entryBytes
-entry-part M s h = sym (tabulate-is entrySize (entryByte M s) (midOf (entryAt s) entrySize (bytesOf M)) len (λ j p. sym (
-    getD-take entrySize (drop (entryAt s) (bytesOf M)) j 0 p
-    ∙ getD-drop (entryAt s) (bytesOf M) j 0
-    ∙ getD-bytesOf M (entryAt s + j) (omega arith)
-    ∙ at-entry M s j h p)))
-  where
-    len : length (midOf (entryAt s) entrySize (bytesOf M)) ≡ entrySize
-    len = length-take-le entrySize (drop (entryAt s) (bytesOf M)) (rw (length-drop (entryAt s) (bytesOf M), length-bytesOf M) (omega arith))
-
-pub getD-entryBytes : (M : Meaning) (s j : ℕ) → j < entrySize → getD (entryBytes M s) j 0 ≡ entryByte M s j
-unfolding entryBytes
-getD-entryBytes M s j h = getD-tabulate entrySize (entryByte M s) j h
 
 -- meanings that agree but at one entry differ in its bytes
 pub one-entry : {M N : Meaning} (s : ℕ) → s < seats → Agree N M (Outside (entryAt s) entrySize)
@@ -102,14 +85,6 @@ withoutLinks M s n = withLinks M (λ x k d. cond (eqb x s && ltb k n) none (M .l
 unfoldable pub noLinks : (s n : ℕ) → List ℕ → List ℕ
 noLinks s zero l = l
 noLinks s (suc k) l = set (set (noLinks s k l) (linkAt s k left) noLink) (linkAt s k right) noLink
-
-pub noLinks-none : (s : ℕ) (l : List ℕ) → noLinks s 0 l ≡ l
-unfolding noLinks
-noLinks-none s l = refl
-
-pub noLinks-more : (s k : ℕ) (l : List ℕ) → noLinks s (k + 1) l ≡ set (set (noLinks s k l) (linkAt s k left) noLink) (linkAt s k right) noLink
-unfolding noLinks
-noLinks-more s k l = rw add-one
 
 lt-suc : (j k : ℕ) → (j ≡ k → ⊥) → ltb j (suc k) ≡ ltb j k
 lt-suc j k e = ⊎-elim

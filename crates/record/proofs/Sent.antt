@@ -22,7 +22,7 @@ use Rattle.record.specs.Layout.{seats, messages, pendingFrom}
 use Rattle.record.specs.Meaning.{pendingByte, byteOf, bytesOf}
 use Rattle.record.proofs.Places.{place-within, place-at, at-pending, getD-bytesOf}
 use Rattle.record.proofs.Frame.{agree-pending, one-byte}
-use Rattle.record.proofs.Pending.{sent-same, sent-other, taken-same, taken-other, after-nothing, after-taken, after-first, after-last}
+use Rattle.record.proofs.Pending.{sent-same, sent-other, taken-same, taken-other, after-nothing, after-taken, after-first}
 use Rattle.record.proofs.Update.{withPending, withMessage, withoutMessage}
 
 -- one message, sent or taken: p is as before but at m
@@ -111,11 +111,3 @@ bytes-pendingAfter M s t x y =
     ap (λ (p : Msg → Bool). bytesOf (withPending M p)) (after-taken s t (M .pending))
     ∙ bytes-sent (withPending M (pendingAfter [] t (M .pending))) s x
     ∙ ap (sentBits s) (bytes-taken M t y)
-
--- one message more, after the others
-pub bytes-one-more : (M : Meaning) (m : Msg) (s : List Msg) (t : Option Msg) → T (exists seats width m)
-    → bytesOf (withPending M (pendingAfter (m ∷ s) t (M .pending)))
-    ≡ setBit (bytesOf (withPending M (pendingAfter s t (M .pending)))) pendingFrom (place seats width m)
-bytes-one-more M m s t x =
-    ap (λ (p : Msg → Bool). bytesOf (withPending M p)) (after-last m s t (M .pending))
-    ∙ bytes-withMessage (withPending M (pendingAfter s t (M .pending))) m x

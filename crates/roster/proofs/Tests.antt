@@ -1,7 +1,7 @@
 -- The ways through a test that stops as soon as it is decided: r is what a part answered, a what that part tests. Assumes nothing.
 use Prim.Native.Nat.{ℕ, _+_, _≤_, _<_}
 use mathlib.Core.Path.{_≡_, sym, _∙_}
-use mathlib.Core.Bool.{Bool, true, false, not, _&&_, _||_}
+use mathlib.Core.Bool.{Bool, true, false, not, _&&_}
 use native.Mathlib.Omega.{arith}
 use borrow.Author.Tests.{not-true, not-false}
 use Rattle.memory.specs.Loops.{all}
@@ -18,13 +18,6 @@ and-go e t h = rw (← e, t) h
 -- the last part of a conjunction is known to pass
 pub and-last : {r a b : Bool} → r ≡ a → b ≡ true → r ≡ a && b
 and-last {a = a} e t = rw (t, and-true a) e
-
--- the first part of a disjunction passes, or fails and the rest answers s
-pub or-stop : {r a : Bool} (b : Bool) → r ≡ a → r ≡ true → r ≡ a || b
-or-stop b e t = rw (← e, t)
-
-pub or-go : {r a b s : Bool} → r ≡ a → r ≡ false → s ≡ b → s ≡ a || b
-or-go e f h = rw (← e, f) h
 
 -- a loop over the numbers below n that leaves at the first that fails: it leaves at i, goes on from i, or ends
 pub all-stop : (n i : ℕ) (p : ℕ → Bool) {r : Bool} → i < n → r ≡ p i → not r ≡ true → false ≡ all n p

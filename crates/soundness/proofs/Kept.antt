@@ -1,6 +1,6 @@
 -- What is kept of the lots below s: of none, with a free seat more, and with a lot more. Assumes nothing.
-use Prim.Native.Nat.{ℕ, zero, suc, _+_, _≤_, _<_}
-use mathlib.Core.Path.{_≡_, refl, sym, ap, _∙_}
+use Prim.Native.Nat.{ℕ, _+_, _≤_, _<_}
+use mathlib.Core.Path.{_≡_, sym, ap, _∙_}
 use mathlib.Core.Logic.{⊎-elim}
 use mathlib.Core.Bool.{true, false}
 use mathlib.Core.List.{List}
@@ -8,6 +8,7 @@ use native.Mathlib.Omega.{arith}
 use lib.ListN.{length, getD, set, length-set, replicate, length-replicate}
 use lib.Seq.{getD-set-same, getD-set-other}
 use Rattle.memory.proofs.Cases.{eq-or-ne}
+use Rattle.memory.proofs.Zeros.{replicate-zero}
 use Rattle.graph.proofs.Tests.{true-false}
 use Rattle.protocol.specs.State.{seated}
 use Rattle.record.specs.Layout.{seats}
@@ -23,11 +24,6 @@ one-more a s v f P h below e y q p = ⊎-elim
     (λ ne. getD-set-other a s y v 0 ne ∙ below y (omega (arith, ne)) p)
     (eq-or-ne y s)
 
-getD-replicate : (n i : ℕ) → getD {A = ℕ} (replicate n 0) i 0 ≡ 0
-getD-replicate zero i = refl
-getD-replicate (suc n) zero = refl
-getD-replicate (suc n) (suc i) = getD-replicate n i
-
 module _ (l : List ℕ) where
   -- no lot from `top` on: a free seat more
   pub none-above : (s top : ℕ) → ((y : ℕ) → y < s → top ≤ y → seated (rosterIn l) y ≡ false) → seated (rosterIn l) s ≡ false
@@ -38,7 +34,7 @@ module _ (l : List ℕ) where
   kept-none numbers e = record {
     long = (e, length-replicate {A = ℕ} buckets 0, length-replicate {A = ℕ} seats 0);
     number = λ y h. absurd (omega arith);
-    ends = λ b h. getD-replicate buckets b ∙ last-start l b;
+    ends = λ b h. replicate-zero buckets b ∙ last-start l b;
     links = λ y h. absurd (omega arith);
   }
 

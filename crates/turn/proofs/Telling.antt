@@ -18,11 +18,9 @@ use Rattle.protocol.specs.Numbering.{exists, place}
 use Rattle.protocol.specs.Rules.{toLink}
 use Rattle.protocol.specs.State.{Meaning, leaves}
 use Rattle.protocol.specs.Calls.{each, farewell}
-use Rattle.record.specs.Layout.{seats, levels, messages, entryAt, linkAt, pendingFrom}
+use Rattle.record.specs.Layout.{seats, levels, entryAt, linkAt, pendingFrom}
 use Rattle.record.specs.Meaning.{linkByte, rosterIn, bytesOf}
 use Rattle.record.specs.Reading.{sideOfNumber}
-use Rattle.protocol.proofs.Numbering.{place-lt}
-use Rattle.record.proofs.Places.{messages-count}
 use Rattle.record.proofs.Round.{read-link}
 use Rattle.record.proofs.Pending.{after-nothing, after-append}
 use Rattle.record.proofs.Update.{withPending}
@@ -34,9 +32,6 @@ use Rattle.turn.specs.Steps.{Linked, saying, levelFarewells, lotFarewell
 pub going-exists : (x k : ℕ) (d : Side) → x < seats → k < levels → T (exists seats width (going x k d))
 unfolding exists
 going-exists x k d h g = true-T {b = exists seats width (going x k d)} (rw (lt-ltb x seats h, lt-ltb k levels g))
-
-pub going-lt : (x k : ℕ) (d : Side) → x < seats → k < levels → place seats width (going x k d) < messages
-going-lt x k d h g = rw messages-count (place-lt seats width (going x k d) (going-exists x k d h g))
 
 module _ (M : Meaning) where
   pub saying-nothing : saying M [] ≡ M
