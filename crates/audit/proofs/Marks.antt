@@ -23,7 +23,11 @@ module _ (l : List ℕ) where
   EndOf y j = endsAt (members (rosterIn l)) (meaning l .link) j y
 
   pub marked-none : Marked l 0 (replicate places 0)
-  marked-none = record { sized = length-replicate {A = ℕ} places 0; put = λ y j g h. absurd (omega arith); from = λ i ne. absurd (ne (replicate-zero places i)) }
+  marked-none = record {
+    sized = length-replicate {A = ℕ} places 0;
+    put = λ y j g h. absurd (omega arith);
+    from = λ i ne. absurd (ne (replicate-zero places i));
+  }
 
   module _ (x : ℕ) (m : List ℕ) where
     -- x is at no level

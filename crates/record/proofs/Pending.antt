@@ -67,8 +67,3 @@ after-taken l t p = after-append [] l t p
 pub after-first : (m : Msg) (l : List Msg) (t : Option Msg) (p : Msg → Bool)
     → pendingAfter (m ∷ l) t p ≡ pendingAfter l none (pendingAfter (m ∷ []) t p)
 after-first m l t p = after-append (m ∷ []) l t p
-
-pub after-last : (m : Msg) (l : List Msg) (t : Option Msg) (p : Msg → Bool)
-    → pendingAfter (m ∷ l) t p ≡ pendingAfter (m ∷ []) none (pendingAfter l t p)
-unfolding pendingAfter isTaken among
-after-last m l t p = fun-ext (λ n. rw (or-false, and-true) (or-assoc (sameMsg m n) (among l n) (p n && not (isTaken t n))))

@@ -82,7 +82,8 @@ module _ (l : List ℕ) where
     where
       other : within (bucketOf l x) m ≡ false → sameNumber l x m ≡ false
       other f = ⊎-elim
-          (λ e. rw (eq-eqb (rosterIn l .number x) (rosterIn l .number m) e) (rw (eq-eqb (bucketOf l m) (bucketOf l x) (ap (λ (n : ℕ). n % buckets) (sym e))) at f))
+          (λ e. rw (eq-eqb (rosterIn l .number x) (rosterIn l .number m) e)
+          (rw (eq-eqb (bucketOf l m) (bucketOf l x) (ap (λ (n : ℕ). n % buckets) (sym e))) at f))
           (λ ne. and-false (seated (rosterIn l) m) _ (ne-eqb (rosterIn l .number x) (rosterIn l .number m) ne))
           (eq-or-ne (rosterIn l .number x) (rosterIn l .number m))
 

@@ -64,5 +64,6 @@ module _ (l : List ℕ) where
           (λ at. rw at (getD-set-same last b (s + 1) 0 (omega (arith, k .long .1)) ∙ last-own l s t ∙ ap (lastIn l (s + 1)) (sym eb)))
           (λ ne. getD-set-other last b j (s + 1) 0 ne ∙ k .ends j g ∙ last-other l s j (λ e. ne (sym (eb ∙ e))))
           (eq-or-ne j b);
-      links = one-more before s (getD last b 0) (λ y. lastIn l y (bucketOf l y)) (λ y. seated (rosterIn l) y ≡ true) (omega (arith, k .long .2)) (k .links) (k .ends b in-range ∙ ap (lastIn l s) eb);
+      links = one-more before s (getD last b 0) (λ y. lastIn l y (bucketOf l y)) (λ y. seated (rosterIn l) y ≡ true)
+          (omega (arith, k .long .2)) (k .links) (k .ends b in-range ∙ ap (lastIn l s) eb);
     }

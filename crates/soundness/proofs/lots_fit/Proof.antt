@@ -15,7 +15,8 @@ use Rattle.soundness.proofs.lots_fit.Statement.{statement}
 use Rattle.soundness.proofs.lots_fit.Tie as tie
 
 -- the clauses on seats and numbers together, and then the links
-with-links : (l : List ℕ) {b : Bool} → all seats (seatFits l) && numbersDiffer l ≡ b → b && linksFit l ≡ all seats (seatFits l) && (numbersDiffer l && linksFit l)
+with-links : (l : List ℕ) {b : Bool} → all seats (seatFits l) && numbersDiffer l ≡ b
+    → b && linksFit l ≡ all seats (seatFits l) && (numbersDiffer l && linksFit l)
 with-links l e = rw (← e) (and-assoc (all seats (seatFits l)) (numbersDiffer l) (linksFit l))
 
 seats-fit-requires : tie.Need-seats-fit-requires

@@ -20,10 +20,9 @@ keep-requires c κs = search needs
 
 returns-2 : tie.Need-returns-2
 returns-2 c =
-    let r = c .before .before .before .before .before .before .before .before .before .before in (
-      sym (all-differ (r .args .rec .now) (r .args .s) (r .pre .2) ∙ ap not (sym (c .before .before .before .before .before .repeats .ensures) ∙ c .before .before .before .before .if1 .left)),
-      λ e. c .keep .ensures,
-    )
+    let r = c .before .before .before .before .before .before .before .before .before .before in
+    let none = sym (c .before .before .before .before .before .repeats .ensures) ∙ c .before .before .before .before .if1 .left in
+    (sym (all-differ (r .args .rec .now) (r .args .s) (r .pre .2) ∙ ap not none), λ e. c .keep .ensures)
 
 pub lot-fits-spec : {M : Type 1} → statement M
 lot-fits-spec = tie.close (tie.spec repeats-requires returns keep-requires returns-2)

@@ -67,7 +67,8 @@ returns c =
     let x = lot (c .before .before) in
     let m = c .before .before .before .loop .inv in
     let y = c .before .before .before .loop .y - 1 in
-    let same : rosterIn l .number (r .args .s) ≡ rosterIn l .number y = sym (m .0) ∙ sym (c .if1 .taken) ∙ r .pre .2 .number y (omega (arith, x .below, m .1 .1)) (x .lot) in
+    let same : rosterIn l .number (r .args .s) ≡ rosterIn l .number y =
+    sym (m .0) ∙ sym (c .if1 .taken) ∙ r .pre .2 .number y (omega (arith, x .below, m .1 .1)) (x .lot) in
     sym (any-here (r .args .s) y (sameNumber l (r .args .s)) (omega (arith, x .below, m .1 .1)) (rw (x .lot, eq-eqb _ _ same)))
 
 sub-y : tie.Need-sub-y Inv-loop μ-loop

@@ -33,7 +33,8 @@ lot-fits-requires c κs =
 returns-2 : tie.Need-returns-2
 returns-2 c =
     let r = c .before .before .before .before .before .before .before .before .before in
-    let low : ltb (getD (r .args .rec .now) (stateAt (r .args .s)) 0) 3 ≡ true = rw (← c .before .before .before .before .before .before .before .state .ensures) (lt-ltb _ _ (c .before .before .before .before .before .before .if1 .left)) in
+    let b = c .before .before .before .before .before .before in
+    let low : ltb (getD (r .args .rec .now) (stateAt (r .args .s)) 0) 3 ≡ true = rw (← b .before .state .ensures) (lt-ltb _ _ (b .if1 .left)) in
     let lot = sym (c .before .before .before .before .before .is-seated .ensures) ∙ c .before .before .before .before .if2 .taken in
     (rw (low, lot) (c .lot-fits .ensures .0), c .lot-fits .ensures .1)
 
@@ -44,7 +45,8 @@ returns-3 : tie.Need-returns-3
 returns-3 c =
     let r = c .before .before .before .before .before .before in
     let l = r .args .rec .now in
-    let low : ltb (getD l (stateAt (r .args .s)) 0) 3 ≡ true = rw (← c .before .before .before .before .state .ensures) (lt-ltb _ _ (c .before .before .before .if1 .left)) in
+    let b = c .before .before .before in
+    let low : ltb (getD l (stateAt (r .args .s)) 0) 3 ≡ true = rw (← b .before .state .ensures) (lt-ltb _ _ (b .if1 .left)) in
     let free = sym (c .before .before .is-seated .ensures) ∙ c .before .if2 .left in
     (rw (low, free-differs l (r .args .s) free, free, and-true) (c .as-opened .ensures), λ e. kept-free l (r .args .s) (r .pre .2) free)
 

@@ -4,7 +4,8 @@ use borrow.Author.Needs.{needs}
 use Prim.Native.Nat.{ℕ, _+_, _≤_, _<_, _-_}
 use mathlib.Core.Path.{_≡_, sym, _∙_}
 use mathlib.Core.Logic.{⊎-elim}
-use mathlib.Core.Bool.{true, false, _&&_}
+use mathlib.Core.Bool.{Bool, true, false, _&&_}
+use mathlib.Core.List.{List}
 use native.Mathlib.Omega.{arith}
 use borrow.Author.Tests.{not-false, le-leb}
 use Rattle.memory.specs.Loops.{all}
@@ -20,9 +21,13 @@ use Rattle.soundness.proofs.Kept.{kept-none, none-above}
 use Rattle.soundness.proofs.entries.seats_fit.Statement.{statement}
 use Rattle.soundness.proofs.entries.seats_fit.Tie as tie
 
+-- the clauses of seat s
+abbrev passes : (l : List ℕ) (s : ℕ) → Bool
+passes l s = seatFits l s && all s (differ l s)
+
 abbrev Inv-loop : tie.InvT-loop
 Inv-loop rec numbers₀ last₀ before₀ top₀ s₀ numbers last before top s = (s ≤ seats) × (top ≤ s)
-    × (all s (λ i. seatFits rec i && all i (differ rec i)) ≡ true) × Kept rec s numbers last before
+    × (all s (passes rec) ≡ true) × Kept rec s numbers last before
     × ((y : ℕ) → y < s → top ≤ y → seated (rosterIn rec) y ≡ false)
 
 abbrev μ-loop : tie.MeasureT-loop
@@ -36,8 +41,10 @@ seat-fits-requires c κs = search needs
 
 returns : tie.Need-returns Inv-loop μ-loop
 returns c =
-    let l = c .before .before .before .before .before .before .before .before .args .rec .now in (
-      all-stop seats (c .before .before .before .before .before .before .loop .s) (λ i. seatFits l i && all i (differ l i)) (c .before .before .before .before .before .loop-test .taken) (c .before .seat-fits .ensures .0) (c .if1 .taken) ∙ seat-clauses l,
+    let l = c .before .before .before .before .before .before .before .before .args .rec .now in
+    let s = c .before .before .before .before .before .before .loop .s in
+    let test = c .before .before .before .before .before .loop-test .taken in (
+      all-stop seats s (passes l) test (c .before .seat-fits .ensures .0) (c .if1 .taken) ∙ seat-clauses l,
       (λ h. absurd (omega (arith, h)), λ s h g. absurd (omega arith)),
     )
 
@@ -62,7 +69,11 @@ top-next c =
     let i = b .loop .inv in
     ⊎-elim
     (λ (t, e). (omega (arith, e), λ y h g. absurd (omega (arith, e))))
-    (λ (f, e). (omega (arith, e, i .1), λ y h g. none-above _ (b .loop .s) (b .loop .top) (i .4) (sym (c .before .is-seated .ensures) ∙ f .left) y h (omega (arith, e, g))))
+    (λ (f, e). (
+      omega (arith, e, i .1),
+      λ y h g.
+          none-above _ (b .loop .s) (b .loop .top) (i .4) (sym (c .before .is-seated .ensures) ∙ f .left) y h (omega (arith, e, g)),
+    ))
     (c .if2 .came)
 
 loop-again : tie.Need-loop-again Inv-loop μ-loop
@@ -78,7 +89,8 @@ returns-2 c =
     let s = c .before .loop .s in
     let l = c .before .before .before .args .rec .now in
     let end : s ≡ seats = omega (arith, i .0, c .loop-test .left) in (
-      le-leb (c .before .loop .top) seats (omega (arith, i .0, i .1)) ∙ all-end seats s (λ i. seatFits l i && all i (differ l i)) (i .0) (c .loop-test .left) (i .2) ∙ seat-clauses l,
+      le-leb (c .before .loop .top) seats (omega (arith, i .0, i .1)) ∙ all-end seats s (passes l) (i .0) (c .loop-test .left) (i .2)
+          ∙ seat-clauses l,
       (λ h y g. i .3 .number y (omega (arith, g, end)), λ y h. i .4 y (omega (arith, h, end))),
     )
 
