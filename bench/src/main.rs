@@ -33,8 +33,23 @@ fn main() {
         "A pass that takes eight bytes at a time: {:.0} nanoseconds.",
         time::pass_by_words()
     );
+    print_one_remainder();
     print_aims(&measured);
     stack::print();
+}
+
+fn print_one_remainder() {
+    let row = rows::one_remainder();
+    for times in time::measure(std::slice::from_ref(&row)) {
+        println!(
+            "Not in the table: {} on {} whose numbers leave one remainder by 509: {:.0} nanoseconds, {:.2} times Rust, {:.2} passes.",
+            row.call,
+            row.record,
+            times.library,
+            times.library / times.rust,
+            times.library / times.pass,
+        );
+    }
 }
 
 fn print_row(row: &Row, times: Times) {

@@ -190,11 +190,28 @@ fn lots(count: usize) -> Vec<Member> {
     (0..count as u8).map(lot).collect()
 }
 
-/// A settled record: each link is as in the graph of the members.
+/// A settled record with so many lots.
 pub fn settled(count: usize) -> Vec<u8> {
-    let members = lots(count);
+    settled_of(&lots(count))
+}
+
+/// A call that looks at 64 lots whose numbers all leave one remainder in the
+/// soundness test: the most comparisons of numbers that it can come to.
+pub fn one_remainder() -> Row {
+    let mut members = lots(SEATS);
+    for member in &mut members {
+        member.number = member.number / REMAINDERS * REMAINDERS;
+    }
+    row("64 lots", &settled_of(&members), Call::RecordRefusal)
+}
+
+/// `BUCKETS` of crates/soundness.
+const REMAINDERS: u64 = 509;
+
+/// Each link is as in the graph of the members.
+fn settled_of(members: &[Member]) -> Vec<u8> {
     let mut lots: Lots = [const { None }; SEATS];
-    for (member, links) in members.iter().zip(graph::links(&members)) {
+    for (member, links) in members.iter().zip(graph::links(members)) {
         lots[usize::from(member.seat)] = Some(Lot {
             number: member.number,
             vector: member.vector,
