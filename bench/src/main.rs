@@ -42,7 +42,7 @@ fn print_one_remainder() {
     let row = rows::one_remainder();
     for times in time::measure(std::slice::from_ref(&row)) {
         println!(
-            "Not in the table: {} on {} whose numbers leave one remainder by 509: {:.0} nanoseconds, {:.2} times Rust, {:.2} passes.",
+            "Not in the table: {} on {} whose numbers leave one remainder: {:.0} nanoseconds, {:.2} times Rust, {:.2} passes.",
             row.call,
             row.record,
             times.library,

@@ -5,6 +5,7 @@ use compare::graph::{self, Member, LEVELS, SEATS, SIDES};
 use compare::lent::{self, SIZE};
 use compare::model::{Lot, Lots, Message, Model, Phase, State};
 use compare::random::Random;
+use compare::script::REMAINDERS;
 use std::collections::BTreeSet;
 
 pub struct Row {
@@ -204,9 +205,6 @@ pub fn one_remainder() -> Row {
     }
     row("64 lots", &settled_of(&members), Call::RecordRefusal)
 }
-
-/// `BUCKETS` of crates/soundness.
-const REMAINDERS: u64 = 509;
 
 /// Each link is as in the graph of the members.
 fn settled_of(members: &[Member]) -> Vec<u8> {

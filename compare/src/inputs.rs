@@ -16,7 +16,12 @@ pub use sound::sound_record;
 /// Seats, numbers and vectors for one record and the calls on it.
 pub fn pools(random: &mut Random) -> Pools {
     let seats = random.pick(&[1, 2, 2, 3, 3, 4, 5, 6, 8, 12, 20, 32, 63, 64, 64]);
-    let numbers = random.pick(&[Numbers::Close, Numbers::Spread, Numbers::Edge]);
+    let numbers = random.pick(&[
+        Numbers::Close,
+        Numbers::Spread,
+        Numbers::Edge,
+        Numbers::Alike,
+    ]);
     let vectors = random.pick(&[
         Vectors::Any,
         Vectors::Any,

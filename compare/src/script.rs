@@ -8,7 +8,7 @@ mod writer;
 use crate::random::Random;
 use writer::Writer;
 
-pub use pools::{Numbers, Pools, Vectors};
+pub use pools::{Numbers, Pools, Vectors, REMAINDERS};
 
 /// Lines, each with its newline; the last may lack it.
 pub type Script = Vec<Vec<u8>>;

@@ -4,6 +4,10 @@
 use crate::graph::{BITS, SEATS};
 use crate::random::Random;
 
+/// By how many the soundness test divides numbers, to compare only lots whose
+/// numbers leave the same remainder: `BUCKETS` of crates/soundness.
+pub const REMAINDERS: u64 = 509;
+
 #[derive(Clone, Copy)]
 pub enum Numbers {
     /// A hundred and up.
@@ -12,6 +16,8 @@ pub enum Numbers {
     Spread,
     /// Both ends, powers of two and their neighbours.
     Edge,
+    /// At equal distances, so that all leave one remainder.
+    Alike,
 }
 
 #[derive(Clone, Copy)]
@@ -67,12 +73,13 @@ fn some_numbers(numbers: Numbers, count: usize, random: &mut Random) -> Vec<u64>
         Numbers::Close => (0..count as u64).map(|n| 100 + n).collect(),
         Numbers::Spread => (0..count).map(|_| random.next()).collect(),
         Numbers::Edge => edges(),
+        Numbers::Alike => (1..=count as u64).map(|n| REMAINDERS * n).collect(),
     };
     shuffle(&mut some, random);
     let ends = [0, u64::MAX];
     some.retain(|number| !ends.contains(number));
     some.truncate(count);
-    if !matches!(numbers, Numbers::Close) {
+    if !matches!(numbers, Numbers::Close | Numbers::Alike) {
         some.extend(ends);
     }
     some

@@ -9,6 +9,7 @@ use compare::graph::{LEVELS, SEATS};
 use compare::lent::place::*;
 use compare::lent::{self, message_at};
 use compare::model::{shared_bits, Message};
+use compare::script::REMAINDERS;
 use std::ops::Range;
 
 type Forgive = fn(&mut [u8]);
@@ -51,7 +52,12 @@ blind_to! {
     numbers_of_free_seats: |bytes| free(bytes, |entry| entry[NUMBER_AT..VECTOR_AT].fill(0));
     vectors_of_free_seats: |bytes| free(bytes, |entry| entry[VECTOR_AT] = 0);
     links_of_free_seats: |bytes| free(bytes, |entry| entry[LINKS_AT..].fill(NO_LINK));
-    equal_numbers: raise_equal_number;
+    equal_numbers: |bytes| raise_equal_numbers(bytes, |_, _| true);
+    equal_numbers_but_of_the_last_lot_alike: |bytes| raise_equal_numbers(bytes, |bytes, seat| {
+        let number = lot(bytes, seat).1;
+        let alike = |&other: &u8| lot(bytes, other).0 != 0 && lot(bytes, other).1 % REMAINDERS == number % REMAINDERS;
+        (0..seat).rev().find(alike).is_some_and(|last| lot(bytes, last).1 != number)
+    });
     links_to_seats_above_63: |bytes| unlink(bytes, |_, _, _, link| link > 63);
     links_to_free_seats: |bytes| unlink(bytes, |bytes, _, _, link| {
         link < 64 && lot(bytes, link).0 == 0
@@ -126,12 +132,13 @@ fn share(bytes: &[u8], one: u8, other: u8) -> usize {
     shared_bits(lot(bytes, one).2, lot(bytes, other).2) as usize
 }
 
-/// Of two lots with the same number, one that no link names gets the next.
-fn raise_equal_number(bytes: &mut [u8]) {
+/// Of two lots with the same number, the upper one gets the next if that the
+/// numbers are equal is not seen.
+fn raise_equal_numbers(bytes: &mut [u8], unseen: fn(&[u8], u8) -> bool) {
     for seat in 1..SEATS as u8 {
         let (state, number, _) = lot(bytes, seat);
         let equal = |other: u8| lot(bytes, other).0 != 0 && lot(bytes, other).1 == number;
-        if state != 0 && (0..seat).any(equal) {
+        if state != 0 && (0..seat).any(equal) && unseen(bytes, seat) {
             let number = number.wrapping_add(1).to_be_bytes();
             entry(bytes, seat.into())[NUMBER_AT..VECTOR_AT].copy_from_slice(&number);
         }
