@@ -125,6 +125,11 @@ impl Message {
             side,
         }
     }
+
+    /// Its five numbers.
+    pub(crate) const fn numbers(self) -> [u8; 5] {
+        [self.kind, self.to, self.about, self.level, self.side]
+    }
 }
 
 /// A seat as the library answers it, with 255 for none.

@@ -169,13 +169,7 @@ impl<B: AsMut<[u8]>> Record<B> {
     pub fn deliver(&mut self, message: Message) -> Result<(), Refusal> {
         let bytes = self.bytes.as_mut();
         let (record, length) = (bytes.as_mut_ptr(), bytes.len());
-        let Message {
-            kind,
-            to,
-            about,
-            level,
-            side,
-        } = message;
+        let [kind, to, about, level, side] = message.numbers();
         // SAFETY: the slice is ours to write for its length.
         accepted(unsafe { sys::lots_deliver(record, length, kind, to, about, level, side) })
     }
@@ -356,13 +350,7 @@ impl<B: AsRef<[u8]>> Record<B> {
     pub fn is_pending(&self, message: Message) -> Result<bool, Refusal> {
         let bytes = self.as_bytes();
         let (record, length) = (bytes.as_ptr(), bytes.len());
-        let Message {
-            kind,
-            to,
-            about,
-            level,
-            side,
-        } = message;
+        let [kind, to, about, level, side] = message.numbers();
         let mut pending = 0;
         // SAFETY: the slice is ours to read for its length; the output is local.
         accepted(unsafe {

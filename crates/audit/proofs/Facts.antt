@@ -46,7 +46,8 @@ module _ (l : List ℕ) (e : length l ≡ size) (b : AreBytes l) (s : sound l �
   yes-constraints = rw yes-says (check-constraints (lots-laws l e b s))
 
   -- a member's link to a lot that is none, as to a leaver while clearing
-  pub link-out-no : (x k y : ℕ) (d : Side) → T (member (rosterIn l) x) → k ≤ width → meaning l .link x k d ≡ some y → ¬ (T (member (rosterIn l) y))
+  pub link-out-no : (x k y : ℕ) (d : Side) → T (member (rosterIn l) x) → k ≤ width → meaning l .link x k d ≡ some y
+      → ¬ (T (member (rosterIn l) y))
       → checkIn l .yes ≡ false
   link-out-no x k y d m h f out = not-T-false (λ t. out (yes-constraints .0 (T-true t) .0 .within x k y d m h f))
 

@@ -51,7 +51,8 @@ module _ (l : List ℕ) where
       from = λ i ne. let (y, j, f, h, t, q) = a .from i ne in (y, j, f, omega arith, t, q);
     }
       where
-        by : (y j : ℕ) → j < levels → y * levels + j < x * levels + k + 1 → T (EndOf y j) → Dec (y ≡ x) → Dec (j ≡ k) → getD m (placeOf l y j) 0 ≢ 0
+        by : (y j : ℕ) → j < levels → y * levels + j < x * levels + k + 1 → T (EndOf y j) → Dec (y ≡ x) → Dec (j ≡ k)
+            → getD m (placeOf l y j) 0 ≢ 0
         by y j f h t (yes q) (yes r) = let u : T (EndOf x k) = rw (q, r) at t in false-T e u
         by y j f h t (yes q) (no r) = a .put y j f (omega arith) t
         by y j f h t (no q) d = a .put y j f (omega arith) t

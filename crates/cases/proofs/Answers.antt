@@ -89,7 +89,8 @@ module _ (l : List ℕ) (e : openRefusal l ≡ 0) (cs : List Call) (t : T (fits 
       λ i. record { refused = no i; bytes = refused-same (run l cs .now) c n no i }
 
   pub find-seen : (s x : ℕ) → T (seated (v .roster) s)
-      → findIn (run l cs .now) s x ≡ (let f = find (v .roster .number) (v .link) x seats width s in record { refused = 0; holder = f .holder; hops = f .hops })
+      → findIn (run l cs .now) s x
+      ≡ (let f = find (v .roster .number) (v .link) x seats width s in record { refused = 0; holder = f .holder; hops = f .hops })
   find-seen s x m = at (λ b. findIn b s x) ∙ find-bytes (meant v) h s x m
 
   pub lot-seen : (x : ℕ) → T (ltb x seats) → readLot (run l cs .now) x ≡ lotOf (v .roster) x

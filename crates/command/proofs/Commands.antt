@@ -78,7 +78,8 @@ pub deliver-reads : (fs : List (List ℕ))
     → commandOf ((68 ∷ []) ∷ fs)
     ≡ next (read byteField fs)
     (λ k fs₁. next (read byteField fs₁)
-    (λ t fs₂. next (read byteField fs₂) (λ x fs₃. next (read byteField fs₃) (λ l fs₄. ends (read byteField fs₄) (λ d. some (deliver k t x l d))))))
+    (λ t fs₂. next (read byteField fs₂)
+    (λ x fs₃. next (read byteField fs₃) (λ l fs₄. ends (read byteField fs₄) (λ d. some (deliver k t x l d))))))
 unfolding commandOf read
 deliver-reads [] = refl
 deliver-reads (a ∷ []) = simp by-fields

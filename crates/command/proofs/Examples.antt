@@ -30,7 +30,8 @@ limits = refl
 
 abbrev no-lines : List String
 no-lines =
-    "" ∷ " " ∷ " T" ∷ "T " ∷ "t" ∷ "TT" ∷ "T\r" ∷ "\tT" ∷ "T\0" ∷ "X" ∷ "L" ∷ "L " ∷ "L  1" ∷ "L 1 " ∷ "L 00" ∷ "L 01" ∷ "L +1" ∷ "L -1" ∷ "L 1a"
+    "" ∷ " " ∷ " T" ∷ "T " ∷ "t" ∷ "TT" ∷ "T\r" ∷ "\tT" ∷ "T\0" ∷ "X" ∷ "L" ∷ "L " ∷ "L  1" ∷ "L 1 " ∷ "L 00" ∷ "L 01"
+    ∷ "L +1" ∷ "L -1" ∷ "L 1a"
     ∷ "L 1 2" ∷ "L\t1" ∷ "F 0" ∷ "F 0 1 2" ∷ "J 0 1 2" ∷ "J 0 1 2 3 4" ∷ "D 1 2 3 4" ∷ "D 1 2 3 4 5 6" ∷ []
 
 bad : map line no-lines ≡ map (λ s. none) no-lines

@@ -33,7 +33,8 @@ no-word x y w (a ∷ b ∷ d ∷ e ∷ f ∷ []) = refl
 no-word x y w (a ∷ b ∷ d ∷ e ∷ f ∷ g ∷ l) = refl
 
 -- or with a letter of its own and numbers after it
-pub no-numbers : (x : ℕ) (l : List ℕ) → (x ≡ 74 → ⊥) → (x ≡ 76 → ⊥) → (x ≡ 68 → ⊥) → (x ≡ 70 → ⊥) → commandOf ((x ∷ []) ∷ fields l) ≡ none
+pub no-numbers : (x : ℕ) (l : List ℕ) → (x ≡ 74 → ⊥) → (x ≡ 76 → ⊥) → (x ≡ 68 → ⊥) → (x ≡ 70 → ⊥)
+    → commandOf ((x ∷ []) ∷ fields l) ≡ none
 unfolding commandOf
 no-numbers x l nj nl nd nf = rw (fields-first l) (by (first l) (rest l))
   where

@@ -29,7 +29,8 @@ read-end v = read-first v []
 pub read-space : (v : List ℕ → Option ℕ) (b : ℕ) (l : List ℕ) → b ≡ 32 → read v (fields (b ∷ l)) ≡ readAs (v []) (fields l)
 read-space v b l e = read-first v (b ∷ l) ∙ rw (first-space b l e, rest-space b l e)
 
-pub read-byte : (v : List ℕ → Option ℕ) (b : ℕ) (l : List ℕ) → (b ≡ 32 → ⊥) → read v (fields (b ∷ l)) ≡ readAs (v (b ∷ first l)) (rest l)
+pub read-byte : (v : List ℕ → Option ℕ) (b : ℕ) (l : List ℕ) → (b ≡ 32 → ⊥)
+    → read v (fields (b ∷ l)) ≡ readAs (v (b ∷ first l)) (rest l)
 read-byte v b l e = read-first v (b ∷ l) ∙ rw (first-byte b l e, rest-byte b l e)
 
 -- a digit goes into the number

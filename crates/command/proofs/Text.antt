@@ -57,7 +57,8 @@ unfolding parsed
 parsed-text c h = rw (fields-text c) (command-fields c h)
 
 -- and what is a command is its fields: what a letter and a number tell, handed on
-word-then : (k : ℕ) (f : List ℕ) (o : Option Command) (c : Command) {P : Type 0} → when (isLetter k f) o ≡ some c → (k ∷ [] ≡ f → o ≡ some c → P) → P
+word-then : (k : ℕ) (f : List ℕ) (o : Option Command) (c : Command) {P : Type 0} → when (isLetter k f) o ≡ some c
+    → (k ∷ [] ≡ f → o ≡ some c → P) → P
 word-then k [] o c e g = absurd (Option·none-ne-some c e)
 word-then k (b ∷ []) o c {P} e g = by (eqb b k) refl e
   where

@@ -83,7 +83,8 @@ module _ (l : List ℕ) (b : AreBytes l) (m : Msg) (e : made l (deliver (nameOf 
       apart s k d g p q = let o = sideNumber-lt d in ⊎-elim (λ u. omega arith) (λ u. omega arith) q
 
   -- no byte of the phase or of another entry changes
-  pub other-bytes : (i : ℕ) → i < pendingFrom → Outside (entryAt (nameOf m .to)) entrySize i → getD (made l (deliver (nameOf m)) .bytes) i 0 ≡ getD l i 0
+  pub other-bytes : (i : ℕ) → i < pendingFrom → Outside (entryAt (nameOf m .to)) entrySize i
+      → getD (made l (deliver (nameOf m)) .bytes) i 0 ≡ getD l i 0
   other-bytes i h o =
       let w : i < size = omega arith in
       ap (λ (x : List ℕ). getD x i 0) bytes-after

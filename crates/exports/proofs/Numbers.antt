@@ -51,7 +51,8 @@ number-answer zero = refl
 number-answer (suc n) = refl
 
 -- n is the number of what was told
-pub outcome-number : {t : Told} {n : ℕ} (o : Outcome) → t ≡ answered o → n ≡ answerNumber (t .answer) → record { refused = n; bytes = t .bytes } ≡ o
+pub outcome-number : {t : Told} {n : ℕ} (o : Outcome) → t ≡ answered o → n ≡ answerNumber (t .answer)
+    → record { refused = n; bytes = t .bytes } ≡ o
 unfolding answered
 outcome-number o e q = rw (q, e, number-answer (o .refused))
 

@@ -84,7 +84,8 @@ pub extern "C" fn lots_find(
     holder: &mut u8,
     hops: &mut u64,
 ) -> u8
-    ensures { λ r. ⌜ record { refused = r; holder = now (holder .exit); hops = now (hops .exit) } ≡ findNumbers (findIn (now (rec .entry)) seat number) ⌝ }
+    ensures { λ r. ⌜ record { refused = r; holder = now (holder .exit); hops = now (hops .exit) }
+        ≡ findNumbers (findIn (now (rec .entry)) seat number) ⌝ }
 {
     match find::find(rec, seat, number) {
         Found::Refused(n) => {

@@ -40,7 +40,8 @@ module _ (W : ℕ) (G : Lots) (L : Links) where
     -- 3 and 4: the link back
     pub back : (x k y : ℕ) (d : Side) → Node G x → k ≤ W → L x k d ≡ some y → L y k (opp d) ≡ some x
     -- 5 and 6: the link one level up is the first iterate that agrees in one bit more
-    pub first : (x k y j : ℕ) (d : Side) → Node G x → k < W → iterate L k d (suc j) x ≡ some y → Agree W G k x y → NoneBefore k x d j → L x (suc k) d ≡ some y
+    pub first : (x k y j : ℕ) (d : Side) → Node G x → k < W → iterate L k d (suc j) x ≡ some y → Agree W G k x y → NoneBefore k x d j
+        → L x (suc k) d ≡ some y
     -- 5 and 6, else: none
     pub last : (x k : ℕ) (d : Side) → Node G x → k < W → ((j : ℕ) → NoneBefore k x d j) → L x (suc k) d ≡ none
 

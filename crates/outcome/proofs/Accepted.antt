@@ -55,7 +55,8 @@ module _ (l : List ℕ) where
       by (suc n) h = refl
 
   -- an accepted call leaves the bytes of the meaning after it
-  pub told-done : (c : Call) {m : List ℕ} → madeRefusal l c ≡ 0 → m ≡ bytesOf (accept seats width (meaning l) c) → told Done m ≡ answered (made l c)
+  pub told-done : (c : Call) {m : List ℕ} → madeRefusal l c ≡ 0 → m ≡ bytesOf (accept seats width (meaning l) c)
+      → told Done m ≡ answered (made l c)
   unfolding made answered answerOf unlessRefused
   told-done c e h = rw (e, h)
 

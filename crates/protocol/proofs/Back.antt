@@ -44,7 +44,8 @@ module _ {G : World} where
       same q (inl f) = linked (f ∙ ap some q)
       same q (inr (v, sets l′ o′)) = linked (t .moved (sets l′ o′))
 
-      near : {o : ℕ} → S .link x k d ≡ some o → Lt (G .num) d o y → (S′ .link x k d ≡ some o) ⊎ ((v : Option ℕ) × Sets G S (meet x y k) x k d v)
+      near : {o : ℕ} → S .link x k d ≡ some o → Lt (G .num) d o y
+          → (S′ .link x k d ≡ some o) ⊎ ((v : Option ℕ) × Sets G S (meet x y k) x k d v)
           → Met G S′ x y k d
       near {o} e n (inl f) = passed o f (h .link-side e) n (t .came (on l e n))
       near e n (inr (v, sets l′ o′)) = linked (t .moved (sets l′ o′))
@@ -70,7 +71,8 @@ module _ {G : World} where
   lost-way u q = record { lot = q .lot; after = opp-lt (q .nearer); upto = inr (lt-then (opp-lt (q .near)) u); backs = inr (q .told) }
 
   -- the witness's MEET is delivered
-  met-way : {S′ : State} {a b j w : ℕ} {f : Side} → Lt (G .num) f a w → (w ≡ b) ⊎ Lt (G .num) f w b → Met G S′ w a j (opp f) → WayBack G S′ a j f b
+  met-way : {S′ : State} {a b j w : ℕ} {f : Side} → Lt (G .num) f a w → (w ≡ b) ⊎ Lt (G .num) f w b → Met G S′ w a j (opp f)
+      → WayBack G S′ a j f b
   met-way {w = w} l u (linked e) = record { lot = w; after = l; upto = u; backs = inl e }
   met-way l u (passed o e n q p) = record { lot = o; after = opp-lt q; upto = inr (lt-then (opp-lt n) u); backs = inr p }
 

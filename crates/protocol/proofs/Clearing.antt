@@ -86,7 +86,8 @@ module _ {G : World} {Stay : ℕ → Type 0} where
 
   -- past a leaver z there is no staying lot before z's own link
   past : {z x k : ℕ} {d : Side} {A : ℕ → Type 0} → ¬ (Stay z) → Pair G k x z
-      → ((v : ℕ) → Pair G k x v → Stay v → Lt (G .num) d x v → (v ≡ z) ⊎ Lt (G .num) d z v) → ((v : ℕ) → Pair G k z v → Lt (G .num) d z v → A v)
+      → ((v : ℕ) → Pair G k x v → Stay v → Lt (G .num) d x v → (v ≡ z) ⊎ Lt (G .num) d z v)
+      → ((v : ℕ) → Pair G k z v → Lt (G .num) d z v → A v)
       → (v : ℕ) → Pair G k x v → Stay v → Lt (G .num) d x v → A v
   past {z} {d = d} {A = A} ns p near f v q s l = by (near v q s l)
     where
@@ -118,7 +119,8 @@ module _ {G : World} {Stay : ℕ → Type 0} where
   set-target {x = x} {k = k} {d = d} c t s = subst (Target G Stay k x d) (sym (t .moved s)) (sets-target (c .ok (t .was)) s)
 
   -- a job goes on
-  job-going : {L : Links} {S S′ : State} {x k : ℕ} {d : Side} → AllLinks G Stay L → Clearing G Stay L S → Stay x → Cleared G Stay S (going x k d) S′
+  job-going : {L : Links} {S S′ : State} {x k : ℕ} {d : Side} → AllLinks G Stay L → Clearing G Stay L S → Stay x
+      → Cleared G Stay S (going x k d) S′
       → S .link x k d ≢ none → (v : Option ℕ) → S .link x k d ≡ v → Todo G Stay S′ x k d
   job-going b c st t ne none e = absurd (ne e)
   job-going b c st t ne (some y) e = by-seek y (good b c st e .side) (t .came (asks st e))

@@ -29,7 +29,8 @@ pub data View (G : World) (S : State) (Stay : ℕ → Type 0) : Msg → Effect �
   v-ask : {x k : ℕ} {d : Side} → Stay x → View G S Stay (going x k d) (sending (toLink (S .link x k d) (λ z. seek z x k)))
   v-idle : {x k : ℕ} {d : Side} → ¬ (Stay x) → View G S Stay (going x k d) (sending [])
   v-answer : {z x k : ℕ} → Stay z → View G S Stay (seek z x k) (sending (found x z k ∷ []))
-  v-pass : {z x k w : ℕ} {d : Side} → ¬ (Stay z) → Lt (G .num) d x z → S .link z k d ≡ some w → View G S Stay (seek z x k) (sending (seek w x k ∷ []))
+  v-pass : {z x k w : ℕ} {d : Side} → ¬ (Stay z) → Lt (G .num) d x z → S .link z k d ≡ some w
+      → View G S Stay (seek z x k) (sending (seek w x k ∷ []))
   v-none : {z x k : ℕ} {d : Side} → ¬ (Stay z) → Lt (G .num) d x z → S .link z k d ≡ none
       → View G S Stay (seek z x k) (sending (none-found x k d ∷ []))
   v-found : {x z k : ℕ} {d : Side} → Lt (G .num) d x z → View G S Stay (found x z k) (setting k d (some z))

@@ -37,7 +37,8 @@ module _ {G : World} where
   link-conn t e (inl f) = clink f
   link-conn t e (inr s) = lost-conn (lost t e (s .1))
 
-  meet-conn : {S S′ : State} {m : Msg} {x y k : ℕ} → Proper G S → Opened G S m S′ → S .pend (meet x y k) → (meet x y k ≡ m) ⊎ S′ .pend (meet x y k)
+  meet-conn : {S S′ : State} {m : Msg} {x y k : ℕ} → Proper G S → Opened G S m S′ → S .pend (meet x y k)
+      → (meet x y k ≡ m) ⊎ S′ .pend (meet x y k)
       → Conn S′ k x y
   meet-conn {S} {S′} {m} {x} {y} {k} h t p (inl e) =
       let o = h .pend-ok p in

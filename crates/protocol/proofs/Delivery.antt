@@ -17,7 +17,8 @@ use Rattle.protocol.proofs.Message.{same-eq, eq-same, among-mem, mem-am
 use Rattle.protocol.proofs.Calls.{after-came, after-kept, after-only, applied-at, applied-frame}
 use Rattle.protocol.proofs.World.{State}
 
-pub record Delivery (Sends : Msg → Msg → Type 0) (Sets : Msg → ℕ → ℕ → Side → Option ℕ → Type 0) (S : State) (m : Msg) (S′ : State) : Type 0 where
+pub record Delivery (Sends : Msg → Msg → Type 0) (Sets : Msg → ℕ → ℕ → Side → Option ℕ → Type 0)
+    (S : State) (m : Msg) (S′ : State) : Type 0 where
   pub was : S .pend m
   pub kept : (n : Msg) → S .pend n → (n ≡ m) ⊎ S′ .pend n
   pub came : {n : Msg} → Sends m n → S′ .pend n
@@ -27,7 +28,8 @@ pub record Delivery (Sends : Msg → Msg → Type 0) (Sets : Msg → ℕ → ℕ
 
 module _ {Sends : Msg → Msg → Type 0} {Sets : Msg → ℕ → ℕ → Side → Option ℕ → Type 0} {S S′ : State} {m : Msg} where
   -- a link after the delivery is an old one, or the one set
-  pub link-cases : {x k y : ℕ} {d : Side} → Delivery Sends Sets S m S′ → S′ .link x k d ≡ some y → (S .link x k d ≡ some y) ⊎ Sets m x k d (some y)
+  pub link-cases : {x k y : ℕ} {d : Side} → Delivery Sends Sets S m S′ → S′ .link x k d ≡ some y
+      → (S .link x k d ≡ some y) ⊎ Sets m x k d (some y)
   link-cases {x} {k} {y} {d} t e = by (t .frame x k d)
     where
       by : (S′ .link x k d ≡ S .link x k d) ⊎ ((o : Option ℕ) × Sets m x k d o) → (S .link x k d ≡ some y) ⊎ Sets m x k d (some y)
@@ -39,7 +41,8 @@ module _ {Sends : Msg → Msg → Type 0} {Sets : Msg → ℕ → ℕ → Side �
       → (S′ .link x k d ≡ some y) ⊎ ((o : Option ℕ) × Sets m x k d o)
   link-kept {x} {k} {y} {d} t e = by (t .frame x k d)
     where
-      by : (S′ .link x k d ≡ S .link x k d) ⊎ ((o : Option ℕ) × Sets m x k d o) → (S′ .link x k d ≡ some y) ⊎ ((o : Option ℕ) × Sets m x k d o)
+      by : (S′ .link x k d ≡ S .link x k d) ⊎ ((o : Option ℕ) × Sets m x k d o)
+          → (S′ .link x k d ≡ some y) ⊎ ((o : Option ℕ) × Sets m x k d o)
       by (inl f) = inl (f ∙ e)
       by (inr s) = inr s
 

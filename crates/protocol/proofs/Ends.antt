@@ -141,7 +141,8 @@ module _ (G : World) where
     row-less x k left s = omega (arith, reach-le t x k right)
     row-less x k right s = omega (arith, reach-le t x k left)
 
-    reaches-less : {x k : ℕ} {d : Side} {v : Option ℕ} → x < N → k ≤ W → Sets G S m x k d v → reaches num N W (S′ .link) < reaches num N W (S .link)
+    reaches-less : {x k : ℕ} {d : Side} {v : Option ℕ} → x < N → k ≤ W → Sets G S m x k d v
+        → reaches num N W (S′ .link) < reaches num N W (S .link)
     unfolding reaches
     reaches-less {x} {k} {d} p q s =
         sum-less N _ _ (λ y l. sum-le (suc W) _ _ (λ j i. row-le y j)) x p

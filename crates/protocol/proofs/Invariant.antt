@@ -36,7 +36,8 @@ module _ {G : World} where
   invariant-quiet i q k = quiet-exact (i .proper) (i .back) (i .whole) (i .segments) q k
 
   -- an exact graph is symmetric
-  exact-back : {S : State} {x k y : ℕ} {d : Side} → Exact G S k → S .link x k d ≡ some y → (v : Option ℕ) → S .link y k (opp d) ≡ v → v ≡ some x
+  exact-back : {S : State} {x k y : ℕ} {d : Side} → Exact G S k → S .link x k d ≡ some y → (v : Option ℕ) → S .link y k (opp d) ≡ v
+      → v ≡ some x
   exact-back {x = x} h e none f = absurd (h .last f x (pair-sym (h .next e .pair)) (lt-opp (h .next e .side)))
   exact-back {S} {x} {k} {y} {d} h e (some v) f = ap some (by (h .next f .least x (pair-sym (h .next e .pair)) (lt-opp (h .next e .side))))
     where
@@ -104,7 +105,8 @@ module _ {G : World} where
       proper = record { link-pair = λ {x} {k} e. h k .next e .pair; link-side = λ {x} {k} e. h k .next e .side; pend-ok = λ p. absurd (q _ p) }
 
 -- at most one lot, no links and no messages
-pub invariant-first : (G : World) (S : State) → ((x y : ℕ) → G .Seated x → G .Seated y → x ≡ y) → ((x k : ℕ) (d : Side) → S .link x k d ≡ none)
+pub invariant-first : (G : World) (S : State) → ((x y : ℕ) → G .Seated x → G .Seated y → x ≡ y)
+    → ((x k : ℕ) (d : Side) → S .link x k d ≡ none)
     → Quiet S → Invariant G S
 invariant-first G S one bare q = record {
   proper = record { link-pair = λ e. none-some (bare _ _ _) e; link-side = λ e. none-some (bare _ _ _) e; pend-ok = λ p. absurd (q _ p) };

@@ -158,7 +158,8 @@ module _ {G G′ : World} {s c : ℕ} (g : Grows G G′ s c) where
     seg-start : {k m a b : ℕ} {d : Side} {u : ℕ → ℕ} → Segment G S k d u m a b → G .Seated a
     seg-start q = subst (G .Seated) (q .start) (h .link-pair (q .fwd 0 (q .pos)) .fst)
 
-pub invariant-join : {G G′ : World} {s c : ℕ} {S S′ : State} → Grows G G′ s c → Meets S S′ c s → G .Seated c → Invariant G S → Invariant G′ S′
+pub invariant-join : {G G′ : World} {s c : ℕ} {S S′ : State} → Grows G G′ s c → Meets S S′ c s → G .Seated c → Invariant G S
+    → Invariant G′ S′
 invariant-join {G} {S = S} g j sc i = record {
   proper = proper-join g j sc h;
   back = record { way = λ e. let f = old g j sc h e in way-up g j sc h f (i .back .way f) };

@@ -142,7 +142,8 @@ module _ (N W : ℕ) where
       rw (high-digit (q * W + l) (sideNumber-lt d), low-digit (q * W + l) (sideNumber-lt d), high-digit q r, low-digit q r)
       (rw (high-digit t (bitNumber-lt b), low-digit t (bitNumber-lt b), eqb-bitNumber b, sideAs-sideNumber d))
 
-  sideAt-digits : (f : ℕ → ℕ → Side → Msg) (t : ℕ) {l : ℕ} (d : Side) → l < suc W → sideAt N W f ((t * suc W + l) * 2 + sideNumber d) ≡ f t l d
+  sideAt-digits : (f : ℕ → ℕ → Side → Msg) (t : ℕ) {l : ℕ} (d : Side) → l < suc W
+      → sideAt N W f ((t * suc W + l) * 2 + sideNumber d) ≡ f t l d
   unfolding sideAt
   sideAt-digits f t {l} d r =
       let q = t * suc W + l in

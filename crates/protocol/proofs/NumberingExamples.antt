@@ -41,6 +41,7 @@ messageAt-lasts = refl
 
 -- the next message changes the last of its numbers first
 messageAt-next : map (messageAt seats width) (8 ∷ 9 ∷ 576 ∷ 69633 ∷ 69634 ∷ 69648 ∷ 69664 ∷ 71698 ∷ []) ≡
-    meet 0 0 8 ∷ meet 0 1 0 ∷ meet 1 0 0 ∷ pull 0 false 0 right ∷ pull 0 false 1 left ∷ pull 0 true 0 left ∷ pull 1 false 0 left ∷ going 1 0 left ∷ []
+    meet 0 0 8 ∷ meet 0 1 0 ∷ meet 1 0 0 ∷ pull 0 false 0 right ∷ pull 0 false 1 left ∷ pull 0 true 0 left ∷ pull 1 false 0 left
+    ∷ going 1 0 left ∷ []
 unfolding messageAt split pairAt pullAt sideAt
 messageAt-next = refl

@@ -90,7 +90,8 @@ module _ (G : World) (S : State) (st : SeatState) where
       beyond n m (inr (inr r)) = r
 
       by : (a : Bool) → eqb o y ≡ a → (b : Bool) → onSide d (G .num o) (G .num y) ≡ b
-          → View G S st (meet x y k) (cond a (sending []) (cond b (sending (meet o y k ∷ [])) (setting (G .W) (G .num) (G .vec) (entryIn G S st x) x y k d)))
+          → View G S st (meet x y k)
+          (cond a (sending []) (cond b (sending (meet o y k ∷ [])) (setting (G .W) (G .num) (G .vec) (entryIn G S st x) x y k d)))
       by true p b q = v-same l (e ∙ ap some (eqb-true o y p))
       by false p true q = v-near l e (on-lt (G .num) d o y (true-T q))
       by false p false q = v-set l (far o e (beyond p q (seat-tri G d o y (h .link-pair e .snd) sy)))
@@ -154,7 +155,8 @@ module _ (G : World) (S : State) (st : SeatState) where
       by (m-ask p w) = not-old e (inl refl) p
       by (m-call p w f) = not-old e (inl refl) p
 
-  right-near : {x y k o : ℕ} {d : Side} → Lt (G .num) d x y → S .link x k d ≡ some o → Lt (G .num) d o y → Is (meet x y k) (sending (meet o y k ∷ []))
+  right-near : {x y k o : ℕ} {d : Side} → Lt (G .num) d x y → S .link x k d ≡ some o → Lt (G .num) d o y
+      → Is (meet x y k) (sending (meet o y k ∷ []))
   right-near {x} {y} {k} {o} {d} l e q = record {
     all = λ s. by (meet-sends l s);
     mem = λ m. subst (λ (n : Msg). Sends G S (meet x y k) n) (sym (List·Memᴰ·eq-of-singleton m)) (on l e q);

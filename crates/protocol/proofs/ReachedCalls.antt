@@ -105,7 +105,8 @@ module _ {N W : ℕ} {M : Meaning} (h : Sound N W M) (s n v c : ℕ) (ok : Joins
       sent b = cond b (meet c s 0 ∷ []) []
 
       meets : (b : Bool) → b ≡ true
-          → Meets (stateOf M) (record { link = λ x k d. cond (eqb x s) none (M .link x k d); pend = λ m. T (pendingAfter (sent b) none (M .pending) m) }) c s
+          → Meets (stateOf M)
+          (record { link = λ x k d. cond (eqb x s) none (M .link x k d); pend = λ m. T (pendingAfter (sent b) none (M .pending) m) }) c s
       meets true e = record {
         same-link = same-link;
         kept = λ m t. after-old (sent true) (M .pending) m t;

@@ -32,7 +32,8 @@ all-or-one {A} {B} (suc m) f = by (all-or-one m (λ i l. f i (omega arith))) (f 
     at g x i l (yes p) = g i p
     at g x i l (no p) = subst A (omega arith) x
 
-    by : ((i : ℕ) → i < m → A i) ⊎ ((i : ℕ) × (i < m) × B i) → A m ⊎ B m → ((i : ℕ) → i < suc m → A i) ⊎ ((i : ℕ) × (i < suc m) × B i)
+    by : ((i : ℕ) → i < m → A i) ⊎ ((i : ℕ) × (i < m) × B i) → A m ⊎ B m
+        → ((i : ℕ) → i < suc m → A i) ⊎ ((i : ℕ) × (i < suc m) × B i)
     by (inr q) y = inr (q .0, omega arith, q .2)
     by (inl g) (inl x) = inl (λ i l. at g x i l (decLt i m))
     by (inl g) (inr x) = inr (m, omega arith, x)
@@ -49,7 +50,8 @@ module _ {G : World} {S S′ : State} {k : ℕ} {d : Side} {u : ℕ → ℕ} {m 
       by (no p) (no q) = absurd (p (subst (λ (z : ℕ). k < share G z a) (sym (s .end) ∙ ap u (omega arith)) (rw (share-sym G b a) (s .ends))))
 
   -- the PULL of a segment moves on, or turns into a PROBE
-  pull-step : Proper G S → Segment G S k d u m a b → (j : ℕ) → j < m → Opened G S (pull (u j) (bitOf G k a) k (opp d)) S′ → Done G S′ k d u m a b
+  pull-step : Proper G S → Segment G S k d u m a b → (j : ℕ) → j < m → Opened G S (pull (u j) (bitOf G k a) k (opp d)) S′
+      → Done G S′ k d u m a b
   pull-step h s zero l t =
       todo (out 1 (omega arith) (s .pos) (rw (s .start) at (t .came (hit {z = u 1} (ap (bitOf G k) (s .start)) (rw (opp-opp d) (s .fwd 0 l))))))
   pull-step h s (suc j) l t = todo (pullb j (omega arith) (t .came (go differ (s .bwd j (omega arith)))))
@@ -58,7 +60,8 @@ module _ {G : World} {S S′ : State} {k : ℕ} {d : Side} {u : ℕ → ℕ} {m 
       differ e = s .mid (suc j) (omega arith) l (bit-up G k a (u (suc j)) (seg-pair h s j (omega arith) .bits) (seg-level s) (sym e))
 
 -- each message on its way along a segment, once delivered, moves on or joins
-todo-step : {G : World} {S S′ : State} {n : Msg} {k : ℕ} {d : Side} {u : ℕ → ℕ} {m a b : ℕ} → Proper G S → Segment G S k d u m a b → Opened G S n S′
+todo-step : {G : World} {S S′ : State} {n : Msg} {k : ℕ} {d : Side} {u : ℕ → ℕ} {m a b : ℕ} → Proper G S → Segment G S k d u m a b
+    → Opened G S n S′
     → Todo G S k d u m a b → Done G S′ k d u m a b
 unfolding rev
 todo-step {G} {S} {S′} {n} {k} {d} {u} {m} {a} {b} h s t = by

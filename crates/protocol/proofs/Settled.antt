@@ -111,7 +111,8 @@ module _ {G : World} where
   path-lt h (there e p) = inr (lt-then (h .link-side e) (path-lt h p))
 
   -- a walk on side e to a lot that lies on side d begins with the link on side d
-  first : {S : State} {k x z : ℕ} {d e : Side} → Proper G S → Path S k e x z → Lt (G .num) d x z → (y : ℕ) × (S .link x k d ≡ some y) × Path S k d y z
+  first : {S : State} {k x z : ℕ} {d e : Side} → Proper G S → Path S k e x z → Lt (G .num) d x z
+      → (y : ℕ) × (S .link x k d ≡ some y) × Path S k d y z
   first h here l = absurd (lt-irr l)
   first {S} {k} {x} {z} {d} {e} h (there {y = y} f p) l =
       let s : e ≡ d = lt-side (lt-then (h .link-side f) (path-lt h p)) l in
@@ -130,7 +131,8 @@ module _ {G : World} where
       turn (inl e) = inl (sym e)
       turn (inr a) = inr a
 
-      near : {x y z : ℕ} {d : Side} → S .link x k d ≡ some y → (v : ℕ) × (S .link x k d ≡ some v) × Path S k d v z → (z ≡ y) ⊎ Lt (G .num) d y z
+      near : {x y z : ℕ} {d : Side} → S .link x k d ≡ some y → (v : ℕ) × (S .link x k d ≡ some v) × Path S k d v z
+          → (z ≡ y) ⊎ Lt (G .num) d y z
       near {x} {y} {z} {d} e (v, f, p) = let r : v ≡ y = cc in turn (path-lt h (subst (λ (a : ℕ). Path S k d a z) r p))
 
 -- the walk of a level's list from c: the lot i links on
@@ -152,7 +154,8 @@ module _ {G : World} {S : State} {k c m x z : ℕ} {d : Side} where
   since-link : Since G S k d c m x → S .link x k d ≡ some z → S .link (follow S k d c m) k d ≡ some z
   since-link s e = subst (λ (a : ℕ). S .link a k d ≡ some z) (sym (s .at)) e
 
-  since-links : Since G S k d c m x → S .link x k d ≡ some z → (i : ℕ) → i < suc m → S .link (follow S k d c i) k d ≡ some (follow S k d c (suc i))
+  since-links : Since G S k d c m x → S .link x k d ≡ some z → (i : ℕ) → i < suc m
+      → S .link (follow S k d c i) k d ≡ some (follow S k d c (suc i))
   since-links s e i l = by (decLt i m)
     where
       by : Dec (i < m) → S .link (follow S k d c i) k d ≡ some (follow S k d c (suc i))
@@ -210,7 +213,8 @@ module _ {G : World} {S : State} where
       by (yes p) = rec z 0 (ctrans n (quiet-done q (i .seg (since-seg sy s e p)))) (share-trans G (suc k) z c b (rw (share-sym G z c) p) l) since-new
       by (no p) = rec c (suc m) n l (since-more s e p)
 
-  walk : {k a b c m x : ℕ} {d : Side} → Sym S → Quiet S → Segments G S → Path S k d x b → Conn S (suc k) a c → k < share G c b → Since G S k d c m x
+  walk : {k a b c m x : ℕ} {d : Side} → Sym S → Quiet S → Segments G S → Path S k d x b → Conn S (suc k) a c → k < share G c b
+      → Since G S k d c m x
       → Conn S (suc k) a b
   walk {m = m} sy q i here n l s = walk-end m n l s
   walk sy q i (there e p) n l s = walk-step sy q i e n l s (λ c′ m′ n′ l′ s′. walk sy q i p n′ l′ s′)

@@ -38,7 +38,8 @@ pub record Sound (N W : ℕ) (M : Meaning) : Type 0 where
   pub numbers : (x : ℕ) → M .roster .number x < 2 ^ numberBits
   pub vectors : (x : ℕ) → M .roster .vector x < 2 ^ W
   -- a free seat's entry is as opened
-  pub unused : (x : ℕ) → T (isFree (M .roster .state x)) → (M .roster .number x ≡ 0) × (M .roster .vector x ≡ 0) × ((k : ℕ) (d : Side) → M .link x k d ≡ none)
+  pub unused : (x : ℕ) → T (isFree (M .roster .state x))
+      → (M .roster .number x ≡ 0) × (M .roster .vector x ≡ 0) × ((k : ℕ) (d : Side) → M .link x k d ≡ none)
   -- numbers differ
   pub differ : (x y : ℕ) → T (seated (M .roster) x) → T (seated (M .roster) y) → M .roster .number x ≡ M .roster .number y → x ≡ y
   pub links : (x k y : ℕ) (d : Side) → M .link x k d ≡ some y → T (linkOk W (M .roster) x k d y)

@@ -29,7 +29,8 @@ pub spread-sent : (l : List ℕ) (to about v other d : ℕ) {x y : List ℕ} {le
     → eqb b 1 ≡ bit width level v
     → b < 2
     → y ≡ sentBits (toLink (linkOf other) (λ z. pull z (eqb (1 - b) 1) level (sideOfNumber d))) x
-    → y ≡ sentBits (cond (ltb level width) (probe about to level ∷ toLink (linkOf other) (λ z. pull z (not (bit width level v)) level (sideOfNumber d))) []) l
+    → y ≡ sentBits (cond (ltb level width)
+    (probe about to level ∷ toLink (linkOf other) (λ z. pull z (not (bit width level v)) level (sideOfNumber d))) []) l
 spread-sent l to about v other d h ei ex eb hb ey = rw (lt-ltb _ _ h, send-more, ← ei, ← ex, ← eb, ← bit-not _ hb) ey
 
 -- the set: old and other are the links read first, v the vector; w has the link, x the MEET about `to`, y that about the old link, z the rest

@@ -15,7 +15,8 @@ const LAST_BIT: usize = record::WIDTH - 1;
 // The side of seat x on which seat y lies.
 pub fn side_of(rec: &[u8], x: usize, y: usize) -> usize
     requires { ⌜ (length (now rec) ≡ size) × (x < seats) × (y < seats) ⌝ }
-    ensures { λ r. ⌜ (sideOfNumber r ≡ sideOf (meaning (now (rec .entry)) .roster .number x) (meaning (now (rec .entry)) .roster .number y)) × (r < 2) ⌝ }
+    ensures { λ r. ⌜ (sideOfNumber r ≡ sideOf (meaning (now (rec .entry)) .roster .number x) (meaning (now (rec .entry)) .roster .number y))
+        × (r < 2) ⌝ }
 {
     if record::number(rec, x) < record::number(rec, y) {
         1

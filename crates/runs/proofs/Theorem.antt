@@ -81,7 +81,8 @@ carried s t h D = record {
     left : readCounts (s .now) .pending ≡ countsOf (t .now) .pending
     left = at (λ l. readCounts l .pending) ∙ ap (λ (a : CountAnswer). a .pending) counts
 
-    linked : Settled seats width (meant (s .history)) → (x k : ℕ) (d : Side) → T (member (rosterOf seats width (logOf (meant (s .history)))) x) → k < levels
+    linked : Settled seats width (meant (s .history)) → (x k : ℕ) (d : Side) → T (member (rosterOf seats width (logOf (meant (s .history)))) x)
+        → k < levels
         → t .now .link x k d ≡ graph seats width (members (rosterOf seats width (logOf (meant (s .history))))) x k d
     linked q x k d m p =
         subst (λ (es : List protocol.Event). Settled seats width es → IsGraph seats width (members (rosterOf seats width (logOf es))) (t .now .link))

@@ -17,7 +17,8 @@ use Rattle.soundness.specs.Buckets.{buckets, bucketOf, lastIn, Kept}
 use Rattle.soundness.proofs.Buckets.{last-start, last-free, last-own, last-other}
 
 -- a list of which one element is written: what f says of all below s, and of s, it says of all below s + 1
-one-more : (a : List ℕ) (s v : ℕ) (f : ℕ → ℕ) (P : ℕ → Type 0) → s < length a → ((y : ℕ) → y < s → P y → getD a y 0 ≡ f y) → v ≡ f s
+one-more : (a : List ℕ) (s v : ℕ) (f : ℕ → ℕ) (P : ℕ → Type 0) → s < length a → ((y : ℕ) → y < s → P y → getD a y 0 ≡ f y)
+    → v ≡ f s
     → (y : ℕ) → y < s + 1 → P y → getD (set a s v) y 0 ≡ f y
 one-more a s v f P h below e y q p = ⊎-elim
     (λ at. rw at (getD-set-same a s v 0 h ∙ e))

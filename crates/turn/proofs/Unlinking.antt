@@ -153,7 +153,8 @@ module _ (M : Meaning) (c : Linked M) (x k : ℕ) (h : x < seats) (g : k < level
       ap (λ (m : List ℕ). set m (linkAt x k d) noLink) e
       ∙ sym (to-none M x k d h g b (f ∙ ap (λ (m : List ℕ). getD m (linkAt x k d) 0) e) (sym (ap (λ (m : List ℕ). linkGoes m x b) e) ∙ t))
 
-  uncut : (d : Side) → l ≡ bytesOf (old M x k d) → (b : ℕ) → b ≡ getD l (linkAt x k d) 0 → linkGoes l x b ≡ false → l ≡ bytesOf (new M x k d)
+  uncut : (d : Side) → l ≡ bytesOf (old M x k d) → (b : ℕ) → b ≡ getD l (linkAt x k d) 0 → linkGoes l x b ≡ false
+      → l ≡ bytesOf (new M x k d)
   uncut d e b f t =
       e ∙ sym (to-same M x k d h g c b (f ∙ ap (λ (m : List ℕ). getD m (linkAt x k d) 0) e) (sym (ap (λ (m : List ℕ). linkGoes m x b) e) ∙ t))
 

@@ -35,6 +35,28 @@ macro_rules! wrong {
 
 type Fault = fn(&[u8], &mut [u8], Range<usize>, Call, u64, Outcome) -> Outcome;
 
+/// A library that does not send some of what it should, given the message that
+/// was taken away and each that was sent.
+macro_rules! unsent {
+    ($($name:ident: $which:expr;)*) => {
+        wrong! {
+            $($name shows Difference::Byte { .. } => |before, memory, record, call, _, outcome| {
+                drop_sent(before, &mut memory[record], call, $which);
+                outcome
+            };)*
+        }
+    };
+}
+
+unsent! {
+    old_neighbour_dropped: |taken, sent| {
+        sent.kind == 1 && sent.to == taken.about && sent.about != taken.to
+    };
+    no_pull: |taken, sent| taken.kind == 1 && sent.kind == 3;
+    none_not_sent: |_, sent| sent.kind == 7;
+    going_at_level_8_forgotten: |_, sent| sent.kind == 4 && sent.level == 8;
+}
+
 wrong! {
     refused_turn_changes_a_byte shows Difference::Changed { at: 0 } =>
         |_, memory, record, call, _, outcome| {
@@ -137,25 +159,6 @@ wrong! {
             }
             outcome
         };
-    old_neighbour_dropped shows Difference::Byte { .. } =>
-        |before, memory, record, call, _, outcome| {
-            drop_sent(before, &mut memory[record], call, |taken, sent| {
-                sent.kind == 1 && sent.to == taken.about && sent.about != taken.to
-            });
-            outcome
-        };
-    no_pull shows Difference::Byte { .. } =>
-        |before, memory, record, call, _, outcome| {
-            drop_sent(before, &mut memory[record], call, |taken, sent| {
-                taken.kind == 1 && sent.kind == 3
-            });
-            outcome
-        };
-    none_not_sent shows Difference::Byte { .. } =>
-        |before, memory, record, call, _, outcome| {
-            drop_sent(before, &mut memory[record], call, |_, sent| sent.kind == 7);
-            outcome
-        };
     message_not_taken_away shows Difference::Byte { .. } =>
         |before, memory, record, call, _, outcome| {
             if matches!(call, Call::Deliver(m) if m.kind == 3) && outcome.answer.refusal == 0 {
@@ -170,13 +173,6 @@ wrong! {
             if call == Call::Turn && outcome.answer.refusal == 0 && before[PHASE_AT] == 1 {
                 keep_links(before, &mut memory[record]);
             }
-            outcome
-        };
-    going_at_level_8_forgotten shows Difference::Byte { .. } =>
-        |before, memory, record, call, _, outcome| {
-            drop_sent(before, &mut memory[record], call, |_, sent| {
-                sent.kind == 4 && sent.level == 8
-            });
             outcome
         };
     pending_count_too_narrow shows Difference::Answer { .. } =>

@@ -51,7 +51,8 @@ loop-again c =
 returns-2 : tie.Need-returns-2 Inv-loop μ-loop
 returns-2 c =
     let e : c .before .loop .s ≡ seats = omega arith in
-    sym (ap (λ (n : ℕ). any n (numbered (c .before .before .before .args .rec .now) (c .before .before .before .args .n))) (sym e) ∙ c .before .loop .inv .1)
+    sym (ap (λ (n : ℕ). any n (numbered (c .before .before .before .args .rec .now) (c .before .before .before .args .n))) (sym e)
+    ∙ c .before .loop .inv .1)
 
 pub has-number-spec : {M : Type 1} → statement M
 has-number-spec =

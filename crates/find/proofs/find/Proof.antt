@@ -28,7 +28,8 @@ unfolding findIn answered foundOf
 refusing l s x zero e h = absurd (h refl)
 refusing l s x (suc n) e h = rw (e, ne-eqb (suc n) 0 h)
 
-accepting : (l : List ℕ) (s x : ℕ) → lotRefusal l s ≡ 0 → heldOf (find (rosterIn l .number) (meaning l .link) x seats width s) ≡ answered (findIn l s x)
+accepting : (l : List ℕ) (s x : ℕ) → lotRefusal l s ≡ 0
+    → heldOf (find (rosterIn l .number) (meaning l .link) x seats width s) ≡ answered (findIn l s x)
 unfolding findIn answered foundOf
 accepting l s x e = rw e
 

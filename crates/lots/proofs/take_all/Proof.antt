@@ -7,7 +7,8 @@ use Rattle.lots.proofs.take_all.Statement.{statement}
 use Rattle.lots.proofs.take_all.Tie as tie
 
 abbrev Inv-loop : tie.InvT-loop
-Inv-loop rec₀ line₀ n piece kept₀ i₀ i-end rec line kept i = (length rec ≡ length rec₀) × (length line ≡ length line₀) × (i ≤ i-end) × (i-end ≡ length piece)
+Inv-loop rec₀ line₀ n piece kept₀ i₀ i-end rec line kept i = (length rec ≡ length rec₀) × (length line ≡ length line₀)
+    × (i ≤ i-end) × (i-end ≡ length piece)
 
 abbrev μ-loop : tie.MeasureT-loop
 μ-loop rec₀ line₀ n piece kept₀ i₀ i-end rec line kept i = i-end - i

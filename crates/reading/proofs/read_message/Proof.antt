@@ -30,7 +30,8 @@ is-pending-requires c κs = (passed (c .before .before) .sized, place-below _ (c
 returns-3 : tie.Need-returns-3
 returns-3 c =
     let b = c .before in
-    ap Pending (c .is-pending .ensures ∙ sym (pending-at _ _ (b .before .place-of .ensures) (b .if2 .left))) ∙ message-value _ _ (passed (b .before .before))
+    ap Pending (c .is-pending .ensures ∙ sym (pending-at _ _ (b .before .place-of .ensures) (b .if2 .left)))
+    ∙ message-value _ _ (passed (b .before .before))
 
 pub read-message-spec : {M : Type 1} → statement M
 read-message-spec =

@@ -16,7 +16,8 @@ returns c = simp (lt-ltb _ _ (c .before .before .if1 .taken), ← c .before .is-
 
 returns-2 : tie.Need-returns-2
 returns-2 c =
-    c .is-leaving2 .ensures ∙ sym (simp (lt-ltb _ _ (c .before .before .before .if1 .taken), ← c .before .before .is-leaving .ensures, c .before .if2 .left))
+    c .is-leaving2 .ensures
+    ∙ sym (simp (lt-ltb _ _ (c .before .before .before .if1 .taken), ← c .before .before .is-leaving .ensures, c .before .if2 .left))
 
 returns-3 : tie.Need-returns-3
 returns-3 c = simp (le-ltb _ _ (c .if1 .left))

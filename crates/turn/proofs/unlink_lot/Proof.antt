@@ -43,7 +43,8 @@ loop-again c =
       λ M f e.
           let u : linkPlace x k 0 + 1 ≡ linkPlace x k 1 = omega arith in
           let v : linkPlace x k 1 + 1 ≡ linkPlace x (k + 1) 0 = omega arith in
-          d .ensures M f (b .ensures M f (a .loop .inv .2 M f e) ∙ ap (λ (n : ℕ). bytesOf (relinked n M)) u) ∙ ap (λ (n : ℕ). bytesOf (relinked n M)) v,
+          d .ensures M f (b .ensures M f (a .loop .inv .2 M f e) ∙ ap (λ (n : ℕ). bytesOf (relinked n M)) u)
+          ∙ ap (λ (n : ℕ). bytesOf (relinked n M)) v,
     )
 
 same-length : tie.Need-same-length Inv-loop μ-loop

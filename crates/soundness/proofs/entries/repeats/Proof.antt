@@ -18,7 +18,8 @@ use Rattle.soundness.proofs.entries.repeats.Tie as tie
 
 abbrev Inv-loop : tie.InvT-loop
 Inv-loop rec numbers last before s n y₀ y =
-    (n ≡ rosterIn rec .number s) × ((m : ℕ) × (m ≤ s) × (y ≡ lastIn rec m (bucketOf rec s)) × (any s (sameNumber rec s) ≡ any m (sameNumber rec s)))
+    (n ≡ rosterIn rec .number s) × ((m : ℕ) × (m ≤ s) × (y ≡ lastIn rec m (bucketOf rec s))
+    × (any s (sameNumber rec s) ≡ any m (sameNumber rec s)))
 
 abbrev μ-loop : tie.MeasureT-loop
 μ-loop rec numbers last before s n y₀ y = y
