@@ -6,11 +6,12 @@ use mathlib.Core.List.{List, [], _∷_}
 use lib.Dec.{T, ltb, ltb→lt, T-not}
 use lib.ListN.{length}
 use borrow.Author.Tests.{eq-eqb, lt-ltb}
-use Rattle.memory.specs.Loops.{count}
+use Rattle.base.specs.Loops.{count}
 use Rattle.graph.specs.Side.{Side, left, right}
 use Rattle.graph.specs.Vector.{width}
-use Rattle.graph.proofs.Tests.{and-fst, and-snd, not-T-false}
-use Rattle.protocol.specs.Message.{Msg, sideNumber, among}
+use Rattle.base.proofs.Tests.{and-fst, and-snd, not-T-false}
+use Rattle.graph.specs.Side.{sideNumber}
+use Rattle.protocol.specs.Message.{Msg, among}
 use Rattle.protocol.specs.Numbering.{somePending}
 use Rattle.protocol.specs.State.{open-phase, Meaning, isFree, seated}
 use Rattle.protocol.specs.Table.{Call, join, leave, deliver, turn, first}
@@ -18,14 +19,14 @@ use Rattle.protocol.specs.Sound.{Sound, numberBits}
 use Rattle.protocol.specs.Run.{logOf, AllInRange}
 use Rattle.protocol.proofs.Numbering.{pending-none}
 use Rattle.record.specs.Layout.{seats, levels, size}
-use Rattle.record.specs.Meaning.{rosterIn, bytesOf, phaseByte, linkByte}
+use Rattle.record.specs.Meaning.{seatsIn, bytesOf, phaseByte, linkByte}
 use Rattle.record.specs.Reading.{lotRefusal, openRefusal, readLot, readLink, readMessage, readCounts}
 use Rattle.record.proofs.Places.{length-bytesOf}
-use Rattle.record.proofs.Form.{meaning-roster}
+use Rattle.record.proofs.Form.{meaning-seats}
 use Rattle.record.proofs.Round.{meaning-bytes}
 use Rattle.record.proofs.Sound.{bytes-sound}
-use Rattle.outcome.specs.Made.{Outcome, made}
-use Rattle.outcome.proofs.Bridge.{made-call, refused-same}
+use Rattle.record.specs.Call.{Called, called}
+use Rattle.record.proofs.Call.{call-bytes, refused-same}
 use Rattle.search.specs.Walk.{find}
 use Rattle.find.specs.Find.{findIn}
 use Rattle.runs.specs.Run.{run, lotOf}
@@ -57,15 +58,15 @@ fits-in (turn ∷ cs) t = (tt, fits-in cs t)
 
 -- find on the bytes of a sound meaning
 module _ (M : Meaning) (h : Sound seats width M) where
-  roster-bytes : rosterIn (bytesOf M) ≡ M .roster
-  roster-bytes = sym (meaning-roster (bytesOf M)) ∙ ap (λ (X : Meaning). X .roster) (meaning-bytes h)
+  seats-bytes : seatsIn (bytesOf M) ≡ M .seats
+  seats-bytes = sym (meaning-seats (bytesOf M)) ∙ ap (λ (X : Meaning). X .seats) (meaning-bytes h)
 
-  find-bytes : (s x : ℕ) → T (seated (M .roster) s)
-      → findIn (bytesOf M) s x ≡ (let f = find (M .roster .number) (M .link) x seats width s in record { refused = 0; holder = f .holder; hops = f .hops })
+  find-bytes : (s x : ℕ) → T (seated (M .seats) s)
+      → findIn (bytesOf M) s x ≡ (let f = find (M .seats .number) (M .link) x seats width s in record { refused = 0; holder = f .holder; hops = f .hops })
   unfolding findIn lotRefusal first
   find-bytes s x m =
-      let f : isFree (M .roster .state s) ≡ false = not-T-false (T-not (isFree (M .roster .state s)) m) in
-      rw (eq-eqb (length (bytesOf M)) size (length-bytesOf M), bytes-sound h, lt-ltb s seats (h .seats s m), roster-bytes, f, meaning-bytes h)
+      let f : isFree (M .seats .state s) ≡ false = not-T-false (T-not (isFree (M .seats .state s)) m) in
+      rw (eq-eqb (length (bytesOf M)) size (length-bytesOf M), bytes-sound h, lt-ltb s seats (h .seats s m), seats-bytes, f, meaning-bytes h)
 
 module _ (l : List ℕ) (e : openRefusal l ≡ 0) (cs : List Call) (t : T (fits cs)) where
   abbrev v : View
@@ -77,33 +78,33 @@ module _ (l : List ℕ) (e : openRefusal l ≡ 0) (cs : List Call) (t : T (fits 
   at : {A : Type 0} (f : List ℕ → A) → f (run l cs .now) ≡ f (bytesOf (meant (seen cs .view)))
   at f = ap f (seen-bytes l e cs (fits-in cs t))
 
-  made-seen : (c : Call) → made (run l cs .now) c ≡ record { refused = viewRefusal v c; bytes = bytesOf (meant (viewCall v c)) }
+  made-seen : (c : Call) → called (run l cs .now) c ≡ record { refused = viewRefusal v c; bytes = bytesOf (meant (viewCall v c)) }
   made-seen c =
-      at (λ b. made b c) ∙ made-call (meant v) h c
+      at (λ b. called b c) ∙ call-bytes (meant v) h c
       ∙ λ i. record { refused = view-call v h c i .refused; bytes = bytesOf (view-call v h c i .meaning) }
 
   -- a refused call leaves every byte
-  pub refused-seen : (c : Call) (n : ℕ) → viewRefusal v c ≡ suc n → made (run l cs .now) c ≡ record { refused = suc n; bytes = run l cs .now }
+  pub refused-seen : (c : Call) (n : ℕ) → viewRefusal v c ≡ suc n → called (run l cs .now) c ≡ record { refused = suc n; bytes = run l cs .now }
   refused-seen c n q =
-      let no : made (run l cs .now) c .refused ≡ suc n = ap (λ (o : Outcome). o .refused) (made-seen c) ∙ q in
+      let no : called (run l cs .now) c .refused ≡ suc n = ap (λ (o : Called). o .refused) (made-seen c) ∙ q in
       λ i. record { refused = no i; bytes = refused-same (run l cs .now) c n no i }
 
-  pub find-seen : (s x : ℕ) → T (seated (v .roster) s)
+  pub find-seen : (s x : ℕ) → T (seated (v .seats) s)
       → findIn (run l cs .now) s x
-      ≡ (let f = find (v .roster .number) (v .link) x seats width s in record { refused = 0; holder = f .holder; hops = f .hops })
+      ≡ (let f = find (v .seats .number) (v .link) x seats width s in record { refused = 0; holder = f .holder; hops = f .hops })
   find-seen s x m = at (λ b. findIn b s x) ∙ find-bytes (meant v) h s x m
 
-  pub lot-seen : (x : ℕ) → T (ltb x seats) → readLot (run l cs .now) x ≡ lotOf (v .roster) x
+  pub lot-seen : (x : ℕ) → T (ltb x seats) → readLot (run l cs .now) x ≡ lotOf (v .seats) x
   lot-seen x p = at (λ b. readLot b x) ∙ read-lot (meant v) h x (ltb→lt x seats p)
 
-  link-seen : (x k : ℕ) (d : Side) → T (seated (v .roster) x) → T (ltb k levels)
+  link-seen : (x k : ℕ) (d : Side) → T (seated (v .seats) x) → T (ltb k levels)
       → readLink (run l cs .now) x k (sideNumber d) ≡ record { refused = 0; seat = linkByte (v .link x k d) }
   link-seen x k d m p =
       at (λ b. readLink b x k (sideNumber d))
-      ∙ read-link (meant v) h x k d (h .seats x m) (ltb→lt k levels p) (not-T-false (T-not (isFree (v .roster .state x)) m))
+      ∙ read-link (meant v) h x k d (h .seats x m) (ltb→lt k levels p) (not-T-false (T-not (isFree (v .seats .state x)) m))
 
   -- both links of a lot
-  pub links-seen : (x k : ℕ) → T (seated (v .roster) x) → T (ltb k levels)
+  pub links-seen : (x k : ℕ) → T (seated (v .seats) x) → T (ltb k levels)
       → LinksOf (run l cs .now) x k (linkByte (v .link x k left)) (linkByte (v .link x k right))
   links-seen x k m p = (link-seen x k left m p, link-seen x k right m p)
 
@@ -113,7 +114,7 @@ module _ (l : List ℕ) (e : openRefusal l ≡ 0) (cs : List Call) (t : T (fits 
   log-seen : accepted (seen cs .log) ≡ true → accepted (logOf (runs.meant (run l cs .history))) ≡ true
   log-seen a = ap accepted (seen-log l e cs (fits-in cs t)) ∙ a
 
-  pub lot100-seen : (right-link : ℕ) (ms : List Msg) → accepted (seen cs .log) ≡ true → T (seated (v .roster) 0)
+  pub lot100-seen : (right-link : ℕ) (ms : List Msg) → accepted (seen cs .log) ≡ true → T (seated (v .seats) 0)
       → linkByte (v .link 0 0 left) ≡ 255 → linkByte (v .link 0 0 right) ≡ right-link → v .pending ≡ ms → Lot100 l cs right-link ms
   lot100-seen y ms a m p q w = record {
     log = log-seen a;
@@ -121,8 +122,8 @@ module _ (l : List ℕ) (e : openRefusal l ≡ 0) (cs : List Call) (t : T (fits 
     pending = subst (Pending (run l cs .now)) w pending-seen;
   }
 
-  pub settles-seen : (n : ℕ) → accepted (seen cs .log) ≡ true → T (seen cs .ordered) → v .pending ≡ [] → v .roster .phase ≡ open-phase
-      → count seats (seated (v .roster)) ≡ n → Settles l cs n
+  pub settles-seen : (n : ℕ) → accepted (seen cs .log) ≡ true → T (seen cs .ordered) → v .pending ≡ [] → v .seats .phase ≡ open-phase
+      → count seats (seated (v .seats)) ≡ n → Settles l cs n
   unfolding countsOf among
   settles-seen n a o q p c =
       let none-left : somePending seats width (among (v .pending)) ≡ false = pending-none seats width (among (v .pending)) (λ m x. rw q) in

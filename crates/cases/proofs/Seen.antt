@@ -8,7 +8,7 @@ use mathlib.Core.Bool.{Bool, true, _&&_}
 use mathlib.Core.List.{List, [], _∷_}
 use lib.Dec.{T, leb, leb→le}
 use Rattle.graph.specs.Vector.{width}
-use Rattle.graph.proofs.Tests.{and-fst, and-snd, or-cases}
+use Rattle.base.proofs.Tests.{and-fst, and-snd, or-cases}
 use Rattle.protocol.specs.Message.{Msg, sameMsg, among}
 use Rattle.protocol.specs.Numbering.{place}
 use Rattle.protocol.specs.State.{Meaning, nobody, opened}
@@ -61,13 +61,13 @@ unfoldable pub look : Seen → List Call → Seen
 look s [] = s
 look s (c ∷ cs) = look (record {
   view = viewCall (s .view) c;
-  log = record { made = c; refused = viewRefusal (s .view) c } ∷ s .log;
+  log = record { call = c; refused = viewRefusal (s .view) c } ∷ s .log;
   ordered = least (s .view .pending) (takes c) && s .ordered;
 }) cs
 
 -- a list of calls on the view of an opened record
 unfoldable pub seen : List Call → Seen
-seen cs = look (record { view = record { roster = nobody; link = λ x k d. none; pending = [] }; log = []; ordered = true }) cs
+seen cs = look (record { view = record { seats = nobody; link = λ x k d. none; pending = [] }; log = []; ordered = true }) cs
 
 -- what is seen of a standing
 record Shows (t : protocol.Standing) (s : Seen) : Type 0 where
@@ -83,7 +83,7 @@ shows-steps [] t s r h = h
 shows-steps (c ∷ cs) t s r h = shows-steps cs _ _ (r .1) (record {
   sound = call-sound seats width (t .now) (h .sound) c (r .0);
   now = ap (λ (o : Outcome). o .meaning) both;
-  log = λ i. record { made = c; refused = both i .refused } ∷ h .log i;
+  log = λ i. record { call = c; refused = both i .refused } ∷ h .log i;
   order = λ u. (
     subst (λ (M : Meaning). Smallest (M .pending) (takes c)) (sym (h .now))
         (least-smallest (s .view .pending) (takes c) (and-fst (least (s .view .pending) (takes c)) _ u)),

@@ -6,11 +6,11 @@ use mathlib.Core.Bool.{Bool, true, false, cond}
 use mathlib.Core.List.{[], _∷_}
 use lib.Dec.{eqb}
 use Rattle.protocol.specs.Message.{among}
-use Rattle.protocol.specs.Numbering.{any}
+use Rattle.base.specs.Loops.{any}
 use Rattle.protocol.specs.Rules.{SeatState, free, staying, leaving, toLink}
-use Rattle.protocol.specs.State.{open-phase, Roster, nobody, opened, isLeaving}
+use Rattle.protocol.specs.State.{open-phase, Seats, nobody, opened, isLeaving}
 use Rattle.protocol.specs.Table.{join, leave, turn, first, rows, refusal}
-use Rattle.protocol.specs.Calls.{at, freed, afterTurn, rosterAfter, each, farewell, farewells, turnSends}
+use Rattle.protocol.specs.Calls.{at, freed, afterTurn, seatsAfter, each, farewell, farewells, turnSends}
 use Rattle.protocol.specs.Calls.{sends, takes, isTaken, unlinked, turnLinks, linksAfter, unlessRefused}
 use Rattle.cases.specs.Lists.{lCalls}
 use Rattle.cases.proofs.View.{meant, without, viewRefusal, viewAfter, viewCall}
@@ -29,21 +29,21 @@ gone-number : (own : Bool) (n : ℕ) → cond (isLeaving (before own)) 0 (cond o
 gone-number true n = refl
 gone-number false n = refl
 
-gone-link : (own : Bool) (r : Roster) → cond (isLeaving (before own)) none (unlinked r (cond own none none)) ≡ none
+gone-link : (own : Bool) (r : Seats) → cond (isLeaving (before own)) none (unlinked r (cond own none none)) ≡ none
 unfolding unlinked
 gone-link true r = refl
 gone-link false r = refl
 
 pub sole-gone : meant (seen lCalls .view) ≡ opened
-unfolding lCalls seen look without viewRefusal viewAfter viewCall nobody opened refusal rows first any rosterAfter afterTurn freed at
+unfolding lCalls seen look without viewRefusal viewAfter viewCall nobody opened refusal rows first any seatsAfter afterTurn freed at
     sends turnSends farewells farewell each takes isTaken linksAfter turnLinks unlinked unlessRefused toLink among
 sole-gone = λ i. record {
-  roster = record {
+  seats = record {
     phase = open-phase;
     state = λ x. gone-state (eqb x 0) i;
     number = λ x. gone-number (eqb x 0) 100 i;
     vector = λ x. gone-number (eqb x 0) 0 i;
   };
-  link = λ x k d. gone-link (eqb x 0) (seen (join 0 100 0 255 ∷ leave 0 ∷ turn ∷ []) .view .roster) i;
+  link = λ x k d. gone-link (eqb x 0) (seen (join 0 100 0 255 ∷ leave 0 ∷ turn ∷ []) .view .seats) i;
   pending = λ m. false;
 }

@@ -4,19 +4,20 @@ use Prim.Native.Nat.{ℕ}
 use mathlib.Core.Path.{_≡_, refl, ap, _∙_}
 use mathlib.Core.Option.{Option, none, some}
 use mathlib.Core.List.{List, [], _∷_, _++_}
-use Rattle.memory.specs.Loops.{count}
+use Rattle.base.specs.Loops.{count}
 use Rattle.graph.specs.Side.{onSide, sideOf}
 use Rattle.graph.specs.Vector.{width, bit, equalBits, shared}
 use Rattle.protocol.specs.Message.{meet, probe, name, ifZero, ifBit, named, sameMsg, among}
-use Rattle.protocol.specs.Numbering.{any, place}
+use Rattle.base.specs.Loops.{any}
+use Rattle.protocol.specs.Numbering.{place}
 use Rattle.protocol.specs.Rules.{toLink, setting, meeting, probing, pulling, parting, passing, seeking, effect}
 use Rattle.protocol.specs.State.{nobody, opened}
 use Rattle.protocol.specs.Table.{join, deliver, first, isPending, rows, refusal}
-use Rattle.protocol.specs.Calls.{at, freed, afterTurn, rosterAfter, rule, each, farewell, farewells, turnSends, deliverySends}
+use Rattle.protocol.specs.Calls.{at, freed, afterTurn, seatsAfter, rule, each, farewell, farewells, turnSends, deliverySends}
 use Rattle.protocol.specs.Calls.{sends, takes, isTaken, applied, unlinked, turnLinks, deliveryLinks, linksAfter, unlessRefused}
 use Rattle.record.specs.Meaning.{bytesOf}
 use Rattle.record.specs.Reading.{openRefusal, LotAnswer, readLot}
-use Rattle.outcome.specs.Made.{Outcome, made}
+use Rattle.record.specs.Call.{Called, called}
 use Rattle.search.specs.Walk.{along, stepAt, walk, path, holderAt, find}
 use Rattle.find.specs.Find.{FindAnswer, findIn}
 use Rattle.runs.specs.Run.{run, lotOf}
@@ -30,7 +31,7 @@ abbrev found : Option ℕ → (hops : ℕ) → FindAnswer
 found o h = record { refused = 0; holder = o; hops = h }
 
 -- refused, and the bytes as before
-abbrev refusing : ℕ → List ℕ → Outcome
+abbrev refusing : ℕ → List ℕ → Called
 refusing n b = record { refused = n; bytes = b }
 
 abbrev lot : (refused state number vector : ℕ) → LotAnswer
@@ -53,11 +54,11 @@ pub record Cases (l : List ℕ) : Type 0 where
   -- (e) F 2 100 holder 0, 1 hop
   pub e : findIn (run l qCalls .now) 2 100 ≡ found (some 0) 1
   -- (f) join 200 on seat 3: 5
-  pub f : (vector : ℕ) → made (run l qCalls .now) (join 3 200 vector 0) ≡ refusing 5 (run l qCalls .now)
+  pub f : (vector : ℕ) → called (run l qCalls .now) (join 3 200 vector 0) ≡ refusing 5 (run l qCalls .now)
   -- (g) seat 64: 3
-  pub g : (number vector contact : ℕ) → made (run l qCalls .now) (join 64 number vector contact) ≡ refusing 3 (run l qCalls .now)
+  pub g : (number vector contact : ℕ) → called (run l qCalls .now) (join 64 number vector contact) ≡ refusing 3 (run l qCalls .now)
   -- (h) Empty record, contact 0: 6
-  pub h : (number vector : ℕ) → made (run l [] .now) (join 0 number vector 0) ≡ refusing 6 (run l [] .now)
+  pub h : (number vector : ℕ) → called (run l [] .now) (join 0 number vector 0) ≡ refusing 6 (run l [] .now)
   -- (i) Lot 100 without a left link, right link 300 at level 0, MEET about 200:
   pub i : Lot100 l iCalls 2 (meet 0 1 0 ∷ [])
   -- link 200, and 200 gets MEET about 100, MEET about 300, PROBE about 100
@@ -81,7 +82,7 @@ pub record Cases (l : List ℕ) : Type 0 where
 pub cases : (l : List ℕ) → openRefusal l ≡ 0 → Cases l
 unfolding qCalls iCalls jCalls kCalls lCalls fits accepted seen look least without viewRefusal viewAfter viewCall
     find path walk stepAt along holderAt lotOf count nobody refusal rows first any place isPending unlessRefused
-    rosterAfter afterTurn freed at sends turnSends deliverySends farewells farewell each takes isTaken
+    seatsAfter afterTurn freed at sends turnSends deliverySends farewells farewell each takes isTaken
     linksAfter deliveryLinks turnLinks applied unlinked rule effect setting meeting probing pulling parting passing seeking toLink
     onSide sideOf bit equalBits shared named ifZero ifBit sameMsg among
 cases l o = record {

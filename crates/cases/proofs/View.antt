@@ -8,12 +8,12 @@ use mathlib.Core.List.{List, [], _∷_, _++_}
 use lib.Dec.{T}
 use Rattle.graph.specs.Graph.{Links}
 use Rattle.graph.specs.Vector.{width}
-use Rattle.graph.proofs.Tests.{T-true, true-T, or-left, dec-T, not-T-false, false-T}
+use Rattle.base.proofs.Tests.{T-true, true-T, or-left, dec-T, not-T-false, false-T}
 use Rattle.protocol.specs.Message.{Msg, sameMsg, among}
 use Rattle.protocol.specs.Numbering.{exists, somePending}
-use Rattle.protocol.specs.State.{Roster, Meaning}
+use Rattle.protocol.specs.State.{Seats, Meaning}
 use Rattle.protocol.specs.Table.{Call, join, leave, deliver, turn, row, first, rows, refusal}
-use Rattle.protocol.specs.Calls.{rosterAfter, linksAfter, sends, takes, isTaken, pendingAfter, unlessRefused, accept, call}
+use Rattle.protocol.specs.Calls.{seatsAfter, linksAfter, sends, takes, isTaken, pendingAfter, unlessRefused, accept, call}
 use Rattle.protocol.specs.Sound.{Sound}
 use Rattle.protocol.proofs.Message.{same-eq, same-self}
 use Rattle.protocol.proofs.Numbering.{none-pending, pending-none}
@@ -21,12 +21,12 @@ use Rattle.protocol.proofs.SoundFacts.{pending-exists}
 use Rattle.record.specs.Layout.{seats}
 
 pub record View : Type 0 where
-  pub roster : Roster
+  pub seats : Seats
   pub link : Links
   pub pending : List Msg
 
 abbrev pub meant : View → Meaning
-meant v = record { roster = v .roster; link = v .link; pending = among (v .pending) }
+meant v = record { seats = v .seats; link = v .link; pending = among (v .pending) }
 
 -- the list is not empty
 abbrev pub someLeft : List Msg → Bool
@@ -40,15 +40,15 @@ without o (m ∷ l) = cond (isTaken o m) (without o l) (m ∷ without o l)
 
 -- the table's refusal number; only a turn looks at the list alone
 unfoldable pub viewRefusal : View → Call → ℕ
-viewRefusal v (join s n b c) = refusal seats width (v .roster) (among (v .pending)) (join s n b c)
-viewRefusal v (leave s) = refusal seats width (v .roster) (among (v .pending)) (leave s)
-viewRefusal v (deliver n) = refusal seats width (v .roster) (among (v .pending)) (deliver n)
+viewRefusal v (join s n b c) = refusal seats width (v .seats) (among (v .pending)) (join s n b c)
+viewRefusal v (leave s) = refusal seats width (v .seats) (among (v .pending)) (leave s)
+viewRefusal v (deliver n) = refusal seats width (v .seats) (among (v .pending)) (deliver n)
 viewRefusal v turn = first (row 11 (someLeft (v .pending)) ∷ [])
 
 -- the view after an accepted call
 unfoldable pub viewAfter : View → Call → View
 viewAfter v c = record {
-  roster = rosterAfter seats (v .roster) c;
+  seats = seatsAfter seats (v .seats) c;
   link = linksAfter width (meant v) c;
   pending = sends seats width (meant v) c ++ without (takes c) (v .pending);
 }
@@ -105,7 +105,7 @@ some-left (m ∷ l) h = by (dec-T (somePending seats width (among (m ∷ l))))
     by (no f) = false-T (none-pending seats width (among (m ∷ l)) (not-T-false f) m (h m here)) here
 
 module _ (v : View) (h : Sound seats width (meant v)) where
-  view-refusal : (c : Call) → refusal seats width (v .roster) (among (v .pending)) c ≡ viewRefusal v c
+  view-refusal : (c : Call) → refusal seats width (v .seats) (among (v .pending)) c ≡ viewRefusal v c
   unfolding viewRefusal refusal rows
   view-refusal (join s n b c) = refl
   view-refusal (leave s) = refl
@@ -115,7 +115,7 @@ module _ (v : View) (h : Sound seats width (meant v)) where
   view-accept : (c : Call) → accept seats width (meant v) c ≡ meant (viewAfter v c)
   unfolding accept viewAfter
   view-accept c = λ i. record {
-    roster = rosterAfter seats (v .roster) c;
+    seats = seatsAfter seats (v .seats) c;
     link = linksAfter width (meant v) c;
     pending = pending-list (sends seats width (meant v) c) (takes c) (v .pending) i;
   }
@@ -130,8 +130,8 @@ module _ (v : View) (h : Sound seats width (meant v)) where
   unfolding call viewCall
   view-call c =
       ap (λ (M : Meaning). record {
-        refused = refusal seats width (v .roster) (among (v .pending)) c;
-        meaning = unlessRefused (refusal seats width (v .roster) (among (v .pending)) c) (meant v) M;
+        refused = refusal seats width (v .seats) (among (v .pending)) c;
+        meaning = unlessRefused (refusal seats width (v .seats) (among (v .pending)) c) (meant v) M;
       }) (view-accept c)
       ∙ ap (λ (n : ℕ). record { refused = n; meaning = unlessRefused n (meant v) (meant (viewAfter v c)) }) (view-refusal c)
       ∙ ap (λ (M : Meaning). record { refused = viewRefusal v c; meaning = M }) (meant-unless (viewRefusal v c) (viewAfter v c))

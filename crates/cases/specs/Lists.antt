@@ -6,7 +6,7 @@ use mathlib.Core.Option.{Option, none, some}
 use mathlib.Core.Bool.{Bool, true, _&&_}
 use mathlib.Core.List.{List, [], _∷_, _++_}
 use lib.Dec.{T, eqb}
-use Rattle.memory.specs.Loops.{oneIf}
+use Rattle.base.specs.Loops.{oneIf}
 use Rattle.graph.specs.Vector.{width}
 use Rattle.protocol.specs.Message.{Msg, Name, name, named, among}
 use Rattle.protocol.specs.Numbering.{place}
@@ -67,7 +67,7 @@ Smallest p (some n) = (m : Msg) → T (p m) → place seats width n ≤ place se
 -- each delivery of a history takes the smallest pending message, as line A does
 abbrev pub InOrder : List Event → Type 0
 InOrder [] = Unit {0}
-InOrder (e ∷ es) = Smallest (e .before .pending) (takes (e .logged .made)) × InOrder es
+InOrder (e ∷ es) = Smallest (e .before .pending) (takes (e .logged .call)) × InOrder es
 
 -- exactly the messages of a list read as pending
 abbrev pub Pending : List ℕ → List Msg → Type 0

@@ -8,7 +8,7 @@ use native.Mathlib.Omega.{arith}
 use types.Run.{OneOf}
 use denote.Enum.Declared.{tagOf}
 use Rattle.command.specs.Command.{Command}
-use Rattle.command.specs.Reading.{numberRead, byteRead}
+use Rattle.command.specs.inner.Reading.{numberRead, byteRead}
 use Rattle.command.specs.declared.Number.{Number}
 use Rattle.command.specs.declared.Number.the-variants as number
 use Rattle.command.specs.declared.Byte.{Byte}

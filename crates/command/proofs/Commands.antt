@@ -4,7 +4,7 @@ use mathlib.Core.Path.{_≡_, refl}
 use mathlib.Core.Option.{Option, none, some}
 use mathlib.Core.List.{List, [], _∷_}
 use Rattle.command.specs.Command.{Command, join, leave, deliver, find, byteField, numberField, given, commandOf}
-use Rattle.command.specs.Reading.{Read, wrong, last, more, readAs, read}
+use Rattle.command.specs.inner.Reading.{Read, wrong, last, more, readAs, read}
 
 -- a number that other fields must follow, and one that none may follow
 abbrev pub next : Read → (ℕ → List (List ℕ) → Option Command) → Option Command

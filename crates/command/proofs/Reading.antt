@@ -9,7 +9,7 @@ use native.Mathlib.Omega.{arith}
 use lib.Dec.{ltb}
 use borrow.Author.Tests.{eq-eqb, ne-eqb, le-leb, lt-leb, lt-ltb, le-ltb}
 use Rattle.command.specs.Command.{fields, isDigit, digitsFrom, decimal, fitting, byteField, numberField}
-use Rattle.command.specs.Reading.{Read, wrong, last, more, readAs, read, digitsField}
+use Rattle.command.specs.inner.Reading.{Read, wrong, last, more, readAs, read, digitsField}
 use Rattle.command.proofs.Cases.{lt-or-ge}
 use Rattle.command.proofs.Fields.{first, rest, fields-first, first-space, first-byte, rest-space, rest-byte}
 

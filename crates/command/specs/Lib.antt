@@ -2,4 +2,4 @@
 pub mod Command
 pub mod Text
 pub mod Told
-pub mod Reading
+pub mod inner

@@ -5,7 +5,7 @@ ghost use mathlib.Core.List.{[], _∷_};
 ghost use lib.ListN.{drop};
 ghost use Rattle.command.specs.Command.{parsed, commandOf, fields, byteField, numberField};
 ghost use Rattle.command.specs.Told.{told};
-ghost use Rattle.command.specs.Reading.{read, digitsField, numberRead, byteRead};
+ghost use Rattle.command.specs.inner.Reading.{read, digitsField, numberRead, byteRead};
 
 const SPACE: u8 = b' ';
 

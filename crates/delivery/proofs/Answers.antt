@@ -11,21 +11,21 @@ use Rattle.record.specs.Layout.{seats}
 use Rattle.record.specs.Meaning.{meaning, bytesOf}
 use Rattle.record.specs.Reading.{recordRefusal}
 use Rattle.record.proofs.Refused.{record-passed}
-use Rattle.outcome.specs.Made.{madeRefusal, made}
-use Rattle.outcome.specs.Answer.{told, answered, answerOf}
-use Rattle.outcome.specs.declared.Answer.the-variants.{Done, Refused}
-use Rattle.outcome.proofs.Bridge.{record-accepted}
+use Rattle.record.specs.Call.{callRefusal, called}
+use Rattle.record.specs.Answer.{reply, replyOf, answerOf}
+use Rattle.record.specs.declared.Answer.the-variants.{Done, Refused}
+use Rattle.record.proofs.Call.{record-accepted}
 
 module _ (l : List ℕ) (e : recordRefusal l ≡ 0) (n : Name) where
-  refusal-is : (b : Bool) → isPending (meaning l .pending) (named n) ≡ b → madeRefusal l (deliver n) ≡ first (row 10 (not b) ∷ [])
+  refusal-is : (b : Bool) → isPending (meaning l .pending) (named n) ≡ b → callRefusal l (deliver n) ≡ first (row 10 (not b) ∷ [])
   unfolding refusal rows
   refusal-is b p = let f = record-passed l refl e in record-accepted l (f .sized) (f .fine) (deliver n) ∙ rw p
 
-  pub not-pending : isPending (meaning l .pending) (named n) ≡ false → told (Refused 10) l ≡ answered (made l (deliver n))
-  unfolding made answered answerOf unlessRefused first
+  pub not-pending : isPending (meaning l .pending) (named n) ≡ false → reply (Refused 10) l ≡ replyOf (called l (deliver n))
+  unfolding called replyOf answerOf unlessRefused first
   not-pending p = rw (refusal-is false p)
 
   pub delivered : isPending (meaning l .pending) (named n) ≡ true
-      → told Done (bytesOf (accept seats width (meaning l) (deliver n))) ≡ answered (made l (deliver n))
-  unfolding made answered answerOf unlessRefused first
+      → reply Done (bytesOf (accept seats width (meaning l) (deliver n))) ≡ replyOf (called l (deliver n))
+  unfolding called replyOf answerOf unlessRefused first
   delivered p = rw (refusal-is true p)

@@ -9,7 +9,7 @@ use lib.Dec.{T, eqb}
 use Rattle.memory.specs.Bits.{clearBit}
 use Rattle.graph.specs.Side.{Side, onSide}
 use Rattle.graph.specs.Vector.{width}
-use Rattle.graph.proofs.Tests.{T-true, true-T, or-left}
+use Rattle.base.proofs.Tests.{T-true, true-T, or-left}
 use Rattle.protocol.specs.Message.{Msg, meet, probe, pull, going, seek, found, none-found, Name, nameOf, named, among}
 use Rattle.protocol.specs.Numbering.{exists, place}
 use Rattle.protocol.specs.Rules.{Entry, Change, keep, set, Effect, sending, setting, meeting, effect}
@@ -28,11 +28,12 @@ use Rattle.record.proofs.Form.{Form, exists-pending}
 use Rattle.record.proofs.Round.{bytes-meaning, meaning-bytes}
 use Rattle.record.proofs.Pending.{after-taken}
 use Rattle.record.proofs.Update.{withChange, withoutMessage, bytes-withLink, bytes-keep}
-use Rattle.record.proofs.Sent.{sentBits, bytes-withoutMessage, bytes-sent}
-use Rattle.places.specs.Places.{placeOf}
-use Rattle.rules.specs.Done.{changed, done, ruled}
-use Rattle.places.proofs.Named.{two-below, three-below}
-use Rattle.places.proofs.Placed.{placed}
+use Rattle.record.specs.inner.Sent.{sentBits}
+use Rattle.record.proofs.Sent.{bytes-withoutMessage, bytes-sent}
+use Rattle.messages.specs.inner.Places.{placeOf}
+use Rattle.rules.specs.inner.Done.{changed, done, ruled}
+use Rattle.messages.proofs.Named.{two-below, three-below}
+use Rattle.messages.proofs.Placed.{placed}
 
 -- a change at a level that exists
 AtLevel : Change → Type 0
@@ -85,7 +86,7 @@ without-sound {M} h m = record {
   unused = h .unused;
   differ = h .differ;
   links = h .links;
-  messages = pending-after (λ n. T (messageOk width (M .roster) n)) [] (some m) (M .pending) (h .messages) (λ n q. absurd (List·Memᴰ·not-nil q));
+  messages = pending-after (λ n. T (messageOk width (M .seats) n)) [] (some m) (M .pending) (h .messages) (λ n q. absurd (List·Memᴰ·not-nil q));
 }
 
 -- what a rule sends exists
@@ -95,7 +96,7 @@ unfolding refusal rows first isPending
 sent-exists {M} h m t n q =
     pending-exists after n (rw (pending-exactly seats width M m n) (or-left (among (rule width M m .sent) n) _ (mem-among _ q)))
   where
-    accepted : refusal seats width (M .roster) (M .pending) (deliver (nameOf m)) ≡ 0
+    accepted : refusal seats width (M .seats) (M .pending) (deliver (nameOf m)) ≡ 0
     accepted = rw (named-name m, T-true {b = M .pending m} t)
 
     after : Sound seats width (accept seats width M (deliver (nameOf m)))
@@ -130,7 +131,7 @@ module _ {l : List ℕ} (f : Form l) (h : Sound seats width (meaning l)) (n : Na
         ∙ ap (λ (b : List ℕ). done s e b) taken
         ∙ ap (sentBits (e .sent)) (sym (bytes-changed N s (e .change) (to-seat m (exists-pending l m t)) (rule-level M m (exists-pending l m t))))
         ∙ sym (bytes-sent (withChange N s (e .change)) (e .sent) (sent-exists h m t))
-        ∙ ap (λ (p : Msg → Bool). bytesOf (record { roster = M .roster; link = withChange N s (e .change) .link; pending = p }))
+        ∙ ap (λ (p : Msg → Bool). bytesOf (record { seats = M .seats; link = withChange N s (e .change) .link; pending = p }))
         (sym (after-taken (e .sent) (some m) (M .pending)))
         ∙ ap bytesOf (sym (accept-deliver seats width M n m q))
 

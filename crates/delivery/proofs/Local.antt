@@ -18,7 +18,7 @@ use Rattle.protocol.specs.Numbering.{exists, place}
 use Rattle.protocol.specs.Rules.{Entry}
 use Rattle.protocol.specs.State.{Meaning}
 use Rattle.protocol.specs.Table.{deliver, isPending}
-use Rattle.protocol.specs.Calls.{accept, rosterAfter, rule, unlessRefused}
+use Rattle.protocol.specs.Calls.{accept, seatsAfter, rule, unlessRefused}
 use Rattle.protocol.proofs.Message.{name-named}
 use Rattle.protocol.proofs.Numbering.{sideNumber-lt}
 use Rattle.protocol.proofs.Accepted.{deliver-row}
@@ -31,26 +31,26 @@ use Rattle.record.proofs.Round.{bytes-meaning, read-message}
 use Rattle.record.proofs.Frame.{Agree, frame, Outside}
 use Rattle.record.proofs.Sound.{sound-is}
 use Rattle.record.proofs.Refused.{Passed, rows-passed}
-use Rattle.outcome.specs.Made.{madeRefusal, made}
-use Rattle.outcome.proofs.Bridge.{record-accepted}
+use Rattle.record.specs.Call.{callRefusal, called}
+use Rattle.record.proofs.Call.{record-accepted}
 
 -- an accepted call finds the record sound
-accepted-passed : (l : List ℕ) (n : Name) → made l (deliver n) .refused ≡ 0 → Passed l
-unfolding made madeRefusal
+accepted-passed : (l : List ℕ) (n : Name) → called l (deliver n) .refused ≡ 0 → Passed l
+unfolding called callRefusal
 accepted-passed l n e = rows-passed l _ e .0
 
 -- an accepted delivery is one of a message, by its name
-pub accepted-named : (l : List ℕ) (n : Name) → made l (deliver n) .refused ≡ 0 → (m : Msg) × (nameOf m ≡ n)
-unfolding made isPending
+pub accepted-named : (l : List ℕ) (n : Name) → called l (deliver n) .refused ≡ 0 → (m : Msg) × (nameOf m ≡ n)
+unfolding called isPending
 accepted-named l n e =
     let f = accepted-passed l n e in
-    by (named n) refl (deliver-row seats width (meaning l .roster) (meaning l .pending) n (sym (record-accepted l (f .sized) (f .fine) (deliver n)) ∙ e))
+    by (named n) refl (deliver-row seats width (meaning l .seats) (meaning l .pending) n (sym (record-accepted l (f .sized) (f .fine) (deliver n)) ∙ e))
   where
     by : (o : Option Msg) → named n ≡ o → T (isPending (meaning l .pending) o) → (m : Msg) × (nameOf m ≡ n)
     by none q t = absurd t
     by (some m) q t = (m, name-named n m q)
 
-module _ (l : List ℕ) (b : AreBytes l) (m : Msg) (e : made l (deliver (nameOf m)) .refused ≡ 0) where
+module _ (l : List ℕ) (b : AreBytes l) (m : Msg) (e : called l (deliver (nameOf m)) .refused ≡ 0) where
   abbrev M : Meaning
   M = meaning l
 
@@ -60,8 +60,8 @@ module _ (l : List ℕ) (b : AreBytes l) (m : Msg) (e : made l (deliver (nameOf 
   form : Form l
   form = let f = accepted-passed l (nameOf m) e in sound-is l (f .sized) b .0 (f .fine) .0
 
-  bytes-after : made l (deliver (nameOf m)) .bytes ≡ bytesOf (accept seats width (meaning l) (deliver (nameOf m)))
-  unfolding made unlessRefused
+  bytes-after : called l (deliver (nameOf m)) .bytes ≡ bytesOf (accept seats width (meaning l) (deliver (nameOf m)))
+  unfolding called unlessRefused
   bytes-after = rw e
 
   -- before the pending bits, outside the entry of `to`
@@ -69,7 +69,7 @@ module _ (l : List ℕ) (b : AreBytes l) (m : Msg) (e : made l (deliver (nameOf 
   Other i = (i < pendingFrom) × Outside (entryAt (nameOf m .to)) entrySize i
 
   agree : Agree after M Other
-  unfolding accept rosterAfter
+  unfolding accept seatsAfter
   agree = record {
     phase = λ q. refl;
     state = λ s h q. refl;
@@ -84,7 +84,7 @@ module _ (l : List ℕ) (b : AreBytes l) (m : Msg) (e : made l (deliver (nameOf 
 
   -- no byte of the phase or of another entry changes
   pub other-bytes : (i : ℕ) → i < pendingFrom → Outside (entryAt (nameOf m .to)) entrySize i
-      → getD (made l (deliver (nameOf m)) .bytes) i 0 ≡ getD l i 0
+      → getD (called l (deliver (nameOf m)) .bytes) i 0 ≡ getD l i 0
   other-bytes i h o =
       let w : i < size = omega arith in
       ap (λ (x : List ℕ). getD x i 0) bytes-after
@@ -94,7 +94,7 @@ module _ (l : List ℕ) (b : AreBytes l) (m : Msg) (e : made l (deliver (nameOf 
       ∙ ap (λ (x : List ℕ). getD x i 0) (bytes-meaning form)
 
   -- a bit is set after it: its message is sent, or it was set and its message is not the one taken
-  pub pending-bits : (n : Msg) → T (exists seats width n) → bitSet (made l (deliver (nameOf m)) .bytes) pendingFrom (place seats width n)
+  pub pending-bits : (n : Msg) → T (exists seats width n) → bitSet (called l (deliver (nameOf m)) .bytes) pendingFrom (place seats width n)
       ≡ (among (rule width (meaning l) m .sent) n || (bitSet l pendingFrom (place seats width n) && not (sameMsg m n)))
   pending-bits n x =
       ap (λ (y : List ℕ). bitSet y pendingFrom (place seats width n)) bytes-after

@@ -9,9 +9,9 @@ use Rattle.graph.specs.Vector.{width}
 use Rattle.protocol.specs.Message.{Msg, nameOf}
 use Rattle.protocol.specs.Calls.{rule}
 use Rattle.record.specs.Meaning.{meaning}
-use Rattle.places.specs.Places.{isMessage}
-use Rattle.places.proofs.Named.{when}
-use Rattle.rules.specs.Done.{done, ruled}
+use Rattle.messages.specs.inner.Places.{isMessage}
+use Rattle.messages.proofs.Named.{when}
+use Rattle.rules.specs.inner.Done.{done, ruled}
 
 pub named-ruled : {o : Option Msg} (b : Bool) (m : Msg) (l : List ℕ) → o ≡ when b m → T (isMessage o) → ruled o l
     ≡ done (nameOf m .to) (rule width (meaning l) m) l

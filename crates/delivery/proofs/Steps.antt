@@ -15,25 +15,25 @@ use Rattle.record.specs.Meaning.{meaning}
 use Rattle.record.specs.Reading.{recordRefusal}
 use Rattle.record.proofs.Sound.{sound-is}
 use Rattle.record.proofs.Refused.{record-passed}
-use Rattle.outcome.specs.Made.{made}
-use Rattle.outcome.specs.Answer.{told, answered}
-use Rattle.outcome.specs.declared.Answer.the-variants.{Done, Refused}
-use Rattle.outcome.proofs.Accepted.{record-refused}
-use Rattle.places.specs.Places.{placeOf, isMessage}
-use Rattle.rules.specs.Done.{ruled}
-use Rattle.places.proofs.Placed.{place-message, message-place, pending-bit, no-place}
+use Rattle.record.specs.Call.{called}
+use Rattle.record.specs.Answer.{reply, replyOf}
+use Rattle.record.specs.declared.Answer.the-variants.{Done, Refused}
+use Rattle.record.proofs.Accepted.{record-refused}
+use Rattle.messages.specs.inner.Places.{placeOf, isMessage}
+use Rattle.rules.specs.inner.Done.{ruled}
+use Rattle.messages.proofs.Placed.{place-message, message-place, pending-bit, no-place}
 use Rattle.delivery.proofs.Answers.{not-pending, delivered}
 use Rattle.delivery.proofs.Delivered.{deliver-bytes}
 
 module _ (l : List ℕ) (n : Name) (r : ℕ) (er : r ≡ recordRefusal l) where
-  pub refuse-record : r ≢ 0 → told (Refused r) l ≡ answered (made l (deliver n))
+  pub refuse-record : r ≢ 0 → reply (Refused r) l ≡ replyOf (called l (deliver n))
   refuse-record ne = record-refused l (deliver n) er ne
 
   module _ (zero-r : r ≡ 0) (i : ℕ) (ei : i ≡ placeOf (named n)) where
     fine : recordRefusal l ≡ 0
     fine = sym er ∙ zero-r
 
-    pub refuse-numbers : i ≡ messages → told (Refused 10) l ≡ answered (made l (deliver n))
+    pub refuse-numbers : i ≡ messages → reply (Refused 10) l ≡ replyOf (called l (deliver n))
     refuse-numbers e = not-pending l fine n (no-place l (named n) (sym ei ∙ e))
 
     module _ (ne : i ≢ messages) where
@@ -49,15 +49,15 @@ module _ (l : List ℕ) (n : Name) (r : ℕ) (er : r ≡ recordRefusal l) where
       bit-is : isPending (meaning l .pending) (named n) ≡ bitSet l pendingFrom i
       bit-is = pending-bit l (named n) is-message ∙ ap (bitSet l pendingFrom) (sym ei)
 
-      pub refuse-message : bitSet l pendingFrom i ≡ false → told (Refused 10) l ≡ answered (made l (deliver n))
+      pub refuse-message : bitSet l pendingFrom i ≡ false → reply (Refused 10) l ≡ replyOf (called l (deliver n))
       refuse-message e = not-pending l fine n (bit-is ∙ e)
 
       -- x is the record after the message is taken, y after its rule
       pub do-message : AreBytes l → bitSet l pendingFrom i ≡ true → (x y : List ℕ) → x ≡ clearBit l pendingFrom i → y ≡ ruled (named n) x
-          → told Done y ≡ answered (made l (deliver n))
+          → reply Done y ≡ replyOf (called l (deliver n))
       do-message b e x y ex ey =
           let f = record-passed l refl fine in
           let s = sound-is l (f .sized) b .0 (f .fine) in
           let p : isPending (meaning l .pending) (named n) ≡ true = bit-is ∙ e in
-          ap (told Done) (ey ∙ ap (ruled (named n)) (ex ∙ ap (clearBit l pendingFrom) ei) ∙ deliver-bytes (s .0) (s .1) n (named n) refl p)
+          ap (reply Done) (ey ∙ ap (ruled (named n)) (ex ∙ ap (clearBit l pendingFrom) ei) ∙ deliver-bytes (s .0) (s .1) n (named n) refl p)
           ∙ delivered l fine n p

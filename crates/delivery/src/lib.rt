@@ -6,12 +6,12 @@ ghost use lib.ListN.{length};
 ghost use Rattle.protocol.specs.Message.{name, named};
 ghost use Rattle.protocol.specs.Table.{deliver as delivering};
 ghost use Rattle.record.specs.Layout.{size};
-ghost use Rattle.outcome.specs.Made.{made};
-ghost use Rattle.outcome.specs.Answer.{told, answered};
-ghost use Rattle.places.specs.Places.{isMessage};
-ghost use Rattle.rules.specs.Done.{ruled};
-use outcome::Answer;
-use places::place_of;
+ghost use Rattle.record.specs.Call.{called};
+ghost use Rattle.record.specs.Answer.{reply, replyOf};
+ghost use Rattle.messages.specs.inner.Places.{isMessage};
+ghost use Rattle.rules.specs.inner.Done.{ruled};
+use messages::place_of;
+use record::Answer;
 use record::MESSAGES;
 use record::refusals::NO_SUCH_MESSAGE;
 use rules::found;
@@ -43,7 +43,7 @@ fn handle(rec: &mut [u8], kind: u8, to: usize, about: usize, level: usize, side:
 // Delivers the message that five numbers name: it is taken away, and its rule is done. Refused: 1 wrong size, 2 unsound, 10 no such
 // message.
 pub fn deliver(rec: &mut [u8], kind: u8, to: u8, about: u8, level: u8, side: u8) -> Answer
-    ensures { λ r. ⌜ told r (now (rec .exit)) ≡ answered (made (now (rec .entry)) (delivering (name kind to about level side))) ⌝ }
+    ensures { λ r. ⌜ reply r (now (rec .exit)) ≡ replyOf (called (now (rec .entry)) (delivering (name kind to about level side))) ⌝ }
 {
     let refused = record_refusal(rec);
     if refused != 0 {

@@ -13,18 +13,19 @@ use Rattle.memory.proofs.Bytes.{numberAt-lt}
 use Rattle.graph.specs.Side.{Side, onSide, sideOf}
 use Rattle.graph.specs.Graph.{Links}
 use Rattle.graph.specs.Vector.{width}
-use Rattle.protocol.specs.Message.{sideNumber}
+use Rattle.graph.specs.Side.{sideNumber}
 use Rattle.protocol.specs.State.{seated}
 use Rattle.record.specs.Layout.{seats, numberFrom}
-use Rattle.record.specs.Meaning.{rosterIn, meaning}
-use Rattle.record.specs.Reading.{sideOfNumber}
+use Rattle.record.specs.Meaning.{seatsIn, meaning}
+use Rattle.graph.specs.Side.{sideOfNumber}
 use Rattle.record.proofs.Places.{side-sideNumber}
 use Rattle.search.specs.Walk.{stop, move, drop, along, stepAt, holderAt, find}
 use Rattle.search.proofs.Count.{count-bound}
-use Rattle.search.proofs.Search.{Search, found, moves, drops, ends, gap, move-nearer, search-find}
+use Rattle.search.specs.inner.Search.{Search, found, moves, drops, ends, gap}
+use Rattle.search.proofs.Search.{move-nearer, search-find}
 use Rattle.search.proofs.Hops.{search-seated, search-hops}
 use Rattle.find.specs.declared.Walk.{Walk}
-use Rattle.find.specs.Steps.{asStep, Fit, remains, Ready, Walked}
+use Rattle.find.specs.inner.Steps.{asStep, Fit, remains, Ready, Walked}
 
 -- along a link y that does not lie beyond x, one that does, and none
 module _ (number : ℕ → ℕ) (L : Links) (x y : ℕ) (d : Side) {o : Option ℕ} where
@@ -50,7 +51,7 @@ step-side number L x s k d r n e a =
 
 module _ (l : List ℕ) (x : ℕ) (w : Walk) (h : Ready l x w) where
   abbrev number : ℕ → ℕ
-  number = rosterIn l .number
+  number = seatsIn l .number
 
   abbrev L : Links
   L = meaning l .link
@@ -72,7 +73,7 @@ module _ (l : List ℕ) (x : ℕ) (w : Walk) (h : Ready l x w) where
     to-move : stepAt number L x (w .seat) (w .level) ≡ move y
     to-move = rw (lt-ltb y seats p) at t
 
-    nearer : T (seated (rosterIn l) y) × (gap (number y) x < gap (number (w .seat)) x)
+    nearer : T (seated (seatsIn l) y) × (gap (number y) x < gap (number (w .seat)) x)
     nearer = let k : w .level ≤ width = omega (arith, h .level) in move-nearer (h .fit .ordered) x (w .seat) (h .lot) k to-move
 
     -- a move is ready to go on with any hops that count no more than it
@@ -114,12 +115,12 @@ module _ (l : List ℕ) (x : ℕ) (w : Walk) (h : Ready l x w) where
           }
 
 -- the number of a lot fits, so a walk from it has room for its hops
-pub start-room : (l : List ℕ) (x s : ℕ) → AreBytes l → s < seats → x < 2 ^ 64 → gap (rosterIn l .number s) x < 2 ^ 64
-unfolding rosterIn
+pub start-room : (l : List ℕ) (x s : ℕ) → AreBytes l → s < seats → x < 2 ^ 64 → gap (seatsIn l .number s) x < 2 ^ 64
+unfolding seatsIn
 start-room l x s b h p = rw (lt-ltb s seats h) (omega (arith, numberAt-lt l (numberFrom s) 8 b))
 
 -- the walk from the top level at seat s, and what it leads to
-module _ (l : List ℕ) (x s : ℕ) (f : Fit l) (m : T (seated (rosterIn l) s)) where
+module _ (l : List ℕ) (x s : ℕ) (f : Fit l) (m : T (seated (seatsIn l) s)) where
   pub start-seat : s < seats
   start-seat = f .ordered .seat s m
 
@@ -136,11 +137,11 @@ module _ (l : List ℕ) (x s : ℕ) (f : Fit l) (m : T (seated (rosterIn l) s)) 
 
       -- fewer hops than lots
       pub end-hops : e .hops < seats
-      end-hops = omega (arith, v .hops, search-hops (f .ordered) m low (v .search), count-bound seats (seated (rosterIn l)))
+      end-hops = omega (arith, v .hops, search-hops (f .ordered) m low (v .search), count-bound seats (seated (seatsIn l)))
 
   -- from the top level it is the search of specs/
   pub end-found : (e : Walk) → Walked l x (record { seat = s; level = width; hops = 0 }) e
-      → find (rosterIn l .number) (meaning l .link) x seats width s ≡ holderAt (rosterIn l .number) (meaning l .link) x (e .seat) (e .hops)
+      → find (seatsIn l .number) (meaning l .link) x seats width s ≡ holderAt (seatsIn l .number) (meaning l .link) x (e .seat) (e .hops)
   end-found e v =
       let q : length (v .path) ≡ e .hops = omega (arith, v .hops) in
       search-find (f .ordered) m (v .search) ∙ rw (v .seat, q)

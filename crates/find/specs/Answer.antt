@@ -18,5 +18,5 @@ unfoldable pub foundOf : (refused : ℕ) → Option ℕ → (hops : ℕ) → Fou
 foundOf zero o h = heldBy o h
 foundOf (suc n) o h = Refused (suc n)
 
-unfoldable pub answered : FindAnswer → Found
-answered a = foundOf (a .refused) (a .holder) (a .hops)
+unfoldable pub answerOf : FindAnswer → Found
+answerOf a = foundOf (a .refused) (a .holder) (a .hops)

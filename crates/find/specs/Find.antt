@@ -7,7 +7,7 @@ use mathlib.Core.List.{List}
 use lib.Dec.{eqb}
 use Rattle.graph.specs.Vector.{width}
 use Rattle.record.specs.Layout.{seats}
-use Rattle.record.specs.Meaning.{rosterIn, meaning}
+use Rattle.record.specs.Meaning.{seatsIn, meaning}
 use Rattle.record.specs.Reading.{lotRefusal}
 use Rattle.search.specs.Walk.{find}
 
@@ -20,5 +20,5 @@ pub record FindAnswer : Type 0 where
 unfoldable pub findIn : List ℕ → (s x : ℕ) → FindAnswer
 findIn l s x =
     let n = lotRefusal l s in
-    let f = find (rosterIn l .number) (meaning l .link) x seats width s in
+    let f = find (seatsIn l .number) (meaning l .link) x seats width s in
     cond (eqb n 0) (record { refused = 0; holder = f .holder; hops = f .hops }) (record { refused = n; holder = none; hops = 0 })

@@ -1,4 +1,4 @@
 -- What find answers on the bytes of a record.
 pub mod Find
 pub mod Answer
-pub mod Steps
+pub mod inner

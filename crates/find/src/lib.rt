@@ -7,14 +7,14 @@ ghost use Rattle.graph.specs.Vector.{width};
 ghost use Rattle.protocol.specs.State.{seated};
 ghost use lib.ListN.{length};
 ghost use Rattle.graph.specs.Side.{onSide, sideOf};
-ghost use Rattle.protocol.specs.Message.{sideNumber};
+ghost use Rattle.graph.specs.Side.{sideNumber};
 ghost use Rattle.record.specs.Layout.{seats, levels, size};
-ghost use Rattle.record.specs.Meaning.{rosterIn, meaning};
-ghost use Rattle.record.specs.Reading.{sideOfNumber};
+ghost use Rattle.record.specs.Meaning.{seatsIn, meaning};
+ghost use Rattle.graph.specs.Side.{sideOfNumber};
 ghost use Rattle.search.specs.Walk.{along as alongOf, stepAt, drop, holderAt, find as findOf};
 ghost use Rattle.find.specs.Find.{findIn};
-ghost use Rattle.find.specs.Answer.{heldOf, answered};
-ghost use Rattle.find.specs.Steps.{asStep, Fit, Ready, Walked};
+ghost use Rattle.find.specs.Answer.{heldOf, answerOf};
+ghost use Rattle.find.specs.inner.Steps.{asStep, Fit, Ready, Walked};
 
 pub enum Found {
     Refused(u8),
@@ -52,7 +52,7 @@ fn on_side(d: usize, a: u64, b: u64) -> bool
 // The link of seat s at level k on side d, or SEATS if there is none or it lies beyond x.
 fn along(rec: &[u8], s: usize, k: usize, d: usize, x: u64) -> usize
     requires { ⌜ (length (now rec) ≡ size) × (s < seats) × (k < levels) × (d < 2) ⌝ }
-    ensures { λ r. ⌜ alongOf (rosterIn (now (rec .entry)) .number) (meaning (now (rec .entry)) .link) x (sideOfNumber d)
+    ensures { λ r. ⌜ alongOf (seatsIn (now (rec .entry)) .number) (meaning (now (rec .entry)) .link) x (sideOfNumber d)
         (meaning (now (rec .entry)) .link s k (sideOfNumber d)) ≡ asStep r ⌝ }
 {
     let y = record::link(rec, s, k, d) as usize;
@@ -67,8 +67,8 @@ fn along(rec: &[u8], s: usize, k: usize, d: usize, x: u64) -> usize
 
 // Where the walk goes from seat s at level k, if the number there is not x.
 fn step(rec: &[u8], s: usize, k: usize, x: u64) -> usize
-    requires { ⌜ (length (now rec) ≡ size) × (s < seats) × (k < levels) × (rosterIn (now rec) .number s ≡ x → ⊥) ⌝ }
-    ensures { λ r. ⌜ stepAt (rosterIn (now (rec .entry)) .number) (meaning (now (rec .entry)) .link) x s k ≡ asStep r ⌝ }
+    requires { ⌜ (length (now rec) ≡ size) × (s < seats) × (k < levels) × (seatsIn (now rec) .number s ≡ x → ⊥) ⌝ }
+    ensures { λ r. ⌜ stepAt (seatsIn (now (rec .entry)) .number) (meaning (now (rec .entry)) .link) x s k ≡ asStep r ⌝ }
 {
     let d = side_of(record::number(rec, s), x);
     along(rec, s, k, d, x)
@@ -101,7 +101,7 @@ impl Walk {
 
     // A level down, or at level 0 the end.
     fn descend(self, rec: &[u8], x: u64) -> Walk
-        requires { ⌜ Ready (now rec) x self × (stepAt (rosterIn (now rec) .number) (meaning (now rec) .link) x (self .seat) (self .level) ≡ drop) ⌝ }
+        requires { ⌜ Ready (now rec) x self × (stepAt (seatsIn (now rec) .number) (meaning (now rec) .link) x (self .seat) (self .level) ≡ drop) ⌝ }
         ensures { λ r. ⌜ Walked (now (rec .entry)) x self r ⌝ }
     {
         let s = self.seat;
@@ -122,7 +122,7 @@ impl Walk {
 // From the end of the walk on seat s after h hops: the lot there if it is not above x, else its left neighbour.
 fn held(rec: &[u8], s: usize, h: u64, x: u64) -> Found
     requires { ⌜ (length (now rec) ≡ size) × (s < seats) × (h + 1 < 2 ^ 64) ⌝ }
-    ensures { λ r. ⌜ r ≡ heldOf (holderAt (rosterIn (now (rec .entry)) .number) (meaning (now (rec .entry)) .link) x s h) ⌝ }
+    ensures { λ r. ⌜ r ≡ heldOf (holderAt (seatsIn (now (rec .entry)) .number) (meaning (now (rec .entry)) .link) x s h) ⌝ }
 {
     if record::number(rec, s) <= x {
         return Found::Holder(s as u8, h);
@@ -136,8 +136,8 @@ fn held(rec: &[u8], s: usize, h: u64, x: u64) -> Found
 
 // The search from the lot on seat s.
 fn search(rec: &[u8], s: usize, x: u64) -> Found
-    requires { ⌜ Fit (now rec) × T (seated (rosterIn (now rec)) s) ⌝ }
-    ensures { λ r. ⌜ r ≡ heldOf (findOf (rosterIn (now (rec .entry)) .number) (meaning (now (rec .entry)) .link) x seats width s) ⌝ }
+    requires { ⌜ Fit (now rec) × T (seated (seatsIn (now rec)) s) ⌝ }
+    ensures { λ r. ⌜ r ≡ heldOf (findOf (seatsIn (now (rec .entry)) .number) (meaning (now (rec .entry)) .link) x seats width s) ⌝ }
 {
     let w = Walk {
         seat: s,
@@ -150,7 +150,7 @@ fn search(rec: &[u8], s: usize, x: u64) -> Found
 
 // The lot that a scanned number belongs to, searched from the lot on a seat. Refused: 1, 2, 3, 8.
 pub fn find(rec: &[u8], seat: u8, number: u64) -> Found
-    ensures { λ r. ⌜ r ≡ answered (findIn (now (rec .entry)) seat number) ⌝ }
+    ensures { λ r. ⌜ r ≡ answerOf (findIn (now (rec .entry)) seat number) ⌝ }
 {
     let n = reading::lot_refusal(rec, seat);
     if n != 0 {

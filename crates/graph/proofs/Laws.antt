@@ -7,7 +7,8 @@ use native.Mathlib.Decide.{ℕ-discrete}
 use lib.Dec.{T, ltb, ltb→lt}
 use Rattle.graph.specs.Side.{Side}
 use Rattle.graph.specs.Graph.{Lots, Laws}
-use Rattle.graph.proofs.Order.{Lt, lt-either}
+use Rattle.graph.specs.inner.Order.{Lt}
+use Rattle.graph.proofs.Order.{lt-either}
 
 -- two members are one, or one lies on side d of the other
 pub member-compare : {N : ℕ} {G : Lots} → Laws N G → (d : Side) (x y : ℕ) → T (G .member x) → T (G .member y)

@@ -11,7 +11,7 @@ use Rattle.graph.specs.Side.{Side}
 use Rattle.graph.specs.Vector.{shared}
 use Rattle.graph.specs.Graph.{Lots, Links}
 use Rattle.graph.specs.Constraints.{iterate, Agree, Constraints}
-use Rattle.graph.proofs.Tests.{none-some, dec-some}
+use Rattle.base.proofs.Tests.{none-some, dec-some}
 use Rattle.graph.proofs.Below.{First, first-below}
 use Rattle.graph.proofs.Shared.{shared-sym, shared-trans}
 use Rattle.graph.proofs.Walk.{Walk, here, there, walk-iterate, iterate-walk, walk-append, walk-zero, walk-rest}

@@ -1,6 +1,5 @@
 -- Why the definitions of specs/ say what they should: order, shared bits, neighbours, and the two theorems on skip graphs.
 pub mod Order
-pub mod Tests
 pub mod Below
 pub mod Shared
 pub mod Laws

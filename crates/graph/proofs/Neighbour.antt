@@ -10,9 +10,10 @@ use lib.Dec.{T, eqb, leb, eqb→eq, eqb-refl, leb→le, le→leb}
 use Rattle.graph.specs.Side.{Side, onSide}
 use Rattle.graph.specs.Vector.{shared}
 use Rattle.graph.specs.Graph.{Lots, inList, beside, nearer, nearest as scan, graph, Laws}
-use Rattle.graph.proofs.Tests.{true-T, false-T, and-T, and-fst, and-snd}
+use Rattle.base.proofs.Tests.{true-T, false-T, and-T, and-fst, and-snd}
 use Rattle.graph.proofs.Below.{below-suc}
-use Rattle.graph.proofs.Order.{Lt, lt-trans, lt-asym, lt-eq, on-lt, lt-on}
+use Rattle.graph.specs.inner.Order.{Lt}
+use Rattle.graph.proofs.Order.{lt-trans, lt-asym, lt-eq, on-lt, lt-on}
 use Rattle.graph.proofs.Shared.{shared-refl, shared-sym, shared-trans}
 use Rattle.graph.proofs.Laws.{member-compare}
 

@@ -7,6 +7,7 @@ use native.Mathlib.Nat.{lt-trans as nat-lt-trans}
 use native.Mathlib.Decide.{decLt}
 use lib.Dec.{T, ltb→lt, lt→ltb}
 use borrow.Author.Tests.{lt-ltb, le-ltb}
+use Rattle.graph.specs.inner.Order.{Lt, toL, toR}
 use Rattle.graph.specs.Side.{Side, left, right, opp, onSide, sideOf}
 
 pub opp-opp : (d : Side) → opp (opp d) ≡ d
@@ -18,11 +19,6 @@ side-or-opp left left = inl refl
 side-or-opp left right = inr refl
 side-or-opp right left = inr refl
 side-or-opp right right = inl refl
-
--- y lies on side d of x
-pub data Lt (num : ℕ → ℕ) : Side → ℕ → ℕ → Type 0 where
-  toL : {x y : ℕ} → num y < num x → Lt num left x y
-  toR : {x y : ℕ} → num x < num y → Lt num right x y
 
 module _ {num : ℕ → ℕ} where
   pub lt-trans : {d : Side} {x y z : ℕ} → Lt num d x y → Lt num d y z → Lt num d x z

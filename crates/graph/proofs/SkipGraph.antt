@@ -10,8 +10,9 @@ use lib.Dec.{T}
 use Rattle.graph.specs.Side.{Side, left, right, opp}
 use Rattle.graph.specs.Graph.{Lots, Links, IsGraph, Laws}
 use Rattle.graph.specs.Constraints.{iterate, Agree, NoneBefore, Constraints, OneList}
-use Rattle.graph.proofs.Tests.{none-some}
-use Rattle.graph.proofs.Order.{Lt, lt-opp, opp-lt, lt-asym, lt-side, lt-ne, lt-on}
+use Rattle.base.proofs.Tests.{none-some}
+use Rattle.graph.specs.inner.Order.{Lt}
+use Rattle.graph.proofs.Order.{lt-opp, opp-lt, lt-asym, lt-side, lt-ne, lt-on}
 use Rattle.graph.proofs.Laws.{member-compare}
 use Rattle.graph.proofs.Neighbour.{InList, list-refl, list-sym, list-trans, list-lower, Nearest, nobody, nearest}
 use Rattle.graph.proofs.Neighbour.{nobody-there, nearest-list, nearest-side, nearest-first, nearest-unique}

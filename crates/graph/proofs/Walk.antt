@@ -9,8 +9,9 @@ use lib.Dec.{T}
 use Rattle.graph.specs.Side.{Side, opp}
 use Rattle.graph.specs.Graph.{Lots, Links}
 use Rattle.graph.specs.Constraints.{next, iterate, Constraints}
-use Rattle.graph.proofs.Tests.{some-inj, none-some}
-use Rattle.graph.proofs.Order.{Lt, toL, toR, lt-trans, on-lt}
+use Rattle.base.proofs.Tests.{some-inj, none-some}
+use Rattle.graph.specs.inner.Order.{Lt, toL, toR}
+use Rattle.graph.proofs.Order.{lt-trans, on-lt}
 
 -- j links of level k on side d, from one lot to another
 pub data Walk (L : Links) (k : ℕ) (d : Side) : ℕ → ℕ → ℕ → Type 0 where

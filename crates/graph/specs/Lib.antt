@@ -3,3 +3,4 @@ pub mod Side
 pub mod Vector
 pub mod Graph
 pub mod Constraints
+pub mod inner

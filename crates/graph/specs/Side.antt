@@ -1,7 +1,7 @@
 -- The two sides of a lot in a list. Assumes nothing.
 use Prim.Native.Nat.{ℕ}
 use mathlib.Core.Bool.{Bool, cond}
-use lib.Dec.{ltb}
+use lib.Dec.{eqb, ltb}
 
 pub data Side : Type 0 where
   left right : Side
@@ -20,3 +20,12 @@ onSide right a b = ltb a b
 -- the side of number a on which number b lies
 unfoldable pub sideOf : ℕ → ℕ → Side
 sideOf a b = cond (ltb a b) right left
+
+-- side 0 is left, 1 right
+abbrev pub sideNumber : Side → ℕ
+sideNumber left = 0
+sideNumber right = 1
+
+-- the side of a number: 1 is right, any other left
+abbrev pub sideOfNumber : ℕ → Side
+sideOfNumber d = cond (eqb d 1) right left

@@ -12,14 +12,14 @@ const NEWLINE: u8 = 10;
 fn run(rec: &mut [u8], line: &[u8]) {
     match command::parse(line) {
         Parsed::Bad => say::bad(),
-        Parsed::Join(seat, number, vector, contact) => say::done(calls::join(
+        Parsed::Join(seat, number, vector, contact) => say::done(joining::join(
             rec,
             seat,
             number,
             vector,
             contact,
         )),
-        Parsed::Leave(seat) => say::done(calls::leave(rec, seat)),
+        Parsed::Leave(seat) => say::done(joining::leave(rec, seat)),
         Parsed::Deliver(kind, to, about, level, side) => say::done(delivery::deliver(
             rec,
             kind,
@@ -28,7 +28,7 @@ fn run(rec: &mut [u8], line: &[u8]) {
             level,
             side,
         )),
-        Parsed::Turn => say::done(turn::turn(rec)),
+        Parsed::Turn => say::done(clearing::turn(rec)),
         Parsed::Settle => settle::settle(rec),
         Parsed::Find(seat, number) => say::found(find::find(rec, seat, number)),
         Parsed::Print => listing::print(rec),

@@ -1,7 +1,7 @@
 // What `lots` writes for a line.
 use find::Found;
 use libc::STDOUT_FILENO;
-use outcome::Answer;
+use record::Answer;
 
 pub fn text(t: &[u8]) {
     io::write_all(STDOUT_FILENO, t);

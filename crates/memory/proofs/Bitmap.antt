@@ -11,11 +11,11 @@ use lib.Dec.{eqb}
 use lib.ListN.{length, getD, set, length-set}
 use lib.Pow.{shl-exact}
 use lib.Seq.{getD-set-same, getD-set-other, set-getD, set-out}
-use Rattle.memory.specs.Loops.{all}
+use Rattle.base.specs.Loops.{all}
 use Rattle.memory.specs.Bytes.{AreBytes, putNumber}
 use Rattle.memory.specs.Bits.{hasBit, withBit, packed, bitSet, putBit}
-use Rattle.memory.proofs.Cases.{lt-or-ge, eq-or-ne}
-use Rattle.memory.proofs.All.{all-same}
+use Rattle.base.proofs.Cases.{lt-or-ge, eq-or-ne}
+use Rattle.base.proofs.All.{all-same}
 use Rattle.memory.proofs.Bytes.{bytes-set, getD-putNumber-other}
 use Rattle.memory.proofs.Bits.{hasBit-withBit, hasBit-withBit-other, withBit-lt, withBit-hasBit}
 use Rattle.memory.proofs.Packed.{packed-is, packed-bits, packed-lt, packed-append, packed-parts}

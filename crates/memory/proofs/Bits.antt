@@ -9,9 +9,9 @@ use lib.Bits.{bitAnd, bitOr, and-high, or-add-and}
 use lib.Dec.{eqb, lit<}
 use lib.Pow.{shr-shr, shl-exact}
 use borrow.Author.Tests.{eq-eqb, ne-eqb}
-use Rattle.memory.specs.Loops.{oneIf}
+use Rattle.base.specs.Loops.{oneIf}
 use Rattle.memory.specs.Bits.{bitOf, hasBit, withBit}
-use Rattle.memory.proofs.Count.{oneIf-le}
+use Rattle.base.proofs.Count.{oneIf-le}
 
 -- the lowest bit
 pub bitOf-zero : (x : ℕ) → bitOf x 0 ≡ x % 2

@@ -9,7 +9,7 @@ use native.Mathlib.Numerals.{add-one}
 use lib.ListN.{length, getD, set, length-set}
 use lib.Seq.{getD-set-same, getD-set-other, set-out}
 use Rattle.memory.specs.Bytes.{AreBytes, numberAt, putNumber}
-use Rattle.memory.proofs.Cases.{lt-or-ge, eq-or-ne}
+use Rattle.base.proofs.Cases.{lt-or-ge, eq-or-ne}
 
 pub numberAt-none : (l : List ℕ) (a : ℕ) → numberAt l a 0 ≡ 0
 unfolding numberAt

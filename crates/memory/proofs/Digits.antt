@@ -11,7 +11,7 @@ use lib.ListN.{length, getD, set}
 use lib.Pow.{pow-add, shl-lt, shl-exact}
 use lib.Seq.{getD-set-same, getD-set-other, ext-getD}
 use Rattle.memory.specs.Bytes.{AreBytes, numberAt, putNumber, digit}
-use Rattle.memory.proofs.Cases.{lt-or-ge}
+use Rattle.base.proofs.Cases.{lt-or-ge}
 use Rattle.memory.proofs.Bytes.{length-putNumber, getD-putNumber-other}
 
 pub digit-lt : (n v j : ℕ) → digit n v j < 256

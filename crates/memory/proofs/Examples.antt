@@ -4,7 +4,7 @@ use mathlib.Core.Path.{_≡_, refl}
 use mathlib.Core.Bool.{true, false}
 use mathlib.Core.List.{List, [], _∷_}
 use lib.Dec.{ltb}
-use Rattle.memory.specs.Loops.{all, firstFrom, count, tabulateFrom, tabulate}
+use Rattle.base.specs.Loops.{all, firstFrom, count, tabulateFrom, tabulate}
 use Rattle.memory.specs.Bytes.{numberAt, putNumber, digit, zeros}
 use Rattle.memory.specs.Bits.{bitOf, withBit, packed, bitSet, setBit, clearBit}
 

@@ -6,9 +6,9 @@ use mathlib.Core.Bool.{Bool, true, false, not}
 use native.Mathlib.Omega.{arith}
 use lib.Dec.{eqb}
 use borrow.Author.Tests.{eq-eqb, ne-eqb}
-use Rattle.memory.specs.Loops.{all, firstFrom}
-use Rattle.memory.proofs.Cases.{lt-or-ge, eq-or-ne, true-or-false}
-use Rattle.memory.proofs.All.{all-from, all-fails}
+use Rattle.base.specs.Loops.{all, firstFrom}
+use Rattle.base.proofs.Cases.{lt-or-ge, eq-or-ne, true-or-false}
+use Rattle.base.proofs.All.{all-from, all-fails}
 
 -- r is the first of the n numbers from i on that passes, else i + n
 pub record IsFirst (n i : ℕ) (p : ℕ → Bool) (r : ℕ) : Type 0 where

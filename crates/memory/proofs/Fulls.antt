@@ -8,7 +8,7 @@ use native.Mathlib.Nat.{add-assoc}
 use lib.Dec.{eqb}
 use lib.ListN.{getD}
 use Rattle.memory.specs.Bytes.{fulls}
-use Rattle.memory.proofs.All.{all-range}
+use Rattle.base.proofs.All.{all-range}
 
 -- of n bytes from a on, those from i on are m and the rest
 pub fulls-part : (l : List ℕ) (a i m n : ℕ) → i + m ≤ n → fulls l (a + i) (n - i) ≡ fulls l (a + i) m && fulls l (a + (i + m)) (n - (i + m))

@@ -1,9 +1,5 @@
 -- Laws of the definitions of specs/.
-pub mod Cases
-pub mod All
 pub mod First
-pub mod Count
-pub mod Tabulate
 pub mod Bytes
 pub mod Digits
 pub mod Bits

@@ -8,12 +8,12 @@ use native.Mathlib.Nat.{suc-add, pow-suc}
 use native.Mathlib.Numerals.{one-add}
 use lib.Count.{ones, ones-step, ones-le, trailingZeros, trailing-of-zero, under}
 use lib.Pow.{shr-lt}
-use Rattle.memory.specs.Loops.{firstFrom, count}
+use Rattle.base.specs.Loops.{firstFrom, count}
 use Rattle.memory.specs.Bits.{hasBit, packed}
-use Rattle.memory.proofs.Cases.{lt-or-ge}
+use Rattle.base.proofs.Cases.{lt-or-ge}
 use Rattle.memory.proofs.Bits.{bitOf-zero, oneIf-hasBit, hasBit-is, hasBit-shr}
 use Rattle.memory.proofs.First.{first, first-same, first-shift}
-use Rattle.memory.proofs.Count.{count-append, count-more, count-none, count-same}
+use Rattle.base.proofs.Count.{count-append, count-more, count-none, count-same}
 use Rattle.memory.proofs.Packed.{packed-lt, packed-bits, packed-none}
 
 -- the first of the lowest n bits that is set

@@ -7,10 +7,10 @@ use native.Mathlib.Nat.{zero-add, suc-add, zero-mul, suc-mul, mul-assoc, pow-suc
 use lib.Dec.{eqb}
 use lib.Pow.{pow-pos, high, low}
 use borrow.Author.Tests.{eq-eqb}
-use Rattle.memory.specs.Loops.{oneIf, all}
+use Rattle.base.specs.Loops.{oneIf, all}
 use Rattle.memory.specs.Bits.{bitOf, hasBit, packed}
-use Rattle.memory.proofs.Cases.{eqb-both}
-use Rattle.memory.proofs.Count.{oneIf-le}
+use Rattle.base.proofs.Cases.{eqb-both}
+use Rattle.base.proofs.Count.{oneIf-le}
 use Rattle.memory.proofs.Bits.{bitOf-zero, bitOf-suc, oneIf-hasBit, hasBit-is, hasBit-none}
 
 pub packed-lt : (n : ℕ) (p : ℕ → Bool) → packed n p < 2 ^ n

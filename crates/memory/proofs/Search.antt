@@ -10,12 +10,12 @@ use native.Mathlib.Nat.{sub-self}
 use lib.Count.{ones}
 use lib.ListN.{getD}
 use borrow.Author.Tests.{eqb-true, eqb-false, not-true, not-false}
-use Rattle.memory.specs.Loops.{firstFrom, count}
+use Rattle.base.specs.Loops.{firstFrom, count}
 use Rattle.memory.specs.Bytes.{AreBytes, isZero, nonZero}
 use Rattle.memory.specs.Bits.{hasBit, bitSet}
-use Rattle.memory.proofs.Cases.{lt-or-ge}
+use Rattle.base.proofs.Cases.{lt-or-ge}
 use Rattle.memory.proofs.First.{IsFirst, first, first-end, first-same, first-shift, first-skip, first-found}
-use Rattle.memory.proofs.Count.{count-append, count-same, count-zero}
+use Rattle.base.proofs.Count.{count-append, count-same, count-zero}
 use Rattle.memory.proofs.Bits.{hasBit-none}
 use Rattle.memory.proofs.Packed.{bits-same}
 use Rattle.memory.proofs.Bitmap.{bitSet-byte, bitSet-from}

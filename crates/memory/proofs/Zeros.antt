@@ -9,11 +9,11 @@ use lib.Bits.{bitOr, or-add-and, and-le-l, and-le-r}
 use lib.Dec.{eqb}
 use lib.ListN.{getD, replicate}
 use borrow.Author.Tests.{eq-eqb, eqb-true, not-true}
-use Rattle.memory.specs.Loops.{all, firstFrom}
+use Rattle.base.specs.Loops.{all, firstFrom}
 use Rattle.memory.specs.Bytes.{AreBytes, numberAt, isZero, nonZero, zeros}
 use Rattle.memory.specs.Bits.{hasBit, bitSet}
-use Rattle.memory.proofs.Cases.{same-test, not-not, eqb-both}
-use Rattle.memory.proofs.All.{all-at, all-from, all-same, all-product}
+use Rattle.base.proofs.Cases.{same-test, not-not, eqb-both}
+use Rattle.base.proofs.All.{all-at, all-from, all-same, all-product}
 use Rattle.memory.proofs.First.{first-skip, first-all}
 use Rattle.memory.proofs.Bits.{hasBit-none}
 use Rattle.memory.proofs.Packed.{bits-same}

@@ -4,7 +4,7 @@ use mathlib.Core.Bool.{Bool, true, false}
 use mathlib.Core.List.{List}
 use lib.Dec.{eqb}
 use lib.ListN.{getD, set}
-use Rattle.memory.specs.Loops.{oneIf}
+use Rattle.base.specs.Loops.{oneIf}
 
 -- bit k of x: 0 or 1
 unfoldable pub bitOf : (x k : ℕ) → ℕ

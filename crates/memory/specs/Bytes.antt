@@ -4,7 +4,7 @@ use mathlib.Core.Bool.{Bool, not}
 use mathlib.Core.List.{List}
 use lib.Dec.{eqb}
 use lib.ListN.{getD, set}
-use Rattle.memory.specs.Loops.{all}
+use Rattle.base.specs.Loops.{all}
 
 -- every element is a byte
 abbrev pub AreBytes : (l : List ℕ) → Type 0

@@ -1,4 +1,3 @@
 -- Numbers and bits in lists of bytes, and what loops over them answer. Names no record and no layout.
-pub mod Loops
 pub mod Bytes
 pub mod Bits

@@ -3,7 +3,7 @@
 ghost use mathlib.Core.Path.{_≡_};
 ghost use Prim.Native.Nat.{_+_, _-_, _*_, _/_, _%_, _≤_, _<_};
 ghost use lib.ListN.{length};
-ghost use Rattle.memory.specs.Loops.{firstFrom, count as countOf};
+ghost use Rattle.base.specs.Loops.{firstFrom, count as countOf};
 ghost use Rattle.memory.specs.Bytes.{numberAt, putNumber, digit, nonZero, zeros, fulls};
 ghost use Rattle.memory.specs.Bits.{hasBit, packed, bitSet, setBit, clearBit};
 

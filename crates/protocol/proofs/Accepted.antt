@@ -5,20 +5,20 @@ use mathlib.Core.Logic.{_≢_}
 use mathlib.Core.Bool.{Bool, true, false, not, _||_}
 use lib.Dec.{T, ltb}
 use borrow.Author.Tests.{ltb-true, lt-ltb, le-ltb, not-false, eq-eqb}
-use Rattle.graph.proofs.Tests.{true-T, and-T}
+use Rattle.base.proofs.Tests.{true-T, and-T}
 use Rattle.protocol.specs.Message.{Msg, Name, named}
 use Rattle.protocol.specs.Numbering.{somePending}
-use Rattle.protocol.specs.State.{open-phase, Roster, isFree, seated, leaves}
+use Rattle.protocol.specs.State.{open-phase, Seats, isFree, seated, leaves}
 use Rattle.protocol.specs.Table.{join, leave, deliver, turn, rows, refusal, isPending}
 use Rattle.protocol.proofs.Calls.{no-row}
-use Rattle.protocol.proofs.Any.{any-none}
+use Rattle.base.proofs.Any.{any-none}
 use Rattle.protocol.proofs.SoundFacts.{false-not, phase-open}
 
 or-false : (a b : Bool) → (a || b) ≡ false → a ≡ false
 or-false true b e = e
 or-false false b e = refl
 
-module _ (N W : ℕ) (r : Roster) (p : Msg → Bool) where
+module _ (N W : ℕ) (r : Seats) (p : Msg → Bool) where
   pub record Joins (s n c : ℕ) : Type 0 where
     pub seat : s < N
     pub opens : r .phase ≡ open-phase

@@ -5,8 +5,9 @@ use mathlib.Core.Path.{_≡_, refl, sym, _∙_, ap, subst}
 use mathlib.Core.Logic.{_⊎_, inl, inr}
 use mathlib.Core.Option.{Option, none, some}
 use Rattle.graph.specs.Side.{Side, opp}
-use Rattle.graph.proofs.Order.{Lt, lt-opp, opp-lt, lt-eq, lt-then}
-use Rattle.graph.proofs.Tests.{none-some}
+use Rattle.graph.specs.inner.Order.{Lt}
+use Rattle.graph.proofs.Order.{lt-opp, opp-lt, lt-eq, lt-then}
+use Rattle.base.proofs.Tests.{none-some}
 use Rattle.protocol.specs.Message.{Msg, meet}
 use Rattle.protocol.proofs.World.{World, State, seat-tri}
 use Rattle.protocol.proofs.Delivery.{link-cases, link-kept}

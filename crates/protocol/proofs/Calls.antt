@@ -14,7 +14,7 @@ use lib.Dec.{T, eqb, eqb→eq}
 use borrow.Author.Tests.{eq-eqb, ne-eqb}
 use Rattle.graph.specs.Side.{Side, left, right}
 use Rattle.graph.specs.Graph.{Links}
-use Rattle.graph.proofs.Tests.{dec-T, not-T-false, and-T, and-fst, and-snd, or-cases, or-left, or-right}
+use Rattle.base.proofs.Tests.{dec-T, not-T-false, and-T, and-fst, and-snd, or-cases, or-left, or-right}
 use Rattle.protocol.specs.Message.{Msg, among}
 use Rattle.protocol.specs.Rules.{Change, keep, set, toLink}
 use Rattle.protocol.specs.Table.{Row, row, first}

@@ -7,8 +7,9 @@ use mathlib.Core.Logic.{_⊎_, inl, inr, _≢_}
 use mathlib.Core.Option.{Option, none, some}
 use Rattle.graph.specs.Side.{Side}
 use Rattle.graph.specs.Graph.{Links}
-use Rattle.graph.proofs.Order.{Lt, lt-trans, lt-side}
-use Rattle.graph.proofs.Tests.{some-inj, none-some}
+use Rattle.graph.specs.inner.Order.{Lt}
+use Rattle.graph.proofs.Order.{lt-trans, lt-side}
+use Rattle.base.proofs.Tests.{some-inj, none-some}
 use Rattle.protocol.specs.Message.{Msg, going, seek, found, none-found}
 use Rattle.protocol.proofs.World.{World, State, Quiet, Pair, pair-sym, pair-trans, pair-level}
 use Rattle.protocol.proofs.Delivery.{Delivery}

@@ -7,8 +7,9 @@ use mathlib.Core.Bool.{Bool, true, false, cond}
 use mathlib.Core.List.{[], _∷_, List·Memᴰ, List·Memᴰ·head, List·Memᴰ·eq-of-singleton, List·Memᴰ·not-nil}
 use lib.Dec.{T}
 use Rattle.graph.specs.Side.{Side}
-use Rattle.graph.proofs.Order.{Lt, lt-side, side-of}
-use Rattle.graph.proofs.Tests.{none-some, true-T, false-T}
+use Rattle.graph.specs.inner.Order.{Lt}
+use Rattle.graph.proofs.Order.{lt-side, side-of}
+use Rattle.base.proofs.Tests.{none-some, true-T, false-T}
 use Rattle.protocol.specs.Message.{Msg, going, seek, found, none-found, nameOf}
 use Rattle.protocol.specs.Rules.{SeatState, isStaying, Change, keep, set, Effect, toLink, sending, parting, passing, seeking, effect}
 use Rattle.protocol.proofs.Calls.{link-in, link-out}

@@ -11,7 +11,7 @@ use Rattle.protocol.specs.Message.{Msg, Name, nameOf, named, among}
 use Rattle.protocol.specs.Rules.{Change, set, Effect}
 use Rattle.protocol.specs.State.{Meaning}
 use Rattle.protocol.specs.Table.{deliver}
-use Rattle.protocol.specs.Calls.{isTaken, pendingAfter, applied, rule, rosterAfter, deliverySends, deliveryLinks, sends, takes, linksAfter}
+use Rattle.protocol.specs.Calls.{isTaken, pendingAfter, applied, rule, seatsAfter, deliverySends, deliveryLinks, sends, takes, linksAfter}
 use Rattle.protocol.specs.Calls.{accept}
 use Rattle.protocol.proofs.Message.{same-eq, eq-same, among-mem, mem-among}
 use Rattle.protocol.proofs.Calls.{after-came, after-kept, after-only, applied-at, applied-frame}
@@ -60,17 +60,17 @@ stateOf M = record { link = M .link; pend = λ m. T (M .pending m) }
 -- the meaning after the delivery of m
 abbrev pub delivered : ℕ → Meaning → Msg → Meaning
 delivered W M m = record {
-  roster = M .roster;
+  seats = M .seats;
   link = λ x k d. applied (nameOf m .to) (rule W M m .change) (M .link) x k d;
   pending = pendingAfter (rule W M m .sent) (some m) (M .pending);
 }
 
 pub accept-deliver : (N W : ℕ) (M : Meaning) (n : Name) (m : Msg) → named n ≡ some m → accept N W M (deliver n) ≡ delivered W M m
-unfolding accept rosterAfter linksAfter sends takes deliverySends deliveryLinks
+unfolding accept seatsAfter linksAfter sends takes deliverySends deliveryLinks
 accept-deliver N W M n m e = ap (λ (o : Option Msg). after o) e
   where
     after : Option Msg → Meaning
-    after o = record { roster = M .roster; link = λ x k d. deliveryLinks W M o x k d; pending = pendingAfter (deliverySends W M o) o (M .pending) }
+    after o = record { seats = M .seats; link = λ x k d. deliveryLinks W M o x k d; pending = pendingAfter (deliverySends W M o) o (M .pending) }
 
 pub delivers : {Sends : Msg → Msg → Type 0} {Sets : Msg → ℕ → ℕ → Side → Option ℕ → Type 0} (W : ℕ) (M : Meaning) (m : Msg)
     → Right Sends Sets m (rule W M m) → T (M .pending m) → Delivery Sends Sets (stateOf M) m (stateOf (delivered W M m))

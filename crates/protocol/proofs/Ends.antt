@@ -10,7 +10,8 @@ use native.Mathlib.Omega.{arith}
 use native.Mathlib.Nat.{mul-le-mul-left}
 use lib.Dec.{T, ltb}
 use Rattle.graph.specs.Side.{Side, left, right, opp, sideOf}
-use Rattle.graph.proofs.Order.{Lt, lt-trans, side-of}
+use Rattle.graph.specs.inner.Order.{Lt}
+use Rattle.graph.proofs.Order.{lt-trans, side-of}
 use Rattle.protocol.specs.Message.{Msg, meet, probe, pull}
 use Rattle.protocol.specs.Numbering.{exists}
 use Rattle.protocol.specs.State.{Meaning}

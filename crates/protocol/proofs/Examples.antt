@@ -8,12 +8,13 @@ use mathlib.Core.List.{List, [], _∷_}
 use Rattle.graph.specs.Side.{Side, left, right, onSide, sideOf}
 use Rattle.graph.specs.Vector.{bit, equalBits, shared}
 use Rattle.protocol.specs.Message.{meet, probe, name, nameOf, ifZero, ifBit, named, sameMsg, among}
-use Rattle.protocol.specs.Numbering.{any, count, pairAt, pullAt, sideAt, split, messageAt, somePending}
+use Rattle.base.specs.Loops.{any}
+use Rattle.protocol.specs.Numbering.{count, pairAt, pullAt, sideAt, split, messageAt, somePending}
 use Rattle.protocol.specs.Rules.{Entry, staying, keep, set, toLink}
 use Rattle.protocol.specs.Rules.{setting, meeting, probing, pulling, parting, passing, seeking, effect}
 use Rattle.protocol.specs.State.{Meaning, nobody, opened}
 use Rattle.protocol.specs.Table.{Call, join, leave, deliver, turn, first, isPending, rows, refusal}
-use Rattle.protocol.specs.Calls.{at, freed, afterTurn, rosterAfter, rule, each, farewell, farewells, turnSends, deliverySends}
+use Rattle.protocol.specs.Calls.{at, freed, afterTurn, seatsAfter, rule, each, farewell, farewells, turnSends, deliverySends}
 use Rattle.protocol.specs.Calls.{sends, takes, isTaken, pendingAfter, applied, unlinked, turnLinks, deliveryLinks, linksAfter}
 use Rattle.protocol.specs.Calls.{accept, unlessRefused, call}
 use Rattle.protocol.specs.Run.{Logged, logOf, step, steps, run}
@@ -55,7 +56,7 @@ calls =
     ∷ deliver (name 8 0 1 0 0) ∷ turn ∷ leave 1 ∷ leave 1 ∷ []
 
 refused : refusals (logOf (run 3 2 calls .history)) ≡ 9 ∷ 0 ∷ 11 ∷ 10 ∷ 10 ∷ 0 ∷ 10 ∷ 3 ∷ 0 ∷ 6 ∷ 3 ∷ 3 ∷ 5 ∷ 0 ∷ 0 ∷ 6 ∷ []
-unfolding refusals calls logOf run step steps opened nobody call unlessRefused accept refusal rows first any isPending rosterAfter at sends
+unfolding refusals calls logOf run step steps opened nobody call unlessRefused accept refusal rows first any isPending seatsAfter at sends
     takes isTaken pendingAfter deliverySends linksAfter deliveryLinks applied rule effect setting meeting probing pulling parting passing
     seeking toLink onSide sideOf bit equalBits shared named ifZero ifBit sameMsg among somePending count messageAt split pairAt pullAt
     sideAt
@@ -83,14 +84,14 @@ links M =
     ∷ M .link 0 1 right ∷ M .link 2 1 left ∷ M .link 1 1 left ∷ M .link 1 1 right ∷ M .link 0 2 right ∷ []
 
 Q-settled : somePending 3 2 (settled-Q .pending) ≡ false
-unfolding settled-Q drain search run step steps opened nobody call unlessRefused accept refusal rows first any isPending rosterAfter at
+unfolding settled-Q drain search run step steps opened nobody call unlessRefused accept refusal rows first any isPending seatsAfter at
     sends takes isTaken pendingAfter deliverySends linksAfter deliveryLinks applied rule effect setting meeting probing pulling parting
     passing seeking toLink onSide sideOf bit equalBits shared named ifZero ifBit sameMsg among somePending count messageAt split pairAt
     pullAt sideAt
 Q-settled = refl
 
 Q-links : links settled-Q ≡ some 1 ∷ some 0 ∷ some 2 ∷ some 1 ∷ some 2 ∷ some 0 ∷ none ∷ none ∷ none ∷ []
-unfolding links settled-Q drain search run step steps opened nobody call unlessRefused accept refusal rows first any isPending rosterAfter
+unfolding links settled-Q drain search run step steps opened nobody call unlessRefused accept refusal rows first any isPending seatsAfter
     at sends takes isTaken pendingAfter deliverySends linksAfter deliveryLinks applied rule effect setting meeting probing pulling parting
     passing seeking toLink onSide sideOf bit equalBits shared named ifZero ifBit sameMsg among somePending count messageAt split pairAt
     pullAt sideAt
@@ -105,7 +106,7 @@ left-Q = after (drain 3 2 8 (after (after settled-Q (leave 1)) turn)) turn
 
 case-k : links left-Q ≡ some 2 ∷ none ∷ none ∷ some 0 ∷ some 2 ∷ some 0 ∷ none ∷ none ∷ none ∷ []
 unfolding links left-Q after settled-Q drain search freed afterTurn each farewell farewells turnSends unlinked turnLinks run step steps
-    opened nobody call unlessRefused accept refusal rows first any isPending rosterAfter at sends takes isTaken pendingAfter deliverySends
+    opened nobody call unlessRefused accept refusal rows first any isPending seatsAfter at sends takes isTaken pendingAfter deliverySends
     linksAfter deliveryLinks applied rule effect setting meeting probing pulling parting passing seeking toLink onSide sideOf bit equalBits
     shared named ifZero ifBit sameMsg among somePending count messageAt split pairAt pullAt sideAt
 case-k = refl

@@ -6,8 +6,9 @@ use mathlib.Core.Logic.{_⊎_, inl, inr}
 use mathlib.Core.Option.{Option, none, some}
 use native.Mathlib.Omega.{arith}
 use Rattle.graph.specs.Side.{Side, right, opp}
-use Rattle.graph.proofs.Order.{Lt, lt-opp, opp-lt, lt-asym, lt-ne}
-use Rattle.graph.proofs.Tests.{none-some}
+use Rattle.graph.specs.inner.Order.{Lt}
+use Rattle.graph.proofs.Order.{lt-opp, opp-lt, lt-asym, lt-ne}
+use Rattle.base.proofs.Tests.{none-some}
 use Rattle.protocol.specs.Message.{Msg}
 use Rattle.protocol.proofs.World.{World, State, Quiet, Pair, pair-sym, pair-trans, seat-tri}
 use Rattle.protocol.proofs.Open.{Opened, Proper, proper-kept}
@@ -15,7 +16,7 @@ use Rattle.protocol.proofs.Back.{WaysBack, back-kept}
 use Rattle.protocol.proofs.Conn.{Conn, clink, csym, ctrans, Whole, conn-eq, conn-kept}
 use Rattle.protocol.proofs.Segment.{Segment, joined, Segments}
 use Rattle.protocol.proofs.SegmentKept.{segments-kept}
-use Rattle.protocol.proofs.Settled.{Sym, dist, dist-less, Exact, quiet-exact}
+use Rattle.protocol.proofs.Exact.{Sym, dist, dist-less, Exact, quiet-exact}
 
 pub record Invariant (G : World) (S : State) : Type 0 where
   pub proper : Proper G S

@@ -5,7 +5,7 @@ use mathlib.Core.Logic.{_⊎_, inl, inr, _≢_}
 use mathlib.Core.Option.{some}
 use native.Mathlib.Omega.{arith}
 use Rattle.graph.specs.Side.{Side, opp}
-use Rattle.graph.proofs.Order.{Lt, toL, toR}
+use Rattle.graph.specs.inner.Order.{Lt, toL, toR}
 use Rattle.protocol.specs.Message.{Msg, meet}
 use Rattle.protocol.proofs.World.{World, State, share, bitOf, Pair}
 use Rattle.protocol.proofs.Open.{Ok, ok-meet, ok-probe, ok-pull, Proper, ok-pair}

@@ -9,13 +9,13 @@ use native.Mathlib.Decide.{ℕ-discrete}
 use lib.Dec.{T, eqb, ltb}
 use borrow.Author.Tests.{eq-eqb, ne-eqb, ltb-true}
 use Rattle.graph.specs.Side.{Side}
-use Rattle.graph.proofs.Tests.{false-T, none-some}
-use Rattle.graph.proofs.Order.{Lt, toL, toR}
+use Rattle.base.proofs.Tests.{false-T, none-some}
+use Rattle.graph.specs.inner.Order.{Lt, toL, toR}
 use Rattle.protocol.specs.Message.{Msg, meet}
 use Rattle.protocol.specs.Rules.{staying, leaving}
-use Rattle.protocol.specs.State.{Phase, open-phase, Roster, Meaning, isFree, seated}
+use Rattle.protocol.specs.State.{Phase, open-phase, Seats, Meaning, isFree, seated}
 use Rattle.protocol.specs.Table.{join, leave, refusal}
-use Rattle.protocol.specs.Calls.{at, rosterAfter, sends, takes, linksAfter, accept}
+use Rattle.protocol.specs.Calls.{at, seatsAfter, sends, takes, linksAfter, accept}
 use Rattle.protocol.specs.Sound.{numberBits, linkOk, messageOk, Sound}
 use Rattle.protocol.proofs.Calls.{at-same, at-other, at-all}
 use Rattle.protocol.proofs.SoundFacts.{Two, Linked, Proper, p-meet, p-probe, p-pull, linked-ok, proper-ok, link-linked, pending-proper}
@@ -23,16 +23,16 @@ use Rattle.protocol.proofs.SoundFacts.{pending-after}
 use Rattle.protocol.proofs.Accepted.{Joins, join-rows, Leaves, leave-rows}
 
 -- lot x of roster r is seated in r′, with the same number and vector
-pub record Kept (r r′ : Roster) (x : ℕ) : Type 0 where
+pub record Kept (r r′ : Seats) (x : ℕ) : Type 0 where
   pub there : T (seated r′ x)
   pub number : r′ .number x ≡ r .number x
   pub vector : r′ .vector x ≡ r .vector x
 
-lt-kept : {r r′ : Roster} {x y : ℕ} {d : Side} → Kept r r′ x → Kept r r′ y → Lt (r .number) d x y → Lt (r′ .number) d x y
+lt-kept : {r r′ : Seats} {x y : ℕ} {d : Side} → Kept r r′ x → Kept r r′ y → Lt (r .number) d x y → Lt (r′ .number) d x y
 lt-kept {x = x} {y = y} p q (toL l) = toL {x = x} {y = y} (rw (p .number, q .number) l)
 lt-kept {x = x} {y = y} p q (toR l) = toR {x = x} {y = y} (rw (p .number, q .number) l)
 
-module _ {W : ℕ} {r r′ : Roster} where
+module _ {W : ℕ} {r r′ : Seats} where
   two-kept : {k x y : ℕ} → Kept r r′ x → Kept r r′ y → Two W r k x y → Two W r′ k x y
   two-kept p q t = record { one = p .there; two = q .there; apart = t .apart; bits = rw (p .vector, q .vector) (t .bits) }
 
@@ -45,29 +45,29 @@ module _ {W : ℕ} {r r′ : Roster} where
   proper-kept f (p-pull s w) = p-pull (f _ s .there) w
 
 module _ {N W : ℕ} {M : Meaning} (h : Sound N W M) where
-  abbrev r : Roster
-  r = M .roster
+  abbrev r : Seats
+  r = M .seats
 
   -- every lot stays: in phase open, what is pending still fits
-  pending-kept : {r′ : Roster} → ((x : ℕ) → T (seated r x) → Kept r r′ x) → r .phase ≡ open-phase → r′ .phase ≡ open-phase
+  pending-kept : {r′ : Seats} → ((x : ℕ) → T (seated r x) → Kept r r′ x) → r .phase ≡ open-phase → r′ .phase ≡ open-phase
       → (m : Msg) → T (M .pending m) → T (messageOk W r′ m)
   pending-kept {r′} f e e′ m t = proper-ok W r′ e′ (proper-kept f (subst (λ (p : Phase). Proper W r p m) e (pending-proper h t)))
 
   -- every lot stays: so do the links
-  pub link-kept : {r′ : Roster} {x k y : ℕ} {d : Side} → ((z : ℕ) → T (seated (M .roster) z) → Kept (M .roster) r′ z) → M .link x k d ≡ some y
+  pub link-kept : {r′ : Seats} {x k y : ℕ} {d : Side} → ((z : ℕ) → T (seated (M .seats) z) → Kept (M .seats) r′ z) → M .link x k d ≡ some y
       → T (linkOk W r′ x k d y)
   link-kept {r′} f e = let l = link-linked h e in linked-ok W r′ (linked-kept (f _ (l .0 .one)) (f _ (l .0 .two)) l)
 
   -- no lot is new: seats and numbers are as good as before
-  pub seats-kept : {r′ : Roster} → ((z : ℕ) → T (seated r′ z) → Kept r′ (M .roster) z) → (x : ℕ) → T (seated r′ x) → x < N
+  pub seats-kept : {r′ : Seats} → ((z : ℕ) → T (seated r′ z) → Kept r′ (M .seats) z) → (x : ℕ) → T (seated r′ x) → x < N
   seats-kept f x t = h .seats x (f x t .there)
 
-  pub differ-kept : {r′ : Roster} → ((z : ℕ) → T (seated r′ z) → Kept r′ (M .roster) z)
+  pub differ-kept : {r′ : Seats} → ((z : ℕ) → T (seated r′ z) → Kept r′ (M .seats) z)
       → (x y : ℕ) → T (seated r′ x) → T (seated r′ y) → r′ .number x ≡ r′ .number y → x ≡ y
   differ-kept f x y t u e = let p = f x t in let q = f y u in h .differ x y (p .there) (q .there) (p .number ∙ e ∙ sym (q .number))
 
-  pub leave-sound : (s : ℕ) → refusal N W (M .roster) (M .pending) (leave s) ≡ 0 → Sound N W (accept N W M (leave s))
-  unfolding accept rosterAfter linksAfter sends takes
+  pub leave-sound : (s : ℕ) → refusal N W (M .seats) (M .pending) (leave s) ≡ 0 → Sound N W (accept N W M (leave s))
+  unfolding accept seatsAfter linksAfter sends takes
   leave-sound s e = record {
     seats = seats-kept old;
     numbers = h .numbers;
@@ -78,8 +78,8 @@ module _ {N W : ℕ} {M : Meaning} (h : Sound N W M) where
     messages = pending-after (λ m. T (messageOk W r′ m)) [] none (M .pending) pending (λ m q. absurd (List·Memᴰ·not-nil q));
   }
     where
-      r′ : Roster
-      r′ = rosterAfter N r (leave s)
+      r′ : Seats
+      r′ = seatsAfter N r (leave s)
 
       ok : Leaves N W r (M .pending) s
       ok = leave-rows N W r (M .pending) s e
@@ -100,9 +100,9 @@ module _ {N W : ℕ} {M : Meaning} (h : Sound N W M) where
       pending : (m : Msg) → T (M .pending m) → T (messageOk W r′ m)
       pending = pending-kept new (ok .opens) (ok .opens)
 
-  pub join-sound : (s n v c : ℕ) → n < 2 ^ numberBits → v < 2 ^ W → refusal N W (M .roster) (M .pending) (join s n v c) ≡ 0
+  pub join-sound : (s n v c : ℕ) → n < 2 ^ numberBits → v < 2 ^ W → refusal N W (M .seats) (M .pending) (join s n v c) ≡ 0
       → Sound N W (accept N W M (join s n v c))
-  unfolding accept rosterAfter linksAfter sends takes
+  unfolding accept seatsAfter linksAfter sends takes
   join-sound s n v c ln lv e = record {
     seats = λ x t. seat x (who x t);
     numbers = at-all s n (r .number) (λ a. a < 2 ^ numberBits) ln (h .numbers);
@@ -113,8 +113,8 @@ module _ {N W : ℕ} {M : Meaning} (h : Sound N W M) where
     messages = pending-after (λ m. T (messageOk W r′ m)) (cond (ltb c N) (meet c s 0 ∷ []) []) none (M .pending) pending (hello (ltb c N) refl);
   }
     where
-      r′ : Roster
-      r′ = rosterAfter N r (join s n v c)
+      r′ : Seats
+      r′ = seatsAfter N r (join s n v c)
 
       ok : Joins N W r (M .pending) s n c
       ok = join-rows N W r (M .pending) s n v c e

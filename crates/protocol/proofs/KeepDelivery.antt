@@ -11,14 +11,15 @@ use borrow.Author.Tests.{eqb-false, ltb-true}
 use Rattle.graph.specs.Side.{Side, opp, onSide, sideOf}
 use Rattle.graph.specs.Graph.{Links}
 use Rattle.graph.specs.Vector.{sameBit, bit, shared}
-use Rattle.graph.proofs.Tests.{true-T, some-inj, none-some}
-use Rattle.graph.proofs.Order.{Lt, lt-trans, lt-opp, lt-ne′}
+use Rattle.base.proofs.Tests.{true-T, some-inj, none-some}
+use Rattle.graph.specs.inner.Order.{Lt}
+use Rattle.graph.proofs.Order.{lt-trans, lt-opp, lt-ne′}
 use Rattle.protocol.specs.Message.{Msg, meet, probe, pull, Name, nameOf, named}
 use Rattle.protocol.specs.Rules.{Change, keep, set, Effect, effect, toLink, sending, setting, meeting, probing, pulling, parting, passing}
 use Rattle.protocol.specs.Rules.{seeking}
-use Rattle.protocol.specs.State.{Phase, open-phase, clearing, Roster, Meaning, isFree, stays, entry}
+use Rattle.protocol.specs.State.{Phase, open-phase, clearing, Seats, Meaning, isFree, stays, entry}
 use Rattle.protocol.specs.Table.{deliver, isPending, refusal}
-use Rattle.protocol.specs.Calls.{rosterAfter, rule, deliverySends, sends, takes, pendingAfter, applied, deliveryLinks, linksAfter, accept}
+use Rattle.protocol.specs.Calls.{seatsAfter, rule, deliverySends, sends, takes, pendingAfter, applied, deliveryLinks, linksAfter, accept}
 use Rattle.protocol.specs.Sound.{messageOk, Sound}
 use Rattle.protocol.proofs.Calls.{applied-frame, applied-at}
 use Rattle.protocol.proofs.Accepted.{deliver-row}
@@ -53,26 +54,26 @@ either P true f g = f refl
 either P false f g = g refl
 
 -- what a change at lot t may be
-pub data FitChange (W : ℕ) (r : Roster) (t : ℕ) : Change → Type 0 where
+pub data FitChange (W : ℕ) (r : Seats) (t : ℕ) : Change → Type 0 where
   f-keep : FitChange W r t keep
   f-none : {k : ℕ} {d : Side} → FitChange W r t (set k d none)
   f-some : {k y : ℕ} {d : Side} → Linked W r t k d y → FitChange W r t (set k d (some y))
 
-fit-linked : {W t k y : ℕ} {r : Roster} {d : Side} {o : Option ℕ} → FitChange W r t (set k d o) → o ≡ some y → Linked W r t k d y
+fit-linked : {W t k y : ℕ} {r : Seats} {d : Side} {o : Option ℕ} → FitChange W r t (set k d o) → o ≡ some y → Linked W r t k d y
 fit-linked f-none e = none-some refl e
 fit-linked {W} {t} {k} {r = r} {d} (f-some l) e = subst (Linked W r t k d) (some-inj e) l
 
 -- what the effect of a message to t may be in phase p
-pub record FitEffect (W : ℕ) (r : Roster) (p : Phase) (t : ℕ) (e : Effect) : Type 0 where
+pub record FitEffect (W : ℕ) (r : Seats) (p : Phase) (t : ℕ) (e : Effect) : Type 0 where
   pub changes : FitChange W r t (e .change)
   pub sends : All (Proper W r p) (e .sent)
 
-sends-only : {W : ℕ} {r : Roster} {p : Phase} {t : ℕ} {l : List Msg} → All (Proper W r p) l → FitEffect W r p t (sending l)
+sends-only : {W : ℕ} {r : Seats} {p : Phase} {t : ℕ} {l : List Msg} → All (Proper W r p) l → FitEffect W r p t (sending l)
 sends-only e = record { changes = f-keep; sends = e }
 
 module _ {N W : ℕ} {M : Meaning} (h : Sound N W M) where
-  abbrev r : Roster
-  r = M .roster
+  abbrev r : Seats
+  r = M .seats
 
   -- the link of t on the side away from a is not a
   beyond : {d : Side} {a t z k : ℕ} → Lt (r .number) d a t → M .link t k d ≡ some z → z ≢ a
@@ -136,7 +137,7 @@ module _ {N W : ℕ} {M : Meaning} (h : Sound N W M) where
       (λ u. all-more (p-found (two-sym two) s (true-T u)) all-none)
       (λ u. passing-fits (M .link t l d) refl (two-sym two, two-lt h (two-sym two)) s)
 
-  pub rule-fits : {p : Phase} {m : Msg} → Proper W (M .roster) p m → FitEffect W (M .roster) p (nameOf m .to) (rule W M m)
+  pub rule-fits : {p : Phase} {m : Msg} → Proper W (M .seats) p m → FitEffect W (M .seats) p (nameOf m .to) (rule W M m)
   unfolding rule effect
   rule-fits (p-meet two) = meeting-fits _ refl (two, two-lt h two)
   rule-fits (p-probe two w) = sends-only (probing-fits two w)
@@ -156,7 +157,7 @@ module _ {N W : ℕ} {M : Meaning} (h : Sound N W M) where
           subst (λ (z : ℕ). Linked W r z k d y) (sym e) (fit-linked (subst (FitChange W r t) g f) v)
 
   delivery-sound : (o : Option Msg) → T (isPending (M .pending) o)
-      → Sound N W (record { roster = r; link = deliveryLinks W M o; pending = pendingAfter (deliverySends W M o) o (M .pending) })
+      → Sound N W (record { seats = r; link = deliveryLinks W M o; pending = pendingAfter (deliverySends W M o) o (M .pending) })
   unfolding isPending deliveryLinks deliverySends
   delivery-sound none t = absurd t
   delivery-sound (some m) t = record {
@@ -185,6 +186,6 @@ module _ {N W : ℕ} {M : Meaning} (h : Sound N W M) where
       unlinked x k d f none e = refl
       unlinked x k d f (some y) e = absurd (T-not (isFree (r .state x)) (linked x k y d e .0 .one) f)
 
-  pub deliver-sound : (n : Name) → refusal N W (M .roster) (M .pending) (deliver n) ≡ 0 → Sound N W (accept N W M (deliver n))
-  unfolding accept rosterAfter linksAfter sends takes
+  pub deliver-sound : (n : Name) → refusal N W (M .seats) (M .pending) (deliver n) ≡ 0 → Sound N W (accept N W M (deliver n))
+  unfolding accept seatsAfter linksAfter sends takes
   deliver-sound n e = delivery-sound (named n) (deliver-row N W r (M .pending) n e)

@@ -4,7 +4,7 @@ use Prim.Native.Nat.{ℕ, zero, suc}
 use mathlib.Core.Path.{_≡_, refl}
 use mathlib.Core.Bool.{false}
 use lib.Pow.{pow-pos}
-use Rattle.graph.proofs.Tests.{false-T, none-some}
+use Rattle.base.proofs.Tests.{false-T, none-some}
 use Rattle.protocol.specs.Numbering.{somePending}
 use Rattle.protocol.specs.State.{Meaning, nobody, opened}
 use Rattle.protocol.specs.Table.{Call, join, leave, deliver, turn, refusal}
@@ -30,7 +30,7 @@ opened-sound N W = record {
   messages = λ m t. absurd t;
 }
 
-pub accept-sound : (N W : ℕ) (M : Meaning) → Sound N W M → (c : Call) → InRange N W c → refusal N W (M .roster) (M .pending) c ≡ 0
+pub accept-sound : (N W : ℕ) (M : Meaning) → Sound N W M → (c : Call) → InRange N W c → refusal N W (M .seats) (M .pending) c ≡ 0
     → Sound N W (accept N W M c)
 accept-sound N W M h (join s n v c) q e = join-sound h s n v c (q .0) (q .1) e
 accept-sound N W M h (leave s) q e = leave-sound h s e
@@ -38,12 +38,12 @@ accept-sound N W M h (deliver n) q e = deliver-sound h n e
 accept-sound N W M h turn q e = turn-sound h (λ m t. false-T (none-pending N W (M .pending) none-left m (pending-exists h m t)) t)
   where
     none-left : somePending N W (M .pending) ≡ false
-    none-left = turn-row N W (M .roster) (M .pending) e
+    none-left = turn-row N W (M .seats) (M .pending) e
 
 pub call-sound : (N W : ℕ) (M : Meaning) → Sound N W M → (c : Call) → InRange N W c → Sound N W (call N W M c .meaning)
 unfolding call unlessRefused
-call-sound N W M h c q = by (refusal N W (M .roster) (M .pending) c) refl
+call-sound N W M h c q = by (refusal N W (M .seats) (M .pending) c) refl
   where
-    by : (n : ℕ) → refusal N W (M .roster) (M .pending) c ≡ n → Sound N W (unlessRefused n M (accept N W M c))
+    by : (n : ℕ) → refusal N W (M .seats) (M .pending) c ≡ n → Sound N W (unlessRefused n M (accept N W M c))
     by zero e = accept-sound N W M h c q e
     by (suc n) e = h

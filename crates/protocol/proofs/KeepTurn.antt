@@ -9,22 +9,22 @@ use lib.Dec.{T}
 use lib.Pow.{pow-pos}
 use Rattle.graph.specs.Side.{Side, left, right, opp}
 use Rattle.graph.specs.Graph.{Links}
-use Rattle.graph.proofs.Tests.{T-true, true-T, true-false, none-some, some-inj}
+use Rattle.base.proofs.Tests.{T-true, true-T, true-false, none-some, some-inj}
 use Rattle.protocol.specs.Message.{Msg, going}
-use Rattle.protocol.specs.Numbering.{any}
+use Rattle.base.specs.Loops.{any}
 use Rattle.protocol.specs.Rules.{SeatState, free, staying, leaving}
-use Rattle.protocol.specs.State.{Phase, open-phase, clearing, Roster, Meaning, isFree, isLeaving, seated, leaves}
+use Rattle.protocol.specs.State.{Phase, open-phase, clearing, Seats, Meaning, isFree, isLeaving, seated, leaves}
 use Rattle.protocol.specs.Table.{turn}
-use Rattle.protocol.specs.Calls.{freed, afterTurn, rosterAfter, each, farewell, farewells, turnSends, sends, takes, pendingAfter, unlinked}
+use Rattle.protocol.specs.Calls.{freed, afterTurn, seatsAfter, each, farewell, farewells, turnSends, sends, takes, pendingAfter, unlinked}
 use Rattle.protocol.specs.Calls.{turnLinks, linksAfter, accept}
 use Rattle.protocol.specs.Sound.{numberBits, messageOk, Sound}
-use Rattle.protocol.proofs.Any.{any-in}
+use Rattle.base.proofs.Any.{any-in}
 use Rattle.protocol.proofs.Calls.{link-out, each-out}
 use Rattle.protocol.proofs.SoundFacts.{Linked, p-going, linked-ok, proper-ok, two-level, link-linked, pending-after}
 use Rattle.protocol.proofs.KeepCalls.{Kept, linked-kept, link-kept, seats-kept, differ-kept}
 
 -- a GOING of a turn: a leaver's, to its link
-pub record Farewell (N : ℕ) (r : Roster) (L : Links) (m : Msg) : Type 0 where
+pub record Farewell (N : ℕ) (r : Seats) (L : Links) (m : Msg) : Type 0 where
   pub leaver : ℕ
   pub level : ℕ
   pub side : Side
@@ -34,7 +34,7 @@ pub record Farewell (N : ℕ) (r : Roster) (L : Links) (m : Msg) : Type 0 where
   pub link : L leaver level side ≡ some told
   pub says : m ≡ going told level (opp side)
 
-pub farewell-out : (N W : ℕ) (r : Roster) (L : Links) {m : Msg} → List·Memᴰ m (farewells N W r L) → Farewell N r L m
+pub farewell-out : (N W : ℕ) (r : Seats) (L : Links) {m : Msg} → List·Memᴰ m (farewells N W r L) → Farewell N r L m
 unfolding farewells farewell
 farewell-out N W r L {m} h = let (y, l, q) = each-out N _ h in by y l (leaves r y) refl q
   where
@@ -72,11 +72,11 @@ freed-free staying e t = t
 freed-free leaving e t = true-false refl e
 
 -- a link after it
-unlinked-none : (r : Roster) {o : Option ℕ} → o ≡ none → unlinked r o ≡ none
+unlinked-none : (r : Seats) {o : Option ℕ} → o ≡ none → unlinked r o ≡ none
 unfolding unlinked
 unlinked-none r e = rw e
 
-pub unlinked-some : (r : Roster) (o : Option ℕ) (y : ℕ) → unlinked r o ≡ some y → (o ≡ some y) × (leaves r y ≡ false)
+pub unlinked-some : (r : Seats) (o : Option ℕ) (y : ℕ) → unlinked r o ≡ some y → (o ≡ some y) × (leaves r y ≡ false)
 unfolding unlinked
 unlinked-some r none y e = none-some refl e
 unlinked-some r (some z) y e = by (leaves r z) refl e
@@ -90,11 +90,11 @@ zero-or true n m p q = p
 zero-or false n m p q = q
 
 module _ {N W : ℕ} {M : Meaning} (h : Sound N W M) (still : (m : Msg) → T (M .pending m) → ⊥) where
-  abbrev r : Roster
-  r = M .roster
+  abbrev r : Seats
+  r = M .seats
 
   abbrev turned : Phase → Meaning
-  turned p = record { roster = afterTurn N p r; link = turnLinks p r (M .link); pending = pendingAfter (turnSends N W p M) none (M .pending) }
+  turned p = record { seats = afterTurn N p r; link = turnLinks p r (M .link); pending = pendingAfter (turnSends N W p M) none (M .pending) }
 
   turn-open : Sound N W (turned open-phase)
   unfolding afterTurn turnLinks turnSends
@@ -108,7 +108,7 @@ module _ {N W : ℕ} {M : Meaning} (h : Sound N W M) (still : (m : Msg) → T (M
     messages = pending-after (λ m. T (messageOk W r′ m)) (farewells N W r (M .link)) none (M .pending) (λ m t. absurd (still m t)) bids;
   }
     where
-      r′ : Roster
+      r′ : Seats
       r′ = afterTurn N open-phase r
 
       bids : (m : Msg) → List·Memᴰ m (farewells N W r (M .link)) → T (messageOk W r′ m)
@@ -131,7 +131,7 @@ module _ {N W : ℕ} {M : Meaning} (h : Sound N W M) (still : (m : Msg) → T (M
     messages = pending-after (λ m. T (messageOk W r′ m)) [] none (M .pending) (λ m t. absurd (still m t)) (λ m q. absurd (List·Memᴰ·not-nil q));
   }
     where
-      r′ : Roster
+      r′ : Seats
       r′ = afterTurn N clearing r
 
       new : (x : ℕ) → T (seated r x) → leaves r x ≡ false → Kept r r′ x
@@ -153,7 +153,7 @@ module _ {N W : ℕ} {M : Meaning} (h : Sound N W M) (still : (m : Msg) → T (M
           linked-kept (new x (l .0 .one) e) (new y (l .0 .two) g) l
 
   pub turn-sound : Sound N W (accept N W M turn)
-  unfolding accept rosterAfter linksAfter sends takes
+  unfolding accept seatsAfter linksAfter sends takes
   turn-sound = by (r .phase)
     where
       by : (p : Phase) → Sound N W (turned p)

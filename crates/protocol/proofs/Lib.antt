@@ -1,7 +1,6 @@
 -- Why the protocol is right.
 pub mod Examples
 pub mod Message
-pub mod Any
 pub mod Calls
 pub mod World
 pub mod Delivery
@@ -10,7 +9,7 @@ pub mod Back
 pub mod Conn
 pub mod Segment
 pub mod SegmentKept
-pub mod Settled
+pub mod Exact
 pub mod Invariant
 pub mod Join
 pub mod OpenEffect

@@ -12,7 +12,7 @@ use Rattle.protocol.specs.Message.{Msg, meet, probe, pull, going, seek, 
 use Rattle.protocol.specs.Rules.{Entry, Change, keep, set, Effect, setting, meeting, probing, pulling, parting, passing, seeking, effect}
 use Rattle.protocol.specs.State.{Meaning, entry}
 use Rattle.protocol.specs.Table.{deliver}
-use Rattle.protocol.specs.Calls.{rosterAfter, rule, deliverySends, sends, takes, isTaken, pendingAfter, sameSide, applied, deliveryLinks}
+use Rattle.protocol.specs.Calls.{seatsAfter, rule, deliverySends, sends, takes, isTaken, pendingAfter, sameSide, applied, deliveryLinks}
 use Rattle.protocol.specs.Calls.{linksAfter, accept}
 use Rattle.protocol.specs.Local.{Names, by-link, by-meet, by-probe, by-seek, by-found, Agree}
 use Rattle.protocol.proofs.Message.{named-name}
@@ -41,8 +41,8 @@ module _ (W : ℕ) (num num′ vec vec′ : ℕ → ℕ) (e : Entry) where
 pub delivery-local : (W : ℕ) (M M′ : Meaning) (m : Msg) → Agree M M′ m → rule W M m ≡ rule W M′ m
 unfolding rule
 delivery-local W M M′ m g =
-    let r = M .roster in
-    let r′ = M′ .roster in
+    let r = M .seats in
+    let r′ = M′ .seats in
     effect-local W (r .number) (r′ .number) (r .vector) (r′ .vector) (entry M (nameOf m .to)) m (g .numbers) (g .vectors)
     ∙ ap (λ (e : Entry). effect W (r′ .number) (r′ .vector) e m) (g .entries)
 
@@ -67,18 +67,18 @@ module _ (N W : ℕ) (M : Meaning) (m : Msg) where
 
   -- no other entry changes
   pub one-entry : (x : ℕ) → x ≢ nameOf m .to → entry (accept N W M (deliver (nameOf m))) x ≡ entry M x
-  unfolding accept rosterAfter
+  unfolding accept seatsAfter
   one-entry x ne = λ i. record {
-    state = M .roster .state x;
-    number = M .roster .number x;
-    vector = M .roster .vector x;
+    state = M .seats .state x;
+    number = M .seats .number x;
+    vector = M .seats .vector x;
     link = λ k d. (links-exactly x k d ∙ applied-other (nameOf m .to) (rule W M m .change) (M .link) x k d ne) i;
   }
 
 -- the same entry of `to` is left
 pub entry-local : (N W : ℕ) (M M′ : Meaning) (m : Msg) → Agree M M′ m
     → entry (accept N W M (deliver (nameOf m))) (nameOf m .to) ≡ entry (accept N W M′ (deliver (nameOf m))) (nameOf m .to)
-unfolding accept rosterAfter
+unfolding accept seatsAfter
 entry-local N W M M′ m g = λ i. record {
   state = g .entries i .state;
   number = g .entries i .number;

@@ -6,11 +6,11 @@ use mathlib.Core.Bool.{Bool}
 use native.Mathlib.Omega.{arith}
 use Rattle.graph.specs.Side.{Side, left, right, sideOf}
 use Rattle.graph.specs.Graph.{Links}
-use Rattle.graph.proofs.Order.{Lt, toL, toR}
+use Rattle.graph.specs.inner.Order.{Lt, toL, toR}
 use Rattle.protocol.specs.Message.{Msg, meet, probe, pull, going, seek, found, none-found}
 use Rattle.protocol.specs.Sound.{numberBits}
 use Rattle.protocol.specs.State.{Phase, open-phase, clearing, Meaning}
-use Rattle.protocol.proofs.Settled.{dist}
+use Rattle.protocol.proofs.Exact.{dist}
 use Rattle.protocol.proofs.Sum.{sum, mass}
 
 abbrev pub numbers : ℕ
@@ -42,11 +42,11 @@ module _ (num : ℕ → ℕ) where
 
 -- the bound: in phase open a link that gets nearer pays for the messages it sends
 unfoldable pub weight : (N W : ℕ) → Phase → Meaning → ℕ
-weight N W open-phase M = 8 * numbers * reaches (M .roster .number) N W (M .link) + mass N W (rank (M .roster .number)) (M .pending)
-weight N W clearing M = mass N W (rank (M .roster .number)) (M .pending)
+weight N W open-phase M = 8 * numbers * reaches (M .seats .number) N W (M .link) + mass N W (rank (M .seats .number)) (M .pending)
+weight N W clearing M = mass N W (rank (M .seats .number)) (M .pending)
 
 unfoldable pub bound : (N W : ℕ) → Meaning → ℕ
-bound N W M = weight N W (M .roster .phase) M
+bound N W M = weight N W (M .seats .phase) M
 
 module _ (num : ℕ → ℕ) (small : (x : ℕ) → num x < numbers) where
   pub room-most : (d : Side) (x : ℕ) → room num d x < numbers

@@ -6,8 +6,9 @@ use mathlib.Core.Logic.{_⊎_, inl, inr, _≢_}
 use mathlib.Core.Option.{Option, none, some}
 use mathlib.Core.Bool.{Bool, not}
 use Rattle.graph.specs.Side.{Side, opp}
-use Rattle.graph.proofs.Order.{Lt, lt-trans, lt-ne, lt-ne′, lt-eq, lt-asym}
-use Rattle.graph.proofs.Tests.{none-some}
+use Rattle.graph.specs.inner.Order.{Lt}
+use Rattle.graph.proofs.Order.{lt-trans, lt-ne, lt-ne′, lt-eq, lt-asym}
+use Rattle.base.proofs.Tests.{none-some}
 use Rattle.protocol.specs.Message.{Msg, meet, probe, pull, nameOf}
 use Rattle.protocol.proofs.World.{World, State, share, bitOf, Pair, pair-sym, pair-trans}
 use Rattle.protocol.proofs.Delivery.{Delivery, link-cases}

@@ -11,9 +11,10 @@ use lib.Dec.{T, eqb, ltb, ltb→lt, lt→ltb}
 use borrow.Author.Tests.{eq-eqb, eqb-true, ltb-true, lt-ltb}
 use Rattle.graph.specs.Side.{Side, opp, onSide, sideOf}
 use Rattle.graph.specs.Vector.{sameBit}
-use Rattle.graph.proofs.Order.{Lt, lt-opp, lt-ne, lt-ne′, lt-eq, lt-asym, lt-side, on-lt, lt-on, side-of}
+use Rattle.graph.specs.inner.Order.{Lt}
+use Rattle.graph.proofs.Order.{lt-opp, lt-ne, lt-ne′, lt-eq, lt-asym, lt-side, on-lt, lt-on, side-of}
 use Rattle.graph.proofs.Shared.{same-eq, eq-same}
-use Rattle.graph.proofs.Tests.{true-T, false-T, true-false, none-some}
+use Rattle.base.proofs.Tests.{true-T, false-T, true-false, none-some}
 use Rattle.protocol.specs.Message.{Msg, meet, probe, pull, nameOf}
 use Rattle.protocol.specs.Rules.{SeatState, Entry, Change, keep, set, Effect, toLink, sending, setting, meeting, probing, pulling, effect}
 use Rattle.protocol.proofs.Calls.{link-in, link-out}

@@ -6,7 +6,7 @@ use mathlib.Core.Bool.{Bool, false}
 use native.Mathlib.Omega.{arith}
 use native.Mathlib.Decide.{decLt, le-ind}
 use lib.Dec.{T}
-use Rattle.graph.proofs.Tests.{false-T}
+use Rattle.base.proofs.Tests.{false-T}
 use Rattle.protocol.specs.Message.{Msg, meet, probe, pull, going, seek, found, none-found, Name, name, nameOf}
 use Rattle.protocol.specs.Numbering.{exists, count, place, messageAt}
 use Rattle.protocol.proofs.Message.{same-name}

@@ -11,12 +11,12 @@ use lib.Dec.{T, eqb, ltb}
 use borrow.Author.Tests.{eq-eqb, ne-eqb, lt-ltb, le-ltb}
 use Rattle.graph.specs.Side.{Side}
 use Rattle.graph.specs.Graph.{Links}
-use Rattle.graph.proofs.Tests.{false-T, true-false}
+use Rattle.base.proofs.Tests.{false-T, true-false}
 use Rattle.protocol.specs.Message.{Msg, meet, nameOf, among}
 use Rattle.protocol.specs.Rules.{SeatState, staying, leaving}
-use Rattle.protocol.specs.State.{open-phase, Roster, Meaning, isFree, seated}
+use Rattle.protocol.specs.State.{open-phase, Seats, Meaning, isFree, seated}
 use Rattle.protocol.specs.Table.{join, leave}
-use Rattle.protocol.specs.Calls.{at, rosterAfter, sends, takes, isTaken, pendingAfter, linksAfter, accept}
+use Rattle.protocol.specs.Calls.{at, seatsAfter, sends, takes, isTaken, pendingAfter, linksAfter, accept}
 use Rattle.protocol.specs.Sound.{numberBits, Sound}
 use Rattle.protocol.proofs.Message.{among-mem, mem-among}
 use Rattle.protocol.proofs.Calls.{at-same, at-other, after-came, after-kept, after-only}
@@ -50,18 +50,18 @@ module _ (sent : List Msg) (p : Msg → Bool) where
   after-sent m i = after-came sent none p m (mem-among sent i)
 
 -- join
-module _ {N W : ℕ} {M : Meaning} (h : Sound N W M) (s n v c : ℕ) (ok : Joins N W (M .roster) (M .pending) s n c) where
-  abbrev r : Roster
-  r = M .roster
+module _ {N W : ℕ} {M : Meaning} (h : Sound N W M) (s n v c : ℕ) (ok : Joins N W (M .seats) (M .pending) s n c) where
+  abbrev r : Seats
+  r = M .seats
 
-  abbrev r′ : Roster
-  r′ = rosterAfter N (M .roster) (join s n v c)
+  abbrev r′ : Seats
+  r′ = seatsAfter N (M .seats) (join s n v c)
 
   other : (x : ℕ) → T (seated r x) → x ≢ s
   other x t q = false-T (ok .empty) (subst (λ (y : ℕ). T (seated r y)) q t)
 
   still : (x : ℕ) → x ≢ s → seated r′ x ≡ seated r x
-  unfolding rosterAfter
+  unfolding seatsAfter
   still x q = ap (λ (a : SeatState). not (isFree a)) (at-other s staying (r .state) x q)
 
   who : (x : ℕ) → T (seated r′ x) → T (seated r x) ⊎ (x ≡ s)
@@ -84,7 +84,7 @@ module _ {N W : ℕ} {M : Meaning} (h : Sound N W M) (s n v c : ℕ) (ok : Joins
       by (no q) = rw (ne-eqb x s q)
 
   grows : (l : Laws r) (l′ : Laws r′) → Grows (worldOf W r l) (worldOf W r′ l′) s c
-  unfolding rosterAfter
+  unfolding seatsAfter
   grows l l′ = record {
     same-W = refl;
     fresh = λ t. false-T (ok .empty) t;
@@ -151,8 +151,8 @@ module _ {N W : ℕ} {M : Meaning} (h : Sound N W M) (s n v c : ℕ) (ok : Joins
               none-in (inr u) = List·Memᴰ·not-nil u
 
 -- leave: who is seated stays the same, and so do the pending messages
-seated-leave : (N : ℕ) (r : Roster) (s : ℕ) → isFree (r .state s) ≡ false → seated (rosterAfter N r (leave s)) ≡ seated r
-unfolding rosterAfter
+seated-leave : (N : ℕ) (r : Seats) (s : ℕ) → isFree (r .state s) ≡ false → seated (seatsAfter N r (leave s)) ≡ seated r
+unfolding seatsAfter
 seated-leave N r s f = fun-ext (λ x. by x (ℕ-discrete x s))
   where
     by : (x : ℕ) → Dec (x ≡ s) → not (isFree (at s leaving (r .state) x)) ≡ not (isFree (r .state x))
@@ -180,10 +180,10 @@ module _ (W : ℕ) (num vec : ℕ → ℕ) (L : Links) (small : (x : ℕ) → nu
   same-holds : {f g : ℕ → Bool} {p q : Msg → Bool} → f ≡ g → p ≡ q → Holds f p → Holds g q
   same-holds e e′ h = subst₂ Holds e e′ h
 
-module _ {N W : ℕ} (M : Meaning) (s : ℕ) (ok : Leaves N W (M .roster) (M .pending) s) where
+module _ {N W : ℕ} (M : Meaning) (s : ℕ) (ok : Leaves N W (M .seats) (M .pending) s) where
   pub sane-leave : Sane W M open-phase → Sane W (accept N W M (leave s)) open-phase
-  unfolding accept linksAfter sends takes rosterAfter
+  unfolding accept linksAfter sends takes seatsAfter
   sane-leave (in-open i) =
-      in-open (λ l. same-holds W (M .roster .number) (M .roster .vector) (M .link) (l .small) (sym (seated-leave N (M .roster) s (ok .occupied)))
+      in-open (λ l. same-holds W (M .seats .number) (M .seats .vector) (M .link) (l .small) (sym (seated-leave N (M .seats) s (ok .occupied)))
       (sym (after-none (M .pending)))
       (λ a. i (record { small = l .small; differ = a })) (l .differ))

@@ -10,20 +10,20 @@ use lib.Dec.{T}
 use Rattle.graph.specs.Side.{Side, left, right, opp}
 use Rattle.graph.specs.Graph.{Links}
 use Rattle.graph.proofs.Order.{opp-opp}
-use Rattle.graph.proofs.Tests.{dec-T, T-true, not-T-false, false-T, true-false, none-some}
+use Rattle.base.proofs.Tests.{dec-T, T-true, not-T-false, false-T, true-false, none-some}
 use Rattle.protocol.specs.Message.{Msg, going}
-use Rattle.protocol.specs.Numbering.{any}
+use Rattle.base.specs.Loops.{any}
 use Rattle.protocol.specs.Rules.{SeatState, free, staying, leaving, isStaying}
-use Rattle.protocol.specs.State.{Phase, open-phase, clearing, Roster, Meaning, isFree, isLeaving, seated, stays, leaves}
+use Rattle.protocol.specs.State.{Phase, open-phase, clearing, Seats, Meaning, isFree, isLeaving, seated, stays, leaves}
 use Rattle.protocol.specs.Table.{turn}
-use Rattle.protocol.specs.Calls.{freed, afterTurn, rosterAfter, each, farewell, farewells, turnSends, sends, takes, pendingAfter, unlinked}
+use Rattle.protocol.specs.Calls.{freed, afterTurn, seatsAfter, each, farewell, farewells, turnSends, sends, takes, pendingAfter, unlinked}
 use Rattle.protocol.specs.Calls.{turnLinks, linksAfter, accept}
 use Rattle.protocol.specs.Sound.{Sound}
-use Rattle.protocol.proofs.Any.{any-none}
+use Rattle.base.proofs.Any.{any-none}
 use Rattle.protocol.proofs.Calls.{link-in, each-in}
 use Rattle.protocol.proofs.World.{World, Quiet}
 use Rattle.protocol.proofs.Delivery.{stateOf}
-use Rattle.protocol.proofs.Settled.{Exact}
+use Rattle.protocol.proofs.Exact.{Exact}
 use Rattle.protocol.proofs.Invariant.{invariant-quiet}
 use Rattle.protocol.proofs.Clearing.{Target, nobody, nearest, clearing-quiet}
 use Rattle.protocol.proofs.Turn.{exact-links, clearing-start, Shrinks, clearing-end}
@@ -35,7 +35,7 @@ use Rattle.protocol.proofs.ReachedCalls.{after-only-sent, after-sent, a
 -- the meaning after a turn in phase p
 abbrev pub turned : (N W : ℕ) → Meaning → Phase → Meaning
 turned N W M p =
-    record { roster = afterTurn N p (M .roster); link = turnLinks p (M .roster) (M .link); pending = pendingAfter (turnSends N W p M) none (M .pending) }
+    record { seats = afterTurn N p (M .seats); link = turnLinks p (M .seats) (M .link); pending = pendingAfter (turnSends N W p M) none (M .pending) }
 
 -- no leavers: nobody sends
 each-nothing : (n : ℕ) (f : ℕ → List Msg) → ((i : ℕ) → i < n → f i ≡ []) → each n f ≡ []
@@ -43,7 +43,7 @@ unfolding each
 each-nothing zero f h = refl
 each-nothing (suc n) f h = rw (each-nothing n f (λ i l. h i (omega arith)), h n (omega arith))
 
-farewells-none : (N W : ℕ) (r : Roster) (L : Links) → any N (leaves r) ≡ false → farewells N W r L ≡ []
+farewells-none : (N W : ℕ) (r : Seats) (L : Links) → any N (leaves r) ≡ false → farewells N W r L ≡ []
 unfolding farewells
 farewells-none N W r L e =
     each-nothing N (λ y. cond (leaves r y) (each (suc W) (λ k. farewell L y k left ++ farewell L y k right)) [])
@@ -54,21 +54,21 @@ farewells-none N W r L e =
     by false f y = refl
 
 -- and nothing changes
-pub turn-idle : (N W : ℕ) (M : Meaning) → M .roster .phase ≡ open-phase → any N (leaves (M .roster)) ≡ false → turned N W M open-phase ≡ M
+pub turn-idle : (N W : ℕ) (M : Meaning) → M .seats .phase ≡ open-phase → any N (leaves (M .seats)) ≡ false → turned N W M open-phase ≡ M
 unfolding afterTurn turnLinks turnSends
 turn-idle N W M p e = λ i. record {
-  roster =
+  seats =
       record {
         phase = (ap (λ (b : Bool). cond b clearing open-phase) e ∙ sym p) i;
-        state = M .roster .state;
-        number = M .roster .number;
-        vector = M .roster .vector;
+        state = M .seats .state;
+        number = M .seats .number;
+        vector = M .seats .vector;
       };
   link = M .link;
-  pending = (ap (λ (l : List Msg). pendingAfter l none (M .pending)) (farewells-none N W (M .roster) (M .link) e) ∙ after-none (M .pending)) i;
+  pending = (ap (λ (l : List Msg). pendingAfter l none (M .pending)) (farewells-none N W (M .seats) (M .link) e) ∙ after-none (M .pending)) i;
 }
 
-seated-leaves : (r : Roster) (x : ℕ) → T (seated r x) → ¬ (T (stays r x)) → T (leaves r x)
+seated-leaves : (r : Seats) (x : ℕ) → T (seated r x) → ¬ (T (stays r x)) → T (leaves r x)
 seated-leaves r x t n = by (r .state x) t n
   where
     by : (s : SeatState) → T (not (isFree s)) → ¬ (T (isStaying s)) → T (isLeaving s)
@@ -76,7 +76,7 @@ seated-leaves r x t n = by (r .state x) t n
     by staying t n = absurd (n tt)
     by leaving t n = tt
 
-leaves-off : (r : Roster) (x : ℕ) → T (stays r x) → leaves r x ≡ false
+leaves-off : (r : Seats) (x : ℕ) → T (stays r x) → leaves r x ≡ false
 leaves-off r x t = by (r .state x) t
   where
     by : (s : SeatState) → T (isStaying s) → isLeaving s ≡ false
@@ -85,7 +85,7 @@ leaves-off r x t = by (r .state x) t
     by leaving t = absurd t
 
 -- every leaver sends GOING to each of its links
-farewell-in : (N W : ℕ) (r : Roster) (L : Links) (y k x : ℕ) (d : Side) → y < N → k ≤ W → T (leaves r y) → L y k d ≡ some x
+farewell-in : (N W : ℕ) (r : Seats) (L : Links) (y k x : ℕ) (d : Side) → y < N → k ≤ W → T (leaves r y) → L y k d ≡ some x
     → List·Memᴰ (going x k (opp d)) (farewells N W r L)
 unfolding farewells farewell
 farewell-in N W r L y k x d ly lk t e =
@@ -103,107 +103,107 @@ module _ {N W : ℕ} {M : Meaning} (h : Sound N W M) (q : Quiet (stateOf M)) whe
   sane-shut : Sane W M open-phase → Sane W (turned N W M open-phase) clearing
   unfolding afterTurn turnLinks turnSends
   sane-shut (in-open i) =
-      in-clearing (M .link) (λ l. exact-links (Stayer (M .roster)) (exact l))
-      (λ l. clearing-start (Stayer (M .roster)) (exact l) (λ z. dec-T (stays (M .roster) z)) (λ x k d. refl) only told)
+      in-clearing (M .link) (λ l. exact-links (Stayer (M .seats)) (exact l))
+      (λ l. clearing-start (Stayer (M .seats)) (exact l) (λ z. dec-T (stays (M .seats) z)) (λ x k d. refl) only told)
     where
       sent : List Msg
-      sent = farewells N W (M .roster) (M .link)
+      sent = farewells N W (M .seats) (M .link)
 
-      exact : (l : Laws (afterTurn N open-phase (M .roster))) (k : ℕ) → Exact (worldOf W (afterTurn N open-phase (M .roster)) l) (stateOf M) k
+      exact : (l : Laws (afterTurn N open-phase (M .seats))) (k : ℕ) → Exact (worldOf W (afterTurn N open-phase (M .seats)) l) (stateOf M) k
       exact l k = invariant-quiet (i (record { small = l .small; differ = l .differ })) q k
 
       only : (m : Msg) → T (pendingAfter sent none (M .pending) m)
-          → (x : ℕ) × (k : ℕ) × (d : Side) × (m ≡ going x k d) × T (seated (M .roster) x) × (k ≤ W)
+          → (x : ℕ) × (k : ℕ) × (d : Side) × (m ≡ going x k d) × T (seated (M .seats) x) × (k ≤ W)
       only m t = by (after-only-sent sent (M .pending) m t)
         where
-          by : T (M .pending m) ⊎ List·Memᴰ m sent → (x : ℕ) × (k : ℕ) × (d : Side) × (m ≡ going x k d) × T (seated (M .roster) x) × (k ≤ W)
+          by : T (M .pending m) ⊎ List·Memᴰ m sent → (x : ℕ) × (k : ℕ) × (d : Side) × (m ≡ going x k d) × T (seated (M .seats) x) × (k ≤ W)
           by (inl u) = absurd (q m u)
           by (inr u) =
-              let f = farewell-out N W (M .roster) (M .link) u in
+              let f = farewell-out N W (M .seats) (M .link) u in
               let p = link-linked h (f .link) .0 in
               (f .told, f .level, opp (f .side), f .says, p .two, two-level p)
 
-      told : (y k x : ℕ) (d : Side) → ¬ (T (stays (M .roster) y)) → M .link y k (opp d) ≡ some x
+      told : (y k x : ℕ) (d : Side) → ¬ (T (stays (M .seats) y)) → M .link y k (opp d) ≡ some x
           → T (pendingAfter sent none (M .pending) (going x k d))
       told y k x d ns e =
           let p = link-linked h e .0 in
-          let m = farewell-in N W (M .roster) (M .link) y k x (opp d) (h .seats y (p .one)) (two-level p) (seated-leaves (M .roster) y (p .one) ns) e in
+          let m = farewell-in N W (M .seats) (M .link) y k x (opp d) (h .seats y (p .one)) (two-level p) (seated-leaves (M .seats) y (p .one) ns) e in
           after-sent sent (M .pending) (going x k d) (subst (λ (c : Side). List·Memᴰ (going x k c) sent) (opp-opp d) m)
 
   -- out of clearing
-  abbrev r′ : Roster
-  r′ = afterTurn N clearing (M .roster)
+  abbrev r′ : Seats
+  r′ = afterTurn N clearing (M .seats)
 
-  freed-stays : (x : ℕ) → T (seated r′ x) → T (stays (M .roster) x)
+  freed-stays : (x : ℕ) → T (seated r′ x) → T (stays (M .seats) x)
   unfolding afterTurn freed
-  freed-stays x t = by (M .roster .state x) t
+  freed-stays x t = by (M .seats .state x) t
     where
       by : (s : SeatState) → T (not (isFree (freed s))) → T (isStaying s)
       by free t = t
       by staying t = t
       by leaving t = t
 
-  stays-freed : (x : ℕ) → T (stays (M .roster) x) → T (seated r′ x)
+  stays-freed : (x : ℕ) → T (stays (M .seats) x) → T (seated r′ x)
   unfolding afterTurn freed
-  stays-freed x t = by (M .roster .state x) t
+  stays-freed x t = by (M .seats .state x) t
     where
       by : (s : SeatState) → T (isStaying s) → T (not (isFree (freed s)))
       by free t = t
       by staying t = t
       by leaving t = t
 
-  shrinks : (l : Laws (M .roster)) (l′ : Laws r′) → Shrinks (worldOf W (M .roster) l) (Stayer (M .roster)) (worldOf W r′ l′)
+  shrinks : (l : Laws (M .seats)) (l′ : Laws r′) → Shrinks (worldOf W (M .seats) l) (Stayer (M .seats)) (worldOf W r′ l′)
   unfolding afterTurn
   shrinks l l′ = record {
-    old = λ x t. let s = freed-stays x t in (stays-seated (M .roster) x s, s);
+    old = λ x t. let s = freed-stays x t in (stays-seated (M .seats) x s, s);
     new = λ x t s. stays-freed x s;
-    same-num = λ x s. rw (leaves-off (M .roster) x s);
-    same-share = λ x y s t. rw (leaves-off (M .roster) x s, leaves-off (M .roster) y t);
+    same-num = λ x s. rw (leaves-off (M .seats) x s);
+    same-share = λ x y s t. rw (leaves-off (M .seats) x s, leaves-off (M .seats) y t);
     same-comp = λ x s. refl;
   }
 
   -- a target is no leaver
-  unlinked-target : {G : World} {k x : ℕ} {d : Side} {o : Option ℕ} → Target G (Stayer (M .roster)) k x d o → unlinked (M .roster) o ≡ o
+  unlinked-target : {G : World} {k x : ℕ} {d : Side} {o : Option ℕ} → Target G (Stayer (M .seats)) k x d o → unlinked (M .seats) o ≡ o
   unfolding unlinked
   unlinked-target (nobody f) = refl
-  unlinked-target (nearest {y = y} p s l f) = rw (leaves-off (M .roster) y s)
+  unlinked-target (nearest {y = y} p s l f) = rw (leaves-off (M .seats) y s)
 
   sane-end : Sane W M clearing → Sane W (turned N W M clearing) open-phase
   unfolding turnLinks turnSends
   sane-end (in-clearing L a c) =
       in-open (λ l′. clearing-end (shrinks l l′) (stateOf (turned N W M clearing)) (stateOf M) (clearing-quiet (c l) q) keep drop still)
     where
-      l : Laws (M .roster)
+      l : Laws (M .seats)
       l = sound-laws h
 
       still : (m : Msg) → T (pendingAfter [] none (M .pending) m) → ⊥
       still m t = q m (subst (λ (p : Msg → Bool). T (p m)) (after-none (M .pending)) t)
 
-      keep : (x k : ℕ) (d : Side) → T (seated (M .roster) x) → T (stays (M .roster) x)
-          → cond (leaves (M .roster) x) none (unlinked (M .roster) (M .link x k d)) ≡ M .link x k d
-      keep x k d sx st = rw (leaves-off (M .roster) x st) (unlinked-target (clearing-quiet (c l) q x k d sx st))
+      keep : (x k : ℕ) (d : Side) → T (seated (M .seats) x) → T (stays (M .seats) x)
+          → cond (leaves (M .seats) x) none (unlinked (M .seats) (M .link x k d)) ≡ M .link x k d
+      keep x k d sx st = rw (leaves-off (M .seats) x st) (unlinked-target (clearing-quiet (c l) q x k d sx st))
 
-      got : (x k : ℕ) (d : Side) (y : ℕ) (b : Bool) → leaves (M .roster) x ≡ b → Dec (T (stays (M .roster) x))
-          → cond b none (unlinked (M .roster) (M .link x k d)) ≡ some y → T (seated (M .roster) x) × T (stays (M .roster) x)
+      got : (x k : ℕ) (d : Side) (y : ℕ) (b : Bool) → leaves (M .seats) x ≡ b → Dec (T (stays (M .seats) x))
+          → cond b none (unlinked (M .seats) (M .link x k d)) ≡ some y → T (seated (M .seats) x) × T (stays (M .seats) x)
       got x k d y true f s e = none-some refl e
-      got x k d y false f (yes s) e = (stays-seated (M .roster) x s, s)
+      got x k d y false f (yes s) e = (stays-seated (M .seats) x s, s)
       got x k d y false f (no s) e =
-          false-T f (seated-leaves (M .roster) x (link-linked h (unlinked-some (M .roster) (M .link x k d) y e .0) .0 .one) s)
+          false-T f (seated-leaves (M .seats) x (link-linked h (unlinked-some (M .seats) (M .link x k d) y e .0) .0 .one) s)
 
-      drop : (x k : ℕ) (d : Side) (y : ℕ) → cond (leaves (M .roster) x) none (unlinked (M .roster) (M .link x k d)) ≡ some y
-          → T (seated (M .roster) x) × T (stays (M .roster) x)
-      drop x k d y e = got x k d y (leaves (M .roster) x) refl (dec-T (stays (M .roster) x)) e
+      drop : (x k : ℕ) (d : Side) (y : ℕ) → cond (leaves (M .seats) x) none (unlinked (M .seats) (M .link x k d)) ≡ some y
+          → T (seated (M .seats) x) × T (stays (M .seats) x)
+      drop x k d y e = got x k d y (leaves (M .seats) x) refl (dec-T (stays (M .seats) x)) e
 
   -- every turn with nothing pending
-  sane-turned : (p : Phase) → M .roster .phase ≡ p → Sane W M p → Sane W (turned N W M p) (turned N W M p .roster .phase)
+  sane-turned : (p : Phase) → M .seats .phase ≡ p → Sane W M p → Sane W (turned N W M p) (turned N W M p .seats .phase)
   unfolding afterTurn
-  sane-turned open-phase e s = by (any N (leaves (M .roster))) refl
+  sane-turned open-phase e s = by (any N (leaves (M .seats))) refl
     where
-      by : (b : Bool) → any N (leaves (M .roster)) ≡ b → Sane W (turned N W M open-phase) (cond b clearing open-phase)
+      by : (b : Bool) → any N (leaves (M .seats)) ≡ b → Sane W (turned N W M open-phase) (cond b clearing open-phase)
       by true f = sane-shut s
       by false f = subst (λ (K : Meaning). Sane W K open-phase) (sym (turn-idle N W M e f)) s
   sane-turned clearing e s = sane-end s
 
-  pub sane-turn : Sane W M (M .roster .phase) → Sane W (accept N W M turn) (accept N W M turn .roster .phase)
-  unfolding accept rosterAfter linksAfter sends takes
-  sane-turn s = sane-turned (M .roster .phase) refl s
+  pub sane-turn : Sane W M (M .seats .phase) → Sane W (accept N W M turn) (accept N W M turn .seats .phase)
+  unfolding accept seatsAfter linksAfter sends takes
+  sane-turn s = sane-turned (M .seats .phase) refl s

@@ -5,7 +5,8 @@ use mathlib.Core.Path.{_≡_, sym, _∙_, ap, subst}
 use mathlib.Core.Option.{some}
 use native.Mathlib.Omega.{arith}
 use Rattle.graph.specs.Side.{Side, opp}
-use Rattle.graph.proofs.Order.{Lt, opp-opp, lt-trans}
+use Rattle.graph.specs.inner.Order.{Lt}
+use Rattle.graph.proofs.Order.{opp-opp, lt-trans}
 use Rattle.protocol.specs.Message.{probe, pull}
 use Rattle.protocol.proofs.World.{World, State, share, bitOf, Pair, share-W, share-sym, share-trans, bit-eq, pair-trans}
 use Rattle.protocol.proofs.Open.{Proper}

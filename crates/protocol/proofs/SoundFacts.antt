@@ -11,13 +11,14 @@ use lib.Dec.{T, eqb, ltb, T-not, not-T, eqb→eq, leb→le, le→leb, ltb→lt, 
 use borrow.Author.Tests.{eq-eqb}
 use Rattle.graph.specs.Side.{Side, sideOf}
 use Rattle.graph.specs.Vector.{shared}
-use Rattle.graph.proofs.Tests.{and-T, and-fst, and-snd, true-T}
-use Rattle.graph.proofs.Order.{Lt, on-lt, lt-on, lt-some, side-of}
+use Rattle.base.proofs.Tests.{and-T, and-fst, and-snd, true-T}
+use Rattle.graph.specs.inner.Order.{Lt}
+use Rattle.graph.proofs.Order.{on-lt, lt-on, lt-some, side-of}
 use Rattle.graph.proofs.Shared.{shared-le, shared-sym, shared-trans}
 use Rattle.protocol.specs.Message.{Msg, meet, probe, pull, going, seek, found, none-found, among}
 use Rattle.protocol.specs.Numbering.{exists}
 use Rattle.protocol.specs.Rules.{SeatState, free, staying, leaving, isStaying}
-use Rattle.protocol.specs.State.{Phase, open-phase, clearing, Roster, Meaning, isClearing, isFree, seated, stays}
+use Rattle.protocol.specs.State.{Phase, open-phase, clearing, Seats, Meaning, isClearing, isFree, seated, stays}
 use Rattle.protocol.specs.Sound.{pairOk, linkOk, messageOk, Sound}
 use Rattle.protocol.specs.Calls.{isTaken, pendingAfter}
 use Rattle.protocol.proofs.Message.{among-mem}
@@ -37,7 +38,7 @@ pub phase-clearing : (p : Phase) → T (isClearing p) → p ≡ clearing
 phase-clearing open-phase t = absurd t
 phase-clearing clearing t = refl
 
-pub stays-seated : (r : Roster) (x : ℕ) → T (stays r x) → T (seated r x)
+pub stays-seated : (r : Seats) (x : ℕ) → T (stays r x) → T (seated r x)
 stays-seated r x t = by (r .state x) t
   where
     by : (s : SeatState) → T (isStaying s) → T (not (isFree s))
@@ -45,7 +46,7 @@ stays-seated r x t = by (r .state x) t
     by staying t = t
     by leaving t = tt
 
-module _ (W : ℕ) (r : Roster) where
+module _ (W : ℕ) (r : Seats) where
   -- two different seated lots that share at least k bits
   pub record Two (k x y : ℕ) : Type 0 where
     pub one : T (seated r x)
@@ -138,7 +139,7 @@ module _ (W : ℕ) (r : Roster) where
       and-T (isClearing (r .phase)) _ (rw e tt) (and-T (pairOk W r l x a) _ (two-pair t) (and-T (stays r x) _ u v))
   proper-ok e (p-none {t = x} {l} s w) = and-T (isClearing (r .phase)) _ (rw e tt) (and-T (stays r x) _ s (le→leb l W w))
 
-module _ {W : ℕ} {r : Roster} where
+module _ {W : ℕ} {r : Seats} where
   pub two-sym : {k x y : ℕ} → Two W r k x y → Two W r k y x
   two-sym {x = x} {y = y} t = record {
     one = t .two;
@@ -161,25 +162,25 @@ module _ {W : ℕ} {r : Roster} where
 
 -- what a sound meaning says
 module _ {N W : ℕ} {M : Meaning} (h : Sound N W M) where
-  pub link-linked : {x k y : ℕ} {d : Side} → M .link x k d ≡ some y → Linked W (M .roster) x k d y
-  link-linked {x} {k} {y} {d} e = ok-linked W (M .roster) x k d y (h .links x k y d e)
+  pub link-linked : {x k y : ℕ} {d : Side} → M .link x k d ≡ some y → Linked W (M .seats) x k d y
+  link-linked {x} {k} {y} {d} e = ok-linked W (M .seats) x k d y (h .links x k y d e)
 
-  pub pending-proper : {m : Msg} → T (M .pending m) → Proper W (M .roster) (M .roster .phase) m
-  pending-proper {m} t = ok-proper W (M .roster) m (h .messages m t)
+  pub pending-proper : {m : Msg} → T (M .pending m) → Proper W (M .seats) (M .seats .phase) m
+  pending-proper {m} t = ok-proper W (M .seats) m (h .messages m t)
 
   -- one lies on the side of the other that their numbers tell
-  pub two-lt : {k x y : ℕ} → Two W (M .roster) k x y → Lt (M .roster .number) (sideOf (M .roster .number x) (M .roster .number y)) x y
+  pub two-lt : {k x y : ℕ} → Two W (M .seats) k x y → Lt (M .seats .number) (sideOf (M .seats .number x) (M .seats .number y)) x y
   two-lt {x = x} {y = y} t =
-      let (d, l) = lt-some (M .roster .number) x y (λ e. t .apart (h .differ x y (t .one) (t .two) e)) in
-      rw (side-of (M .roster .number) l) l
+      let (d, l) = lt-some (M .seats .number) x y (λ e. t .apart (h .differ x y (t .one) (t .two) e)) in
+      rw (side-of (M .seats .number) l) l
 
-  seat-in : (x k L : ℕ) → T (seated (M .roster) x) → k < L → T (ltb x N && ltb k L)
+  seat-in : (x k L : ℕ) → T (seated (M .seats) x) → k < L → T (ltb x N && ltb k L)
   seat-in x k L s l = and-T (ltb x N) _ (lt→ltb x N (h .seats x s)) (lt→ltb k L l)
 
-  pair-in : {k x y : ℕ} (L : ℕ) → Two W (M .roster) k x y → k < L → T (ltb x N && (ltb y N && ltb k L))
+  pair-in : {k x y : ℕ} (L : ℕ) → Two W (M .seats) k x y → k < L → T (ltb x N && (ltb y N && ltb k L))
   pair-in {k} {x} {y} L t l = and-T (ltb x N) _ (lt→ltb x N (h .seats x (t .one))) (seat-in y k L (t .two) l)
 
-  proper-exists : {p : Phase} {m : Msg} → Proper W (M .roster) p m → T (exists N W m)
+  proper-exists : {p : Phase} {m : Msg} → Proper W (M .seats) p m → T (exists N W m)
   unfolding exists
   proper-exists (p-meet t) = pair-in (suc W) t (suc-le-suc (two-level t))
   proper-exists (p-probe t w) = pair-in W t w
@@ -187,7 +188,7 @@ module _ {N W : ℕ} {M : Meaning} (h : Sound N W M) where
   proper-exists (p-going {t} {l} s w) = seat-in t l (suc W) s (suc-le-suc w)
   proper-exists (p-seek t u) = pair-in (suc W) t (suc-le-suc (two-level t))
   proper-exists (p-found t u v) = pair-in (suc W) t (suc-le-suc (two-level t))
-  proper-exists (p-none {t} {l} s w) = seat-in t l (suc W) (stays-seated (M .roster) t s) (suc-le-suc w)
+  proper-exists (p-none {t} {l} s w) = seat-in t l (suc W) (stays-seated (M .seats) t s) (suc-le-suc w)
 
   -- a sound pending message exists
   pub pending-exists : (m : Msg) → T (M .pending m) → T (exists N W m)

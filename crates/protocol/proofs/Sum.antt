@@ -8,7 +8,7 @@ use mathlib.Core.List.{List, [], _∷_, List·Memᴰ}
 use native.Mathlib.Omega.{arith}
 use native.Mathlib.Decide.{ℕ-discrete}
 use lib.Dec.{T}
-use Rattle.graph.proofs.Tests.{dec-T}
+use Rattle.base.proofs.Tests.{dec-T}
 use Rattle.protocol.specs.Message.{Msg, sameMsg, among}
 use Rattle.protocol.specs.Numbering.{exists, count, place, messageAt}
 use Rattle.protocol.proofs.Message.{same-eq, same-self, mem-among}

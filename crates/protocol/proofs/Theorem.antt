@@ -8,14 +8,14 @@ use mathlib.Core.List.{List, [], _∷_}
 use native.Mathlib.Omega.{arith}
 use lib.Dec.{T}
 use Rattle.graph.specs.Graph.{IsGraph}
-use Rattle.graph.proofs.Tests.{false-T, not-T-false}
+use Rattle.base.proofs.Tests.{false-T, not-T-false}
 use Rattle.protocol.specs.Message.{Msg, Name, named}
 use Rattle.protocol.specs.Numbering.{somePending}
-use Rattle.protocol.specs.State.{Roster, Meaning, members, nobody, opened}
+use Rattle.protocol.specs.State.{Seats, Meaning, members, nobody, opened}
 use Rattle.protocol.specs.Table.{Call, join, leave, deliver, turn, isPending, refusal}
-use Rattle.protocol.specs.Calls.{rosterAfter, sends, takes, pendingAfter, accept, unlessRefused, call}
+use Rattle.protocol.specs.Calls.{seatsAfter, sends, takes, pendingAfter, accept, unlessRefused, call}
 use Rattle.protocol.specs.Sound.{Sound}
-use Rattle.protocol.specs.Run.{Standing, logOf, step, steps, run, rosterOf, pendingOf, RefusedByTable, Settled, accepted, Demand3, InRange}
+use Rattle.protocol.specs.Run.{Standing, logOf, step, steps, run, rosterOf, pendingOf, RefusedByTable, NothingPending, accepted, Demand3, InRange}
 use Rattle.protocol.specs.Run.{AllInRange}
 use Rattle.protocol.proofs.Numbering.{none-pending, pending-none}
 use Rattle.protocol.proofs.Delivery.{stateOf, accept-deliver}
@@ -35,9 +35,9 @@ pub record Taken (N W : ℕ) (M : Meaning) (n : Name) : Type 0 where
   pub is : named n ≡ some message
   pub was : T (M .pending message)
 
-pub deliver-taken : (N W : ℕ) (M : Meaning) (n : Name) → refusal N W (M .roster) (M .pending) (deliver n) ≡ 0 → Taken N W M n
+pub deliver-taken : (N W : ℕ) (M : Meaning) (n : Name) → refusal N W (M .seats) (M .pending) (deliver n) ≡ 0 → Taken N W M n
 unfolding isPending
-deliver-taken N W M n e = by (named n) refl (deliver-row N W (M .roster) (M .pending) n e)
+deliver-taken N W M n e = by (named n) refl (deliver-row N W (M .seats) (M .pending) n e)
   where
     by : (o : Option Msg) → named n ≡ o → T (isPending (M .pending) o) → Taken N W M n
     by none f t = absurd t
@@ -61,37 +61,37 @@ module _ (N W : ℕ) where
   none-quiet M q = pending-none N W (M .pending) (λ m x. not-T-false (λ t. q m t))
 
   -- a join or a leave keeps the phase
-  phase-join : (M : Meaning) (s n v c : ℕ) → accept N W M (join s n v c) .roster .phase ≡ M .roster .phase
-  unfolding accept rosterAfter
+  phase-join : (M : Meaning) (s n v c : ℕ) → accept N W M (join s n v c) .seats .phase ≡ M .seats .phase
+  unfolding accept seatsAfter
   phase-join M s n v c = refl
 
-  phase-leave : (M : Meaning) (s : ℕ) → accept N W M (leave s) .roster .phase ≡ M .roster .phase
-  unfolding accept rosterAfter
+  phase-leave : (M : Meaning) (s : ℕ) → accept N W M (leave s) .seats .phase ≡ M .seats .phase
+  unfolding accept seatsAfter
   phase-leave M s = refl
 
-  sane-accept : {M : Meaning} → Reached N W M → (c : Call) → refusal N W (M .roster) (M .pending) c ≡ 0
-      → Sane W (accept N W M c) (accept N W M c .roster .phase)
+  sane-accept : {M : Meaning} → Reached N W M → (c : Call) → refusal N W (M .seats) (M .pending) c ≡ 0
+      → Sane W (accept N W M c) (accept N W M c .seats .phase)
   sane-accept {M} g (join s n v c) e =
-      let ok = join-rows N W (M .roster) (M .pending) s n v c e in
+      let ok = join-rows N W (M .seats) (M .pending) s n v c e in
       subst (Sane W (accept N W M (join s n v c))) (sym (phase-join M s n v c ∙ ok .opens))
       (sane-join (g .sound) s n v c ok (subst (Sane W M) (ok .opens) (g .sane)))
   sane-accept {M} g (leave s) e =
-      let ok = leave-rows N W (M .roster) (M .pending) s e in
+      let ok = leave-rows N W (M .seats) (M .pending) s e in
       subst (Sane W (accept N W M (leave s))) (sym (phase-leave M s ∙ ok .opens)) (sane-leave M s ok (subst (Sane W M) (ok .opens) (g .sane)))
   sane-accept {M} g (deliver n) e =
       let t = deliver-taken N W M n e in
-      subst (λ (K : Meaning). Sane W K (K .roster .phase)) (sym (accept-deliver N W M n (t .message) (t .is))) (sane-deliver (g .sane) (t .message) (t .was))
-  sane-accept {M} g turn e = sane-turn (g .sound) (quiet-none (g .sound) (turn-row N W (M .roster) (M .pending) e)) (g .sane)
+      subst (λ (K : Meaning). Sane W K (K .seats .phase)) (sym (accept-deliver N W M n (t .message) (t .is))) (sane-deliver (g .sane) (t .message) (t .was))
+  sane-accept {M} g turn e = sane-turn (g .sound) (quiet-none (g .sound) (turn-row N W (M .seats) (M .pending) e)) (g .sane)
 
-  reached-accept : {M : Meaning} → Reached N W M → (c : Call) → InRange N W c → refusal N W (M .roster) (M .pending) c ≡ 0
+  reached-accept : {M : Meaning} → Reached N W M → (c : Call) → InRange N W c → refusal N W (M .seats) (M .pending) c ≡ 0
       → Reached N W (accept N W M c)
   reached-accept {M} g c q e = record { sound = accept-sound N W M (g .sound) c q e; sane = sane-accept g c e }
 
   pub reached-call : {M : Meaning} → Reached N W M → (c : Call) → InRange N W c → Reached N W (call N W M c .meaning)
   unfolding call unlessRefused
-  reached-call {M} g c q = by (refusal N W (M .roster) (M .pending) c) refl
+  reached-call {M} g c q = by (refusal N W (M .seats) (M .pending) c) refl
     where
-      by : (n : ℕ) → refusal N W (M .roster) (M .pending) c ≡ n → Reached N W (unlessRefused n M (accept N W M c))
+      by : (n : ℕ) → refusal N W (M .seats) (M .pending) c ≡ n → Reached N W (unlessRefused n M (accept N W M c))
       by zero e = reached-accept g c q e
       by (suc n) e = g
 
@@ -99,9 +99,9 @@ module _ (N W : ℕ) where
   ends-step : {M : Meaning} → Reached N W M → (n : Name) (ns : List Name) → ((K : Meaning) → Reached N W K → accepted N W K ns ≤ bound N W K)
       → unlessRefused (call N W M (deliver n) .refused) 0 1 + accepted N W (call N W M (deliver n) .meaning) ns ≤ bound N W M
   unfolding call unlessRefused
-  ends-step {M} g n ns ih = by (refusal N W (M .roster) (M .pending) (deliver n)) refl
+  ends-step {M} g n ns ih = by (refusal N W (M .seats) (M .pending) (deliver n)) refl
     where
-      by : (a : ℕ) → refusal N W (M .roster) (M .pending) (deliver n) ≡ a
+      by : (a : ℕ) → refusal N W (M .seats) (M .pending) (deliver n) ≡ a
           → unlessRefused a 0 1 + accepted N W (unlessRefused a M (accept N W M (deliver n))) ns ≤ bound N W M
       by zero e =
           let t = deliver-taken N W M n e in
@@ -118,13 +118,13 @@ module _ (N W : ℕ) where
   pub record Track (s : Standing) : Type 0 where
     pub reached : Reached N W (s .now)
     pub refusals : RefusedByTable N W (s .history)
-    pub lots : s .now .roster ≡ rosterOf N W (logOf (s .history))
+    pub lots : s .now .seats ≡ rosterOf N W (logOf (s .history))
     pub pending : s .now .pending ≡ pendingOf N W (s .history)
 
-  lots-step : (M : Meaning) {r : Roster} (c : Call) (n : ℕ) → M .roster ≡ r
-      → unlessRefused n M (accept N W M c) .roster ≡ unlessRefused n r (rosterAfter N r c)
+  lots-step : (M : Meaning) {r : Seats} (c : Call) (n : ℕ) → M .seats ≡ r
+      → unlessRefused n M (accept N W M c) .seats ≡ unlessRefused n r (seatsAfter N r c)
   unfolding unlessRefused accept
-  lots-step M c zero e = ap (λ (r : Roster). rosterAfter N r c) e
+  lots-step M c zero e = ap (λ (r : Seats). seatsAfter N r c) e
   lots-step M c (suc n) e = e
 
   pending-step : (M : Meaning) {p : Msg → Bool} (c : Call) (n : ℕ) → M .pending ≡ p
@@ -137,9 +137,9 @@ module _ (N W : ℕ) where
   unfolding step call rosterOf logOf pendingOf
   track-step {s} c q t = record {
     reached = reached-call (t .reached) c q;
-    refusals = (ap₂ (λ (r : Roster) (p : Msg → Bool). refusal N W r p c) (t .lots) (t .pending), t .refusals);
-    lots = lots-step (s .now) c (refusal N W (s .now .roster) (s .now .pending) c) (t .lots);
-    pending = pending-step (s .now) c (refusal N W (s .now .roster) (s .now .pending) c) (t .pending);
+    refusals = (ap₂ (λ (r : Seats) (p : Msg → Bool). refusal N W r p c) (t .lots) (t .pending), t .refusals);
+    lots = lots-step (s .now) c (refusal N W (s .now .seats) (s .now .pending) c) (t .lots);
+    pending = pending-step (s .now) c (refusal N W (s .now .seats) (s .now .pending) c) (t .pending);
   }
 
   track-steps : (cs : List Call) {s : Standing} → AllInRange N W cs → Track s → Track (steps N W s cs)
@@ -158,14 +158,14 @@ module _ (N W : ℕ) where
     lots = t .lots;
     messages = λ m. ap (λ (p : Msg → Bool). p m) (t .pending);
     none-left = ((λ e m. settled (quiet-none (t .reached .sound) e) m), λ q. none-quiet (s .now) (quiet q));
-    graph = λ q. subst (λ (r : Roster). IsGraph N W (members r) (s .now .link)) (t .lots) (reached-graph (t .reached) (quiet q));
+    graph = λ q. subst (λ (r : Seats). IsGraph N W (members r) (s .now .link)) (t .lots) (reached-graph (t .reached) (quiet q));
     ends = λ ns. ends ns (s .now) (t .reached);
   }
     where
       settled : Quiet (stateOf (s .now)) → (m : Msg) → pendingOf N W (s .history) m ≡ false
       settled q m = sym (ap (λ (p : Msg → Bool). p m) (t .pending)) ∙ not-T-false (λ u. q m u)
 
-      quiet : Settled N W (s .history) → Quiet (stateOf (s .now))
+      quiet : NothingPending N W (s .history) → Quiet (stateOf (s .now))
       quiet q m u = false-T (q m) (subst (λ (p : Msg → Bool). T (p m)) (t .pending) u)
 
   -- THE THEOREM: demand 3 after every list of calls

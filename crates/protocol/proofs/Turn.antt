@@ -4,11 +4,11 @@ use mathlib.Core.Path.{_≡_, refl, sym, _∙_, subst}
 use mathlib.Core.Logic.{_⊎_, inl, inr}
 use mathlib.Core.Option.{Option, none, some}
 use Rattle.graph.specs.Side.{Side, opp}
-use Rattle.graph.proofs.Order.{Lt, toL, toR}
-use Rattle.graph.proofs.Tests.{some-inj, none-some}
+use Rattle.graph.specs.inner.Order.{Lt, toL, toR}
+use Rattle.base.proofs.Tests.{some-inj, none-some}
 use Rattle.protocol.specs.Message.{Msg, going}
 use Rattle.protocol.proofs.World.{World, State, Quiet, share, Pair}
-use Rattle.protocol.proofs.Settled.{Next, Exact}
+use Rattle.protocol.proofs.Exact.{Next, Exact}
 use Rattle.protocol.proofs.Invariant.{Invariant, exact-sym, exact-invariant}
 use Rattle.protocol.proofs.Clearing.{Target, nobody, nearest, AllLinks, Ok, ok-going, Todo, done, by-going, Clearing}
 

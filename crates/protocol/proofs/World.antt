@@ -9,7 +9,8 @@ use native.Mathlib.Decide.{ℕ-discrete}
 use Rattle.graph.specs.Side.{Side}
 use Rattle.graph.specs.Vector.{bit, shared}
 use Rattle.graph.specs.Graph.{Links}
-use Rattle.graph.proofs.Order.{Lt, lt-some, lt-either}
+use Rattle.graph.specs.inner.Order.{Lt}
+use Rattle.graph.proofs.Order.{lt-some, lt-either}
 use Rattle.graph.proofs.Shared.{shared-le, shared-sym, shared-trans, shared-bit, bit-shared}
 use Rattle.protocol.specs.Message.{Msg}
 use Rattle.protocol.specs.Sound.{numberBits}

@@ -7,9 +7,9 @@ use lib.Dec.{eqb, ltb}
 use Rattle.graph.specs.Side.{Side, left, right, opp}
 use Rattle.graph.specs.Graph.{Links}
 use Rattle.protocol.specs.Message.{Msg, meet, going, nameOf, named, sameMsg, among}
-use Rattle.protocol.specs.Numbering.{any}
+use Rattle.base.specs.Loops.{any}
 use Rattle.protocol.specs.Rules.{SeatState, free, staying, leaving, Change, keep, set, Effect, effect, toLink}
-use Rattle.protocol.specs.State.{Phase, open-phase, clearing, Roster, Meaning, leaves, entry}
+use Rattle.protocol.specs.State.{Phase, open-phase, clearing, Seats, Meaning, leaves, entry}
 use Rattle.protocol.specs.Table.{Call, join, leave, deliver, turn, refusal}
 
 -- f with the value a at s
@@ -22,7 +22,7 @@ freed free = free
 freed staying = staying
 freed leaving = free
 
-unfoldable pub afterTurn : ℕ → Phase → Roster → Roster
+unfoldable pub afterTurn : ℕ → Phase → Seats → Seats
 afterTurn N open-phase r = record { phase = cond (any N (leaves r)) clearing open-phase; state = r .state; number = r .number; vector = r .vector }
 afterTurn N clearing r = record {
   phase = open-phase;
@@ -32,15 +32,15 @@ afterTurn N clearing r = record {
 }
 
 -- the roster after an accepted call
-unfoldable pub rosterAfter : ℕ → Roster → Call → Roster
-rosterAfter N r (join s n v c) = record { phase = r .phase; state = at s staying (r .state); number = at s n (r .number); vector = at s v (r .vector) }
-rosterAfter N r (leave s) = record { phase = r .phase; state = at s leaving (r .state); number = r .number; vector = r .vector }
-rosterAfter N r (deliver n) = r
-rosterAfter N r turn = afterTurn N (r .phase) r
+unfoldable pub seatsAfter : ℕ → Seats → Call → Seats
+seatsAfter N r (join s n v c) = record { phase = r .phase; state = at s staying (r .state); number = at s n (r .number); vector = at s v (r .vector) }
+seatsAfter N r (leave s) = record { phase = r .phase; state = at s leaving (r .state); number = r .number; vector = r .vector }
+seatsAfter N r (deliver n) = r
+seatsAfter N r turn = afterTurn N (r .phase) r
 
 -- the rule of a message, on the entry of its `to`
 unfoldable pub rule : ℕ → Meaning → Msg → Effect
-rule W M m = effect W (M .roster .number) (M .roster .vector) (entry M (nameOf m .to)) m
+rule W M m = effect W (M .seats .number) (M .seats .vector) (entry M (nameOf m .to)) m
 
 -- the lists f 0, f 1, .. below n
 unfoldable pub each : ℕ → (ℕ → List Msg) → List Msg
@@ -52,11 +52,11 @@ unfoldable pub farewell : Links → (y k : ℕ) → Side → List Msg
 farewell L y k d = toLink (L y k d) (λ x. going x k (opp d))
 
 -- every leaver to each of its links
-unfoldable pub farewells : (N W : ℕ) → Roster → Links → List Msg
+unfoldable pub farewells : (N W : ℕ) → Seats → Links → List Msg
 farewells N W r L = each N (λ y. cond (leaves r y) (each (suc W) (λ k. farewell L y k left ++ farewell L y k right)) [])
 
 unfoldable pub turnSends : (N W : ℕ) → Phase → Meaning → List Msg
-turnSends N W open-phase M = farewells N W (M .roster) (M .link)
+turnSends N W open-phase M = farewells N W (M .seats) (M .link)
 turnSends N W clearing M = []
 
 unfoldable pub deliverySends : (W : ℕ) → Meaning → Option Msg → List Msg
@@ -68,7 +68,7 @@ unfoldable pub sends : (N W : ℕ) → Meaning → Call → List Msg
 sends N W M (join s n v c) = cond (ltb c N) (meet c s 0 ∷ []) []
 sends N W M (leave s) = []
 sends N W M (deliver n) = deliverySends W M (named n)
-sends N W M turn = turnSends N W (M .roster .phase) M
+sends N W M turn = turnSends N W (M .seats .phase) M
 
 -- the message that an accepted call takes away
 unfoldable pub takes : Call → Option Msg
@@ -97,11 +97,11 @@ applied t keep L x k d = L x k d
 applied t (set l s o) L x k d = cond (eqb x t && (eqb k l && sameSide d s)) o (L x k d)
 
 -- a link to a freed seat becomes none
-unfoldable pub unlinked : Roster → Option ℕ → Option ℕ
+unfoldable pub unlinked : Seats → Option ℕ → Option ℕ
 unlinked r none = none
 unlinked r (some y) = cond (leaves r y) none (some y)
 
-unfoldable pub turnLinks : Phase → Roster → Links → Links
+unfoldable pub turnLinks : Phase → Seats → Links → Links
 turnLinks open-phase r L x k d = L x k d
 turnLinks clearing r L x k d = cond (leaves r x) none (unlinked r (L x k d))
 
@@ -114,7 +114,7 @@ unfoldable pub linksAfter : (W : ℕ) → Meaning → Call → Links
 linksAfter W M (join s n v c) x k d = cond (eqb x s) none (M .link x k d)
 linksAfter W M (leave s) x k d = M .link x k d
 linksAfter W M (deliver n) x k d = deliveryLinks W M (named n) x k d
-linksAfter W M turn x k d = turnLinks (M .roster .phase) (M .roster) (M .link) x k d
+linksAfter W M turn x k d = turnLinks (M .seats .phase) (M .seats) (M .link) x k d
 
 -- what a call with that refusal number leaves: the old if it is refused, else the new
 unfoldable pub unlessRefused : {A : Type 0} → (refused : ℕ) → A → A → A
@@ -128,7 +128,7 @@ pub record Outcome : Type 0 where
 
 module _ (N W : ℕ) where
   unfoldable pub accept : Meaning → Call → Meaning
-  accept M c = record { roster = rosterAfter N (M .roster) c; link = linksAfter W M c; pending = pendingAfter (sends N W M c) (takes c) (M .pending) }
+  accept M c = record { seats = seatsAfter N (M .seats) c; link = linksAfter W M c; pending = pendingAfter (sends N W M c) (takes c) (M .pending) }
 
   unfoldable pub call : Meaning → Call → Outcome
-  call M c = let n = refusal N W (M .roster) (M .pending) c in record { refused = n; meaning = unlessRefused n M (accept M c) }
+  call M c = let n = refusal N W (M .seats) (M .pending) c in record { refused = n; meaning = unlessRefused n M (accept M c) }

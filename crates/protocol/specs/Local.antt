@@ -19,5 +19,5 @@ pub data Names (e : Entry) : Msg → ℕ → Type 0 where
 -- two meanings agree on what the delivery of a message may depend on
 pub record Agree (M M′ : Meaning) (m : Msg) : Type 0 where
   pub entries : entry M (nameOf m .to) ≡ entry M′ (nameOf m .to)
-  pub numbers : (z : ℕ) → Names (entry M (nameOf m .to)) m z → M .roster .number z ≡ M′ .roster .number z
-  pub vectors : (z : ℕ) → Names (entry M (nameOf m .to)) m z → M .roster .vector z ≡ M′ .roster .vector z
+  pub numbers : (z : ℕ) → Names (entry M (nameOf m .to)) m z → M .seats .number z ≡ M′ .seats .number z
+  pub vectors : (z : ℕ) → Names (entry M (nameOf m .to)) m z → M .seats .vector z ≡ M′ .seats .vector z

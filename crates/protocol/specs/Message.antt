@@ -4,7 +4,7 @@ use mathlib.Core.Option.{Option, none, some}
 use mathlib.Core.Bool.{Bool, true, false, cond, _&&_, _||_}
 use mathlib.Core.List.{List, [], _∷_}
 use lib.Dec.{eqb}
-use Rattle.graph.specs.Side.{Side, left, right}
+use Rattle.graph.specs.Side.{Side, left, right, sideNumber}
 
 -- `to` is the lot that it is sent to, `about` the lot that it speaks of; a PULL wants a bit and travels along a side
 pub data Msg : Type 0 where
@@ -26,11 +26,6 @@ pub record Name : Type 0 where
 
 abbrev pub name : (kind to about level side : ℕ) → Name
 name k t a l s = record { kind = k; to = t; about = a; level = l; side = s }
-
--- side 0 is left, 1 right
-abbrev pub sideNumber : Side → ℕ
-sideNumber left = 0
-sideNumber right = 1
 
 abbrev pub bitNumber : Bool → ℕ
 bitNumber false = 0

@@ -2,13 +2,10 @@
 use Prim.Native.Nat.{ℕ, zero, suc, _+_, _-_, _*_, _/_, _%_}
 use mathlib.Core.Bool.{Bool, false, cond, _&&_, _||_}
 use lib.Dec.{eqb, ltb}
+use Rattle.base.specs.Loops.{any}
 use Rattle.graph.specs.Side.{Side, left, right}
-use Rattle.protocol.specs.Message.{Msg, meet, probe, pull, going, seek, found, none-found, sideNumber, bitNumber}
-
--- one of the numbers below n passes
-unfoldable pub any : ℕ → (ℕ → Bool) → Bool
-any zero p = false
-any (suc n) p = p n || any n p
+use Rattle.graph.specs.Side.{sideNumber}
+use Rattle.protocol.specs.Message.{Msg, meet, probe, pull, going, seek, found, none-found, bitNumber}
 
 module _ (N W : ℕ) where
   -- how many messages name two lots and a level of L, a lot, a bit, a level and a side, or a lot, a level and a side

@@ -6,8 +6,9 @@ use mathlib.Core.Bool.{Bool, false, not, cond, _&&_, _||_}
 use mathlib.Core.List.{List, [], _∷_}
 use lib.Dec.{eqb, ltb}
 use Rattle.protocol.specs.Message.{Msg, Name, named}
-use Rattle.protocol.specs.Numbering.{any, somePending}
-use Rattle.protocol.specs.State.{Roster, isClearing, isFree, seated, leaves}
+use Rattle.base.specs.Loops.{any}
+use Rattle.protocol.specs.Numbering.{somePending}
+use Rattle.protocol.specs.State.{Seats, isClearing, isFree, seated, leaves}
 
 pub data Call : Type 0 where
   join : (seat number vector contact : ℕ) → Call
@@ -37,7 +38,7 @@ unfoldable pub isPending : (Msg → Bool) → Option Msg → Bool
 isPending p none = false
 isPending p (some m) = p m
 
-module _ (N W : ℕ) (r : Roster) (p : Msg → Bool) where
+module _ (N W : ℕ) (r : Seats) (p : Msg → Bool) where
   -- s is above the last seat
   abbrev pub noSeat : ℕ → Bool
   noSeat s = not (ltb s N)

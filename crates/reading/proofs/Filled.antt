@@ -7,12 +7,12 @@ use mathlib.Core.List.{List}
 use native.Mathlib.Omega.{arith}
 use lib.ListN.{length, getD, set, length-set, List·getD-eq-default}
 use lib.Seq.{getD-set-same, getD-set-other}
-use Rattle.memory.proofs.Cases.{lt-or-ge, eq-or-ne}
-use Rattle.protocol.specs.Message.{sideNumber}
+use Rattle.base.proofs.Cases.{lt-or-ge, eq-or-ne}
+use Rattle.graph.specs.Side.{sideNumber}
 use Rattle.protocol.proofs.Numbering.{sideNumber-lt}
 use Rattle.record.specs.Layout.{seats, levels, noLink, entryAt, size}
-use Rattle.record.proofs.Opened.{IsOpened}
-use Rattle.reading.specs.Filled.{Filled}
+use Rattle.record.specs.inner.Opened.{IsOpened}
+use Rattle.reading.specs.inner.Filled.{Filled}
 
 pub filled-none : (l : List ℕ) (a v : ℕ) → Filled l a 0 v l
 filled-none l a v = record { sized = refl; within = λ j h. absurd (omega arith); beside = λ i h. refl }

@@ -9,7 +9,7 @@ use native.Mathlib.Omega.{arith}
 use lib.Dec.{T}
 use Rattle.memory.specs.Bits.{bitSet}
 use Rattle.graph.specs.Vector.{width}
-use Rattle.graph.proofs.Tests.{T-true, not-T-false}
+use Rattle.base.proofs.Tests.{T-true, not-T-false}
 use Rattle.protocol.specs.Message.{Msg}
 use Rattle.protocol.specs.Numbering.{exists, place}
 use Rattle.protocol.specs.Table.{isPending}
@@ -17,7 +17,7 @@ use Rattle.record.specs.Layout.{seats, messages, pendingFrom}
 use Rattle.record.specs.Meaning.{meaning}
 use Rattle.record.proofs.Places.{place-within}
 use Rattle.record.proofs.Form.{meaning-pending, exists-pending}
-use Rattle.places.specs.Places.{placeOf}
+use Rattle.messages.specs.inner.Places.{placeOf}
 
 -- a message that exists has its place, and one that does not has none
 placed : (m : Msg) → T (exists seats width m) → placeOf (some m) ≡ place seats width m

@@ -6,12 +6,12 @@ use mathlib.Core.List.{List, [], _∷_}
 use native.Mathlib.Omega.{arith}
 use lib.Dec.{T, ltb}
 use borrow.Author.Tests.{lt-ltb, ltb-true, not-false}
-use Rattle.graph.proofs.Tests.{true-T}
+use Rattle.base.proofs.Tests.{true-T}
 use Rattle.protocol.specs.State.{isFree, seated}
 use Rattle.protocol.specs.Table.{Row, first}
 use Rattle.protocol.proofs.Calls.{no-row}
 use Rattle.record.specs.Layout.{seats, levels}
-use Rattle.record.specs.Meaning.{rosterIn}
+use Rattle.record.specs.Meaning.{seatsIn}
 use Rattle.record.specs.Reading.{wrongSize, unsound, noSuchSeat, noSuchLevel, emptySeat, lotRefusal, linkRefusal}
 use Rattle.record.proofs.Reading.{lotRefusal-is, linkRefusal-is}
 use Rattle.record.proofs.Refused.{Passed, rows-passed}
@@ -24,7 +24,7 @@ or-false false b e = (refl, e)
 pub record Lot (l : List ℕ) (s : ℕ) : Type 0 where
   pub accepted : Passed l
   pub seat : s < seats
-  pub lot : T (seated (rosterIn l) s)
+  pub lot : T (seated (seatsIn l) s)
 
 module _ (l : List ℕ) where
   module _ (s : ℕ) where
@@ -47,8 +47,8 @@ module _ (l : List ℕ) where
     link-rest k d (a, h) = linkRefusal-is l (a .sized) (a .fine) s k d ∙ rw (lt-ltb s seats h)
 
     -- nor 8
-    lot-there : first (emptySeat l s ∷ []) ≡ 0 → T (seated (rosterIn l) s)
-    lot-there e = true-T (ap not (no-row 7 (isFree (rosterIn l .state s)) [] e .0))
+    lot-there : first (emptySeat l s ∷ []) ≡ 0 → T (seated (seatsIn l) s)
+    lot-there e = true-T (ap not (no-row 7 (isFree (seatsIn l .state s)) [] e .0))
 
     pub lot-passed : {n : ℕ} → n ≡ lotRefusal l s → n ≡ 0 → Lot l s
     unfolding lotRefusal

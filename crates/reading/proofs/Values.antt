@@ -9,17 +9,17 @@ use lib.ListN.{getD}
 use borrow.Author.Tests.{ne-eqb}
 use Rattle.memory.specs.Bytes.{numberAt}
 use Rattle.memory.specs.Bits.{bitSet}
-use Rattle.memory.specs.Loops.{oneIf, count}
+use Rattle.base.specs.Loops.{oneIf, count}
 use Rattle.protocol.specs.Message.{Name, named}
 use Rattle.protocol.specs.State.{seated}
 use Rattle.protocol.specs.Table.{isPending}
 use Rattle.record.specs.Layout.{seats, levels, messages, phaseAt, entryAt, stateAt, numberFrom, vectorAt, linkAt, pendingFrom}
-use Rattle.record.specs.Meaning.{meaning, rosterIn, linkByte}
-use Rattle.record.specs.Reading.{sideOfNumber}
+use Rattle.record.specs.Meaning.{meaning, seatsIn, linkByte}
+use Rattle.graph.specs.Side.{sideOfNumber}
 use Rattle.record.specs.Reading.{recordRefusal, lotRefusal, linkRefusal, readLot, readLink, readMessage, readCounts}
 use Rattle.record.proofs.Places.{sideNumber-side}
 use Rattle.record.proofs.Values.{phaseByte-phaseOf, stateByte-stateOf, linkByte-linkOf}
-use Rattle.record.proofs.Form.{meaning-roster, meaning-state, meaning-number, meaning-vector, meaning-link}
+use Rattle.record.proofs.Form.{meaning-seats, meaning-state, meaning-number, meaning-vector, meaning-link}
 use Rattle.record.proofs.Clauses.{Fits, sound-fits}
 use Rattle.record.proofs.Reading.{record-accepted, lot-read, link-read, message-read}
 use Rattle.reading.specs.declared.LotRead.the-variants as lot
@@ -45,7 +45,7 @@ module _ (l : List ℕ) where
   unfolding lotAnswered lotOf
   lot-values s a =
       let h = a .seat in
-      let read = lot-read l (a .accepted .sized) (a .accepted .fine) s h (rw (meaning-roster l) (a .lot)) in
+      let read = lot-read l (a .accepted .sized) (a .accepted .fine) s h (rw (meaning-seats l) (a .lot)) in
       let state = stateByte-stateOf (getD l (stateAt s) 0) (fits (a .accepted) .states s h) in
       rw (read, meaning-state l s h, state, meaning-number l s h, meaning-vector l s h)
 
@@ -61,7 +61,7 @@ module _ (l : List ℕ) where
   link-values s k d a g q =
       let h = a .seat in
       let side = sideOfNumber d in
-      let read = link-read l (a .accepted .sized) (a .accepted .fine) s h (rw (meaning-roster l) (a .lot)) k side g in
+      let read = link-read l (a .accepted .sized) (a .accepted .fine) s h (rw (meaning-seats l) (a .lot)) k side g in
       let byte = linkByte-linkOf (getD l (linkAt s k side) 0) (⊎-elim (λ e. inl e) (λ f. inr (f .0)) (fits (a .accepted) .links s k side h g)) in
       let value : linkByte (meaning l .link s k side) ≡ getD l (entryAt s + 10 + 2 * k + d) 0
       = ap linkByte (meaning-link l s k side h g) ∙ byte ∙ ap (λ (n : ℕ). getD l (entryAt s + 10 + 2 * k + n) 0) (sideNumber-side d q) in
@@ -88,6 +88,6 @@ module _ (l : List ℕ) where
   counts-refused (suc n) e h = rw (← e, ne-eqb (suc n) 0 h)
 
   pub counts-values : Passed l
-      → counts.Counted (count seats (seated (rosterIn l))) (getD l phaseAt 0) (count messages (bitSet l pendingFrom)) ≡ countsAnswered (readCounts l)
-  unfolding readCounts countsAnswered countsOf rosterIn
+      → counts.Counted (count seats (seated (seatsIn l))) (getD l phaseAt 0) (count messages (bitSet l pendingFrom)) ≡ countsAnswered (readCounts l)
+  unfolding readCounts countsAnswered countsOf seatsIn
   counts-values a = rw (record-accepted l (a .sized) (a .fine), phaseByte-phaseOf (getD l phaseAt 0) (fits a .phase))

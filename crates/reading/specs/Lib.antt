@@ -1,3 +1,3 @@
 -- The answers of the readings, and what the inner functions promise.
 pub mod Answer
-pub mod Filled
+pub mod inner

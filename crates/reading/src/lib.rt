@@ -2,7 +2,7 @@
 // call gives the number of the first row of the table that applies; readings change no byte.
 ghost use mathlib.Core.Path.{_≡_};
 ghost use Rattle.protocol.specs.Message.{name};
-ghost use Rattle.outcome.specs.Answer.{told, answerOf};
+ghost use Rattle.record.specs.Answer.{reply, answerOf};
 ghost use Rattle.record.specs.Reading.{lotRefusal, linkRefusal, openRefusal, openBytes, readLot, readLink, readMessage, readCounts};
 ghost use Rattle.reading.specs.Answer.{lotAnswered, linkAnswered, messageAnswered, countsAnswered};
 
@@ -11,10 +11,10 @@ mod opening;
 mod rows;
 
 use counts::seated_lots;
+use messages::place_of;
 use opening::fill;
 use opening::no_links;
-use outcome::Answer;
-use places::place_of;
+use record::Answer;
 use record::MESSAGES;
 use record::PENDING;
 use record::SIZE;
@@ -78,7 +78,7 @@ pub fn link_refusal(rec: &[u8], seat: u8, level: u8, side: u8) -> u8
 
 // Writes the empty record in phase open. Refused: 1.
 pub fn open(rec: &mut [u8]) -> Answer
-    ensures { λ r. ⌜ told r (now (rec .exit)) ≡ told (answerOf (openRefusal (now (rec .entry)))) (openBytes (now (rec .entry))) ⌝ }
+    ensures { λ r. ⌜ reply r (now (rec .exit)) ≡ reply (answerOf (openRefusal (now (rec .entry)))) (openBytes (now (rec .entry))) ⌝ }
 {
     if rec.len() != SIZE {
         return Answer::Refused(WRONG_SIZE);

@@ -8,10 +8,10 @@ ghost use Rattle.record.specs.Layout.{seats, size};
 ghost use Rattle.record.specs.Reading.{wrongSize, unsound, noSuchSeat, noSuchLevel, emptySeat};
 use record::LEVELS;
 use record::SEATS;
+use record::lots::is_seated;
 use record::refusals::EMPTY_SEAT;
 use record::refusals::NO_SUCH_LEVEL;
 use record::refusals::NO_SUCH_SEAT;
-use roster::is_seated;
 use soundness::record_refusal;
 
 // The sides, left and right.

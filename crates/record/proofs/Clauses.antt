@@ -8,16 +8,16 @@ use lib.Dec.{T, eqb, ltb}
 use lib.ListN.{getD}
 use borrow.Author.Tests.{lt-ltb, eq-eqb, ltb-true, eqb-true, not-true, not-false}
 use Rattle.memory.specs.Bits.{bitSet}
-use Rattle.memory.proofs.Cases.{true-or-false, and-left, and-right}
-use Rattle.memory.proofs.All.{all-at, all-from}
+use Rattle.base.proofs.Cases.{true-or-false, and-left, and-right}
+use Rattle.base.proofs.All.{all-at, all-from}
 use Rattle.graph.specs.Side.{Side, left, right}
 use Rattle.graph.specs.Vector.{width}
-use Rattle.graph.proofs.Tests.{T-true, true-T, true-false}
+use Rattle.base.proofs.Tests.{T-true, true-T, true-false}
 use Rattle.protocol.specs.Numbering.{messageAt}
 use Rattle.protocol.specs.State.{isFree, seated}
 use Rattle.protocol.specs.Sound.{linkOk, messageOk}
 use Rattle.record.specs.Layout.{seats, levels, noLink, messages, phaseAt, stateAt, linkAt, pendingFrom}
-use Rattle.record.specs.Meaning.{rosterIn}
+use Rattle.record.specs.Meaning.{seatsIn}
 use Rattle.record.specs.Sound.{phaseFits, statesFit, asOpened, unusedFit, numbersDiffer, linkFits, linksFit, messagesFit, sound}
 
 -- tests of both sides
@@ -54,21 +54,21 @@ refuted false f = refl
 -- the bytes of a seat's entry are as opened
 abbrev pub AsOpened : (l : List ℕ) (s : ℕ) → Type 0
 AsOpened l s =
-    (rosterIn l .number s ≡ 0) × (rosterIn l .vector s ≡ 0) × ((k : ℕ) (d : Side) → k < levels → getD l (linkAt s k d) 0 ≡ noLink)
+    (seatsIn l .number s ≡ 0) × (seatsIn l .vector s ≡ 0) × ((k : ℕ) (d : Side) → k < levels → getD l (linkAt s k d) 0 ≡ noLink)
 
 -- a link's byte is none, or a seat that fits
 abbrev pub LinkFits : (l : List ℕ) (x k : ℕ) (d : Side) → Type 0
-LinkFits l x k d = let b = getD l (linkAt x k d) 0 in (b ≡ noLink) ⊎ ((b < seats) × T (linkOk width (rosterIn l) x k d b))
+LinkFits l x k d = let b = getD l (linkAt x k d) 0 in (b ≡ noLink) ⊎ ((b < seats) × T (linkOk width (seatsIn l) x k d b))
 
 -- what the clauses say of the bytes
 pub record Fits (l : List ℕ) : Type 0 where
   pub phase : getD l phaseAt 0 < 2
   pub states : (s : ℕ) → s < seats → getD l (stateAt s) 0 < 3
-  pub unused : (s : ℕ) → s < seats → T (isFree (rosterIn l .state s)) → AsOpened l s
-  pub differ : (x y : ℕ) → x < seats → y < x → T (seated (rosterIn l) x) → T (seated (rosterIn l) y)
-      → rosterIn l .number x ≡ rosterIn l .number y → ⊥
+  pub unused : (s : ℕ) → s < seats → T (isFree (seatsIn l .state s)) → AsOpened l s
+  pub differ : (x y : ℕ) → x < seats → y < x → T (seated (seatsIn l) x) → T (seated (seatsIn l) y)
+      → seatsIn l .number x ≡ seatsIn l .number y → ⊥
   pub links : (x k : ℕ) (d : Side) → x < seats → k < levels → LinkFits l x k d
-  pub messages : (i : ℕ) → i < messages → T (bitSet l pendingFrom i) → T (messageOk width (rosterIn l) (messageAt seats width i))
+  pub messages : (i : ℕ) → i < messages → T (bitSet l pendingFrom i) → T (messageOk width (seatsIn l) (messageAt seats width i))
 
 module _ (l : List ℕ) where
   pub phaseFits-is : (phaseFits l ≡ true) ↔ (getD l phaseAt 0 < 2)
@@ -92,10 +92,10 @@ module _ (l : List ℕ) where
   )
     where
       number : ℕ
-      number = rosterIn l .number s
+      number = seatsIn l .number s
 
       vector : ℕ
-      vector = rosterIn l .vector s
+      vector = seatsIn l .vector s
 
       to : asOpened l s ≡ true → AsOpened l s
       to e =
@@ -107,22 +107,22 @@ module _ (l : List ℕ) where
                 eqb-true (getD l (linkAt s k d) 0) noLink (sides (λ d. eqb (getD l (linkAt s k d) 0) noLink) (all-at levels k _ g h) d),
           )
 
-  pub unusedFit-is : (unusedFit l ≡ true) ↔ ((s : ℕ) → s < seats → T (isFree (rosterIn l .state s)) → AsOpened l s)
+  pub unusedFit-is : (unusedFit l ≡ true) ↔ ((s : ℕ) → s < seats → T (isFree (seatsIn l .state s)) → AsOpened l s)
   unfolding unusedFit
   unusedFit-is = (
-    λ e s h t. asOpened-is s .0 (or-else (seated (rosterIn l) s) _ (all-at seats s _ e h) (true-not (isFree (rosterIn l .state s)) t)),
-    λ f. all-from seats _ (λ s h. either (seated (rosterIn l) s) _ (λ e. asOpened-is s .1 (f s h (not-true-T (isFree (rosterIn l .state s)) e)))),
+    λ e s h t. asOpened-is s .0 (or-else (seated (seatsIn l) s) _ (all-at seats s _ e h) (true-not (isFree (seatsIn l .state s)) t)),
+    λ f. all-from seats _ (λ s h. either (seated (seatsIn l) s) _ (λ e. asOpened-is s .1 (f s h (not-true-T (isFree (seatsIn l .state s)) e)))),
   )
 
   abbrev sameNumber : (x y : ℕ) → Bool
-  sameNumber x y = seated (rosterIn l) x && (seated (rosterIn l) y && eqb (rosterIn l .number x) (rosterIn l .number y))
+  sameNumber x y = seated (seatsIn l) x && (seated (seatsIn l) y && eqb (seatsIn l .number x) (seatsIn l .number y))
 
   sameNumber-is : (x y : ℕ)
-      → (sameNumber x y ≡ true) ↔ (T (seated (rosterIn l) x) × T (seated (rosterIn l) y) × (rosterIn l .number x ≡ rosterIn l .number y))
-  sameNumber-is x y = two-and (seated (rosterIn l) x) (seated (rosterIn l) y) (rosterIn l .number x) (rosterIn l .number y)
+      → (sameNumber x y ≡ true) ↔ (T (seated (seatsIn l) x) × T (seated (seatsIn l) y) × (seatsIn l .number x ≡ seatsIn l .number y))
+  sameNumber-is x y = two-and (seated (seatsIn l) x) (seated (seatsIn l) y) (seatsIn l .number x) (seatsIn l .number y)
 
-  pub numbersDiffer-is : (numbersDiffer l ≡ true) ↔ ((x y : ℕ) → x < seats → y < x → T (seated (rosterIn l) x) → T (seated (rosterIn l) y)
-      → rosterIn l .number x ≡ rosterIn l .number y → ⊥)
+  pub numbersDiffer-is : (numbersDiffer l ≡ true) ↔ ((x y : ℕ) → x < seats → y < x → T (seated (seatsIn l) x) → T (seated (seatsIn l) y)
+      → seatsIn l .number x ≡ seatsIn l .number y → ⊥)
   unfolding numbersDiffer
   numbersDiffer-is = (
     λ e x y h g s t n. true-false (sameNumber-is x y .1 (s, t, n)) (not-true (sameNumber x y) (all-at x y _ (all-at seats x _ e h) g)),
@@ -156,7 +156,7 @@ module _ (l : List ℕ) where
   )
 
   pub messagesFit-is : (messagesFit l ≡ true)
-      ↔ ((i : ℕ) → i < messages → T (bitSet l pendingFrom i) → T (messageOk width (rosterIn l) (messageAt seats width i)))
+      ↔ ((i : ℕ) → i < messages → T (bitSet l pendingFrom i) → T (messageOk width (seatsIn l) (messageAt seats width i)))
   unfolding messagesFit
   messagesFit-is = (
     λ e i h t. true-T (or-else (not (bitSet l pendingFrom i)) _ (all-at messages i _ e h) (true-not (bitSet l pendingFrom i) t)),

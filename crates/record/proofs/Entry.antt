@@ -11,10 +11,10 @@ use lib.Dec.{eqb, ltb}
 use lib.ListN.{length, set, replicate}
 use borrow.Author.Tests.{lt-ltb, le-ltb, eq-eqb, ne-eqb}
 use borrow.Rule.Slice.PartMut.{putMid}
-use Rattle.memory.specs.Loops.{tabulate, tabulateFrom}
+use Rattle.base.specs.Loops.{tabulate, tabulateFrom}
 use Rattle.memory.specs.Bytes.{putNumber, digit}
-use Rattle.memory.proofs.Cases.{lt-or-ge, eq-or-ne, and-true, and-false}
-use Rattle.memory.proofs.Tabulate.{length-tabulate, getD-tabulate}
+use Rattle.base.proofs.Cases.{lt-or-ge, eq-or-ne, and-true, and-false}
+use Rattle.base.proofs.Tabulate.{length-tabulate, getD-tabulate}
 use Rattle.graph.specs.Side.{Side, left, right}
 use Rattle.protocol.specs.Rules.{SeatState, free}
 use Rattle.protocol.specs.State.{Meaning}
@@ -63,11 +63,11 @@ one-entry {M} {N} s h f =
 -- the entry of seat s as a lot without links
 abbrev pub withLot : Meaning → (s : ℕ) → SeatState → (n v : ℕ) → Meaning
 withLot M s st n v = record {
-  roster = record {
-    phase = M .roster .phase;
-    state = at s st (M .roster .state);
-    number = at s n (M .roster .number);
-    vector = at s v (M .roster .vector);
+  seats = record {
+    phase = M .seats .phase;
+    state = at s st (M .seats .state);
+    number = at s n (M .seats .number);
+    vector = at s v (M .seats .vector);
   };
   link = λ x k d. cond (eqb x s) none (M .link x k d);
   pending = M .pending;
@@ -164,9 +164,9 @@ module _ (M : Meaning) (s : ℕ) (st : SeatState) (n v : ℕ) (h : s < seats) wh
   outside : Agree (withLot M s st n v) M (Outside (entryAt s) entrySize)
   outside = record {
     phase = λ q. refl;
-    state = λ x p q. at-other s st (M .roster .state) x (λ e. ⊎-elim (λ u. omega arith) (λ u. omega arith) q);
-    number = λ x j p g q. at-other s n (M .roster .number) x (λ e. ⊎-elim (λ u. omega arith) (λ u. omega arith) q);
-    vector = λ x p q. at-other s v (M .roster .vector) x (λ e. ⊎-elim (λ u. omega arith) (λ u. omega arith) q);
+    state = λ x p q. at-other s st (M .seats .state) x (λ e. ⊎-elim (λ u. omega arith) (λ u. omega arith) q);
+    number = λ x j p g q. at-other s n (M .seats .number) x (λ e. ⊎-elim (λ u. omega arith) (λ u. omega arith) q);
+    vector = λ x p q. at-other s v (M .seats .vector) x (λ e. ⊎-elim (λ u. omega arith) (λ u. omega arith) q);
     link = λ x k d p g q. let o = sideNumber-lt d in rw (ne-eqb x s (λ e. ⊎-elim (λ u. omega arith) (λ u. omega arith) q));
     pending = λ i p q. refl;
   }

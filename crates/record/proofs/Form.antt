@@ -10,15 +10,15 @@ use lib.ListN.{length, getD}
 use borrow.Author.Tests.{lt-ltb, le-ltb}
 use Rattle.memory.specs.Bytes.{AreBytes, numberAt}
 use Rattle.memory.specs.Bits.{bitSet}
-use Rattle.memory.proofs.Cases.{and-false}
+use Rattle.base.proofs.Cases.{and-false}
 use Rattle.graph.specs.Side.{Side}
 use Rattle.graph.specs.Vector.{width}
-use Rattle.graph.proofs.Tests.{T-true, and-fst}
+use Rattle.base.proofs.Tests.{T-true, and-fst}
 use Rattle.protocol.specs.Message.{Msg}
 use Rattle.protocol.specs.Numbering.{exists, place, messageAt}
 use Rattle.protocol.specs.Rules.{free}
 use Rattle.record.specs.Layout.{seats, levels, noLink, messages, phaseAt, stateAt, numberFrom, vectorAt, linkAt, pendingFrom, size}
-use Rattle.record.specs.Meaning.{phaseOf, stateOf, linkOf, rosterIn, meaning}
+use Rattle.record.specs.Meaning.{phaseOf, stateOf, linkOf, seatsIn, meaning}
 use Rattle.record.proofs.Places.{exists-at, place-at}
 
 pub record Form (l : List ℕ) : Type 0 where
@@ -29,25 +29,25 @@ pub record Form (l : List ℕ) : Type 0 where
   pub links : (s k : ℕ) (d : Side) → s < seats → k < levels → (getD l (linkAt s k d) 0 ≡ noLink) ⊎ (getD l (linkAt s k d) 0 < seats)
 
 module _ (l : List ℕ) where
-  pub meaning-roster : meaning l .roster ≡ rosterIn l
+  pub meaning-seats : meaning l .seats ≡ seatsIn l
   unfolding meaning
-  meaning-roster = refl
+  meaning-seats = refl
 
   -- what exists
-  pub meaning-phase : meaning l .roster .phase ≡ phaseOf (getD l phaseAt 0)
-  unfolding meaning rosterIn
+  pub meaning-phase : meaning l .seats .phase ≡ phaseOf (getD l phaseAt 0)
+  unfolding meaning seatsIn
   meaning-phase = refl
 
-  pub meaning-state : (s : ℕ) → s < seats → meaning l .roster .state s ≡ stateOf (getD l (stateAt s) 0)
-  unfolding meaning rosterIn
+  pub meaning-state : (s : ℕ) → s < seats → meaning l .seats .state s ≡ stateOf (getD l (stateAt s) 0)
+  unfolding meaning seatsIn
   meaning-state s h = rw (lt-ltb s seats h)
 
-  pub meaning-number : (s : ℕ) → s < seats → meaning l .roster .number s ≡ numberAt l (numberFrom s) 8
-  unfolding meaning rosterIn
+  pub meaning-number : (s : ℕ) → s < seats → meaning l .seats .number s ≡ numberAt l (numberFrom s) 8
+  unfolding meaning seatsIn
   meaning-number s h = rw (lt-ltb s seats h)
 
-  pub meaning-vector : (s : ℕ) → s < seats → meaning l .roster .vector s ≡ getD l (vectorAt s) 0
-  unfolding meaning rosterIn
+  pub meaning-vector : (s : ℕ) → s < seats → meaning l .seats .vector s ≡ getD l (vectorAt s) 0
+  unfolding meaning seatsIn
   meaning-vector s h = rw (lt-ltb s seats h)
 
   pub meaning-link : (s k : ℕ) (d : Side) → s < seats → k < levels → meaning l .link s k d ≡ linkOf (getD l (linkAt s k d) 0)
@@ -63,16 +63,16 @@ module _ (l : List ℕ) where
   meaning-bit i h = meaning-pending (messageAt seats width i) (exists-at i h) ∙ ap (bitSet l pendingFrom) (place-at i h)
 
   -- and what does not exist
-  pub no-seat-state : (s : ℕ) → seats ≤ s → meaning l .roster .state s ≡ free
-  unfolding meaning rosterIn
+  pub no-seat-state : (s : ℕ) → seats ≤ s → meaning l .seats .state s ≡ free
+  unfolding meaning seatsIn
   no-seat-state s h = rw (le-ltb s seats h)
 
-  pub no-seat-number : (s : ℕ) → seats ≤ s → meaning l .roster .number s ≡ 0
-  unfolding meaning rosterIn
+  pub no-seat-number : (s : ℕ) → seats ≤ s → meaning l .seats .number s ≡ 0
+  unfolding meaning seatsIn
   no-seat-number s h = rw (le-ltb s seats h)
 
-  pub no-seat-vector : (s : ℕ) → seats ≤ s → meaning l .roster .vector s ≡ 0
-  unfolding meaning rosterIn
+  pub no-seat-vector : (s : ℕ) → seats ≤ s → meaning l .seats .vector s ≡ 0
+  unfolding meaning seatsIn
   no-seat-vector s h = rw (le-ltb s seats h)
 
   pub no-seat-link : (s k : ℕ) (d : Side) → seats ≤ s → meaning l .link s k d ≡ none

@@ -8,38 +8,38 @@ use native.Mathlib.Omega.{arith}
 use lib.ListN.{length, getD, set, length-set}
 use lib.Seq.{getD-set-same, getD-set-other}
 use Rattle.memory.specs.Bytes.{digit}
-use Rattle.memory.proofs.Cases.{lt-or-ge, eq-or-ne}
-use Rattle.memory.proofs.Tabulate.{tabulate-is, tabulate-same}
+use Rattle.base.proofs.Cases.{lt-or-ge, eq-or-ne}
+use Rattle.base.proofs.Tabulate.{tabulate-is, tabulate-same}
 use Rattle.memory.proofs.Packed.{packed-same}
 use Rattle.graph.specs.Side.{Side}
 use Rattle.graph.specs.Graph.{Links}
 use Rattle.graph.specs.Vector.{width}
 use Rattle.protocol.specs.Message.{Msg}
 use Rattle.protocol.specs.Numbering.{messageAt}
-use Rattle.protocol.specs.State.{Roster, Meaning}
+use Rattle.protocol.specs.State.{Seats, Meaning}
 use Rattle.record.specs.Layout.{seats, levels, messages, phaseAt, stateAt, numberFrom, vectorAt, linkAt, pendingFrom, pendingSize, size}
 use Rattle.record.specs.Meaning.{phaseByte, stateByte, linkByte, pendingByte, byteOf, bytesOf}
 use Rattle.record.proofs.Places.{by-place, at-phase, at-state, at-number, at-vector, at-link, at-pending, length-bytesOf, getD-bytesOf}
 
 -- two meanings agree at the places of Q
 pub record Agree (M N : Meaning) (Q : ℕ → Type 0) : Type 0 where
-  pub phase : Q phaseAt → M .roster .phase ≡ N .roster .phase
-  pub state : (s : ℕ) → s < seats → Q (stateAt s) → M .roster .state s ≡ N .roster .state s
-  pub number : (s j : ℕ) → s < seats → j < 8 → Q (numberFrom s + j) → M .roster .number s ≡ N .roster .number s
-  pub vector : (s : ℕ) → s < seats → Q (vectorAt s) → M .roster .vector s ≡ N .roster .vector s
+  pub phase : Q phaseAt → M .seats .phase ≡ N .seats .phase
+  pub state : (s : ℕ) → s < seats → Q (stateAt s) → M .seats .state s ≡ N .seats .state s
+  pub number : (s j : ℕ) → s < seats → j < 8 → Q (numberFrom s + j) → M .seats .number s ≡ N .seats .number s
+  pub vector : (s : ℕ) → s < seats → Q (vectorAt s) → M .seats .vector s ≡ N .seats .vector s
   pub link : (s k : ℕ) (d : Side) → s < seats → k < levels → Q (linkAt s k d) → M .link s k d ≡ N .link s k d
   pub pending : (i : ℕ) → i < messages → Q (pendingFrom + i / 8)
       → M .pending (messageAt seats width i) ≡ N .pending (messageAt seats width i)
 
 -- they differ in links alone, or in pending messages alone
-module _ {M N : Meaning} {Q : ℕ → Type 0} (r : M .roster ≡ N .roster) where
+module _ {M N : Meaning} {Q : ℕ → Type 0} (r : M .seats ≡ N .seats) where
   pub agree-links : M .pending ≡ N .pending
       → ((s k : ℕ) (d : Side) → s < seats → k < levels → Q (linkAt s k d) → M .link s k d ≡ N .link s k d) → Agree M N Q
   agree-links p l = record {
-    phase = λ q. ap (λ (x : Roster). x .phase) r;
-    state = λ s h q. ap (λ (x : Roster). x .state s) r;
-    number = λ s j h g q. ap (λ (x : Roster). x .number s) r;
-    vector = λ s h q. ap (λ (x : Roster). x .vector s) r;
+    phase = λ q. ap (λ (x : Seats). x .phase) r;
+    state = λ s h q. ap (λ (x : Seats). x .state s) r;
+    number = λ s j h g q. ap (λ (x : Seats). x .number s) r;
+    vector = λ s h q. ap (λ (x : Seats). x .vector s) r;
     link = l;
     pending = λ i h q. ap (λ (x : Msg → Bool). x (messageAt seats width i)) p;
   }
@@ -48,10 +48,10 @@ module _ {M N : Meaning} {Q : ℕ → Type 0} (r : M .roster ≡ N .roster) wher
       → ((i : ℕ) → i < messages → Q (pendingFrom + i / 8) → M .pending (messageAt seats width i) ≡ N .pending (messageAt seats width i))
       → Agree M N Q
   agree-pending l p = record {
-    phase = λ q. ap (λ (x : Roster). x .phase) r;
-    state = λ s h q. ap (λ (x : Roster). x .state s) r;
-    number = λ s j h g q. ap (λ (x : Roster). x .number s) r;
-    vector = λ s h q. ap (λ (x : Roster). x .vector s) r;
+    phase = λ q. ap (λ (x : Seats). x .phase) r;
+    state = λ s h q. ap (λ (x : Seats). x .state s) r;
+    number = λ s j h g q. ap (λ (x : Seats). x .number s) r;
+    vector = λ s h q. ap (λ (x : Seats). x .vector s) r;
     link = λ s k d h g q. ap (λ (x : Links). x s k d) l;
     pending = p;
   }

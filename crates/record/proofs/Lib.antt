@@ -15,3 +15,6 @@ pub mod Sound
 pub mod Opened
 pub mod Refused
 pub mod Reading
+pub mod SeatBytes
+pub mod Call
+pub mod Accepted

@@ -9,7 +9,7 @@ use borrow.Author.Tests.{lt-ltb, le-ltb}
 use Rattle.graph.specs.Side.{opp}
 use Rattle.record.specs.Layout.{seats, levels, entryAt}
 use Rattle.record.specs.Meaning.{linkOf, meaning}
-use Rattle.record.specs.Reading.{sideOfNumber}
+use Rattle.graph.specs.Side.{sideOfNumber}
 use Rattle.record.proofs.Places.{sideNumber-side}
 use Rattle.record.proofs.Form.{meaning-link}
 

@@ -9,7 +9,7 @@ use native.Mathlib.Nat.{zero-div}
 use lib.ListN.{length, getD}
 use Rattle.memory.specs.Bytes.{digit}
 use Rattle.memory.specs.Bits.{packed}
-use Rattle.memory.proofs.Tabulate.{tabulate-is}
+use Rattle.base.proofs.Tabulate.{tabulate-is}
 use Rattle.graph.specs.Side.{Side}
 use Rattle.graph.specs.Vector.{width}
 use Rattle.protocol.specs.State.{nobody, opened}
@@ -18,19 +18,10 @@ use Rattle.protocol.proofs.KeepSound.{opened-sound}
 use Rattle.record.specs.Layout.{seats, levels, noLink, phaseAt, stateAt, numberFrom, vectorAt, linkAt, pendingFrom, pendingSize, size}
 use Rattle.record.specs.Meaning.{meaning, pendingByte, byteOf, bytesOf}
 use Rattle.record.specs.Sound.{sound}
+use Rattle.record.specs.inner.Opened.{IsOpened}
 use Rattle.record.proofs.Places.{by-place, at-phase, at-state, at-number, at-vector, at-link, at-pending, length-bytesOf, getD-bytesOf}
 use Rattle.record.proofs.Round.{meaning-bytes}
 use Rattle.record.proofs.Sound.{bytes-sound}
-
--- links are none, and every other byte is 0
-pub record IsOpened (l : List ℕ) : Type 0 where
-  pub sized : length l ≡ size
-  pub phase : getD l phaseAt 0 ≡ 0
-  pub states : (s : ℕ) → s < seats → getD l (stateAt s) 0 ≡ 0
-  pub numbers : (s j : ℕ) → s < seats → j < 8 → getD l (numberFrom s + j) 0 ≡ 0
-  pub vectors : (s : ℕ) → s < seats → getD l (vectorAt s) 0 ≡ 0
-  pub links : (s k : ℕ) (d : Side) → s < seats → k < levels → getD l (linkAt s k d) 0 ≡ noLink
-  pub pending : (b : ℕ) → b < pendingSize → getD l (pendingFrom + b) 0 ≡ 0
 
 digit-none : (n j : ℕ) → digit n 0 j ≡ 0
 unfolding digit

@@ -4,8 +4,8 @@ use mathlib.Core.Logic.{_≢_}
 use mathlib.Core.Option.{Option, none, some}
 use mathlib.Core.Bool.{Bool, true, false, not, _&&_, _||_}
 use mathlib.Core.List.{List, [], _∷_, _++_}
-use Rattle.memory.proofs.Cases.{and-true, and-false}
-use Rattle.graph.proofs.Tests.{T-true, not-T-false}
+use Rattle.base.proofs.Cases.{and-true, and-false}
+use Rattle.base.proofs.Tests.{T-true, not-T-false}
 use Rattle.protocol.specs.Message.{Msg, sameMsg, among}
 use Rattle.protocol.specs.Calls.{isTaken, pendingAfter}
 use Rattle.protocol.proofs.Message.{same-self, same-eq}

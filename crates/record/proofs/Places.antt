@@ -8,18 +8,19 @@ use lib.Dec.{T}
 use lib.ListN.{length, getD}
 use borrow.Author.Tests.{lt-ltb, le-ltb, ne-eqb}
 use Rattle.memory.specs.Bytes.{digit}
-use Rattle.memory.proofs.Cases.{lt-or-ge}
-use Rattle.memory.proofs.Tabulate.{length-tabulate, getD-tabulate}
+use Rattle.base.proofs.Cases.{lt-or-ge}
+use Rattle.base.proofs.Tabulate.{length-tabulate, getD-tabulate}
 use Rattle.graph.specs.Side.{Side, left, right}
 use Rattle.graph.specs.Vector.{width}
-use Rattle.protocol.specs.Message.{Msg, sideNumber}
+use Rattle.graph.specs.Side.{sideNumber}
+use Rattle.protocol.specs.Message.{Msg}
 use Rattle.protocol.specs.Numbering.{exists, count, place, messageAt}
 use Rattle.protocol.specs.State.{Meaning}
 use Rattle.protocol.proofs.Numbering.{sideNumber-lt, place-lt, exists-messageAt, place-messageAt}
 use Rattle.record.specs.Layout.{seats, levels, entrySize, messages, phaseAt, entryAt, stateAt, numberFrom, vectorAt, linkAt}
 use Rattle.record.specs.Layout.{pendingFrom, pendingSize, size}
 use Rattle.record.specs.Meaning.{phaseByte, stateByte, linkByte, entryByte, pendingByte, byteOf, bytesOf}
-use Rattle.record.specs.Reading.{sideOfNumber}
+use Rattle.graph.specs.Side.{sideOfNumber}
 
 -- the sizes
 pub messages-count : messages ≡ count seats width
@@ -98,17 +99,17 @@ link-once x k y j d e p q h =
 
 -- the byte at each place of an entry
 module _ (M : Meaning) (s : ℕ) where
-  pub entryByte-state : entryByte M s 0 ≡ stateByte (M .roster .state s)
+  pub entryByte-state : entryByte M s 0 ≡ stateByte (M .seats .state s)
   unfolding entryByte
   entryByte-state = refl
 
-  pub entryByte-number : (j : ℕ) → j < 8 → entryByte M s (1 + j) ≡ digit 8 (M .roster .number s) j
+  pub entryByte-number : (j : ℕ) → j < 8 → entryByte M s (1 + j) ≡ digit 8 (M .seats .number s) j
   unfolding entryByte
   entryByte-number j h =
       let e : 1 + j - 1 ≡ j = omega arith in
       rw (ne-eqb (1 + j) 0 (λ e. omega arith), lt-ltb (1 + j) 9 (omega arith), e)
 
-  pub entryByte-vector : entryByte M s 9 ≡ M .roster .vector s
+  pub entryByte-vector : entryByte M s 9 ≡ M .seats .vector s
   unfolding entryByte
   entryByte-vector = refl
 
@@ -123,7 +124,7 @@ module _ (M : Meaning) (s : ℕ) where
 
 -- the byte at each place of the record
 module _ (M : Meaning) where
-  pub at-phase : byteOf M phaseAt ≡ phaseByte (M .roster .phase)
+  pub at-phase : byteOf M phaseAt ≡ phaseByte (M .seats .phase)
   unfolding byteOf
   at-phase = refl
 
@@ -135,13 +136,13 @@ module _ (M : Meaning) where
       let b : (i - 1) % entrySize ≡ j = omega arith in
       rw (ne-eqb i phaseAt (λ e. omega arith), lt-ltb i pendingFrom (omega arith), a, b)
 
-  pub at-state : (s : ℕ) → s < seats → byteOf M (stateAt s) ≡ stateByte (M .roster .state s)
+  pub at-state : (s : ℕ) → s < seats → byteOf M (stateAt s) ≡ stateByte (M .seats .state s)
   at-state s p = ap (byteOf M) (omega arith) ∙ at-entry s 0 p (omega arith) ∙ entryByte-state M s
 
-  pub at-number : (s j : ℕ) → s < seats → j < 8 → byteOf M (numberFrom s + j) ≡ digit 8 (M .roster .number s) j
+  pub at-number : (s j : ℕ) → s < seats → j < 8 → byteOf M (numberFrom s + j) ≡ digit 8 (M .seats .number s) j
   at-number s j p q = ap (byteOf M) (omega arith) ∙ at-entry s (1 + j) p (omega arith) ∙ entryByte-number M s j q
 
-  pub at-vector : (s : ℕ) → s < seats → byteOf M (vectorAt s) ≡ M .roster .vector s
+  pub at-vector : (s : ℕ) → s < seats → byteOf M (vectorAt s) ≡ M .seats .vector s
   at-vector s p = at-entry s 9 p (omega arith) ∙ entryByte-vector M s
 
   pub at-link : (s k : ℕ) (d : Side) → s < seats → k < levels → byteOf M (linkAt s k d) ≡ linkByte (M .link s k d)

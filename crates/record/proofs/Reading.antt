@@ -8,18 +8,19 @@ use mathlib.Core.List.{List, [], _∷_}
 use lib.Dec.{T}
 use lib.ListN.{length}
 use borrow.Author.Tests.{lt-ltb, not-true}
-use Rattle.memory.specs.Loops.{oneIf, all}
-use Rattle.memory.specs.Loops.{count as howMany}
+use Rattle.base.specs.Loops.{oneIf, all}
+use Rattle.base.specs.Loops.{count as howMany}
 use Rattle.memory.specs.Bytes.{AreBytes, zeros}
 use Rattle.memory.specs.Bits.{bitSet}
-use Rattle.memory.proofs.Cases.{same-test}
-use Rattle.memory.proofs.All.{all-at, all-from}
-use Rattle.memory.proofs.Count.{count-same, count-zero}
+use Rattle.base.proofs.Cases.{same-test}
+use Rattle.base.proofs.All.{all-at, all-from}
+use Rattle.base.proofs.Count.{count-same, count-zero}
 use Rattle.memory.proofs.Zeros.{zeros-bits}
 use Rattle.graph.specs.Side.{Side}
 use Rattle.graph.specs.Vector.{width}
-use Rattle.graph.proofs.Tests.{T-true}
-use Rattle.protocol.specs.Message.{Msg, Name, nameOf, named, sideNumber}
+use Rattle.base.proofs.Tests.{T-true}
+use Rattle.graph.specs.Side.{sideNumber}
+use Rattle.protocol.specs.Message.{Msg, Name, nameOf, named}
 use Rattle.protocol.specs.Numbering.{place, messageAt, somePending}
 use Rattle.protocol.specs.State.{Meaning, isFree, seated}
 use Rattle.protocol.specs.Table.{first, isPending}
@@ -27,7 +28,7 @@ use Rattle.protocol.specs.Sound.{messageOk}
 use Rattle.protocol.proofs.Message.{named-name}
 use Rattle.protocol.proofs.Numbering.{sideNumber-lt, messageAt-place, none-pending, pending-none}
 use Rattle.record.specs.Layout.{seats, levels, messages, pendingFrom, pendingSize, size}
-use Rattle.record.specs.Meaning.{meaning, rosterIn, phaseByte, stateByte, linkByte}
+use Rattle.record.specs.Meaning.{meaning, seatsIn, phaseByte, stateByte, linkByte}
 use Rattle.record.specs.Sound.{messagesFit, sound}
 use Rattle.record.specs.Reading.{noSuchSeat, emptySeat, noSuchLevel}
 use Rattle.record.specs.Reading.{lotRefusal, linkRefusal, recordRefusal, readLot, readLink, readMessage, readCounts}
@@ -76,7 +77,7 @@ module _ (l : List ℕ) where
   -- messages fit where none is pending, by the bits, the meaning or the count
   clear-fit : ((i : ℕ) → i < messages → bitSet l pendingFrom i ≡ false) → messagesFit l ≡ true
   unfolding messagesFit
-  clear-fit h = all-from messages (λ i. not (bitSet l pendingFrom i) || messageOk width (rosterIn l) (messageAt seats width i)) (λ i p. rw (h i p))
+  clear-fit h = all-from messages (λ i. not (bitSet l pendingFrom i) || messageOk width (seatsIn l) (messageAt seats width i)) (λ i p. rw (h i p))
 
   pub quiet-fit : somePending seats width (meaning l .pending) ≡ false → messagesFit l ≡ true
   quiet-fit e = clear-fit (λ i h. sym (meaning-bit l i h) ∙ none-pending seats width (meaning l .pending) e (messageAt seats width i) (exists-at i h))
@@ -102,10 +103,10 @@ module _ (l : List ℕ) (e : length l ≡ size) (s : sound l ≡ true) where
   linkRefusal-is x k d = record-goes l (noSuchSeat x ∷ noSuchLevel k d ∷ emptySeat l x ∷ []) passed
 
   -- a seated lot
-  module _ (x : ℕ) (h : x < seats) (t : T (seated (meaning l .roster) x)) where
-    taken : isFree (rosterIn l .state x) ≡ false
+  module _ (x : ℕ) (h : x < seats) (t : T (seated (meaning l .seats) x)) where
+    taken : isFree (seatsIn l .state x) ≡ false
     unfolding meaning
-    taken = not-true (isFree (rosterIn l .state x)) (T-true t)
+    taken = not-true (isFree (seatsIn l .state x)) (T-true t)
 
     pub lot-accepted : lotRefusal l x ≡ 0
     unfolding first
@@ -113,9 +114,9 @@ module _ (l : List ℕ) (e : length l ≡ size) (s : sound l ≡ true) where
 
     pub lot-read : readLot l x ≡ record {
       refused = 0;
-      state = stateByte (meaning l .roster .state x);
-      number = meaning l .roster .number x;
-      vector = meaning l .roster .vector x;
+      state = stateByte (meaning l .seats .state x);
+      number = meaning l .seats .number x;
+      vector = meaning l .seats .vector x;
     }
     unfolding readLot meaning
     lot-read = rw lot-accepted
@@ -130,10 +131,10 @@ module _ (l : List ℕ) (e : length l ≡ size) (s : sound l ≡ true) where
     link-read k d g = rw (link-accepted k (sideNumber d) g (sideNumber-lt d), side-sideNumber d)
 
   -- a free seat
-  pub free-read : (x : ℕ) → x < seats → T (isFree (meaning l .roster .state x))
+  pub free-read : (x : ℕ) → x < seats → T (isFree (meaning l .seats .state x))
       → readLot l x ≡ record { refused = 8; state = 0; number = 0; vector = 0 }
   unfolding readLot first meaning
-  free-read x h t = rw (lotRefusal-is x, lt-ltb x seats h, T-true {b = isFree (rosterIn l .state x)} t)
+  free-read x h t = rw (lotRefusal-is x, lt-ltb x seats h, T-true {b = isFree (seatsIn l .state x)} t)
 
   pub message-read : (n : Name) → readMessage l n ≡ record { refused = 0; pending = oneIf (isPending (meaning l .pending) (named n)) }
   unfolding readMessage
@@ -145,8 +146,8 @@ module _ (l : List ℕ) (e : length l ≡ size) (s : sound l ≡ true) where
 
   pub counts-read : readCounts l ≡ record {
     refused = 0;
-    lots = howMany seats (seated (meaning l .roster));
-    phase = phaseByte (meaning l .roster .phase);
+    lots = howMany seats (seated (meaning l .seats));
+    phase = phaseByte (meaning l .seats .phase);
     pending = pendingCount (meaning l);
   }
   unfolding readCounts meaning

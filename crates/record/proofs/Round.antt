@@ -10,14 +10,14 @@ use lib.Dec.{T}
 use lib.ListN.{getD, List·getD-eq-default}
 use Rattle.memory.specs.Bytes.{AreBytes, numberAt, digit}
 use Rattle.memory.specs.Bits.{hasBit, bitSet}
-use Rattle.memory.proofs.Cases.{lt-or-ge}
-use Rattle.memory.proofs.Tabulate.{tabulate-is}
+use Rattle.base.proofs.Cases.{lt-or-ge}
+use Rattle.base.proofs.Tabulate.{tabulate-is}
 use Rattle.memory.proofs.Digits.{digit-lt, numberAt-digits, digit-numberAt}
 use Rattle.memory.proofs.Packed.{packed-lt, packed-bits, packed-same}
 use Rattle.memory.proofs.Bitmap.{byte-packed}
 use Rattle.graph.specs.Side.{Side}
 use Rattle.graph.specs.Vector.{width}
-use Rattle.graph.proofs.Tests.{dec-T, not-T-false}
+use Rattle.base.proofs.Tests.{dec-T, not-T-false}
 use Rattle.protocol.specs.Message.{Msg}
 use Rattle.protocol.specs.Numbering.{exists, place, messageAt}
 use Rattle.protocol.specs.Rules.{SeatState, free, staying, leaving}
@@ -27,7 +27,7 @@ use Rattle.protocol.proofs.Numbering.{sideNumber-lt, messageAt-place}
 use Rattle.protocol.proofs.SoundFacts.{two-level, link-linked, pending-exists}
 use Rattle.record.specs.Layout.{seats, levels, noLink, messages, phaseAt, stateAt, numberFrom, vectorAt, linkAt}
 use Rattle.record.specs.Layout.{pendingFrom, pendingSize, size}
-use Rattle.record.specs.Meaning.{phaseOf, stateOf, linkOf, rosterIn, meaning}
+use Rattle.record.specs.Meaning.{phaseOf, stateOf, linkOf, seatsIn, meaning}
 use Rattle.record.specs.Meaning.{phaseByte, stateByte, linkByte, pendingByte, byteOf, bytesOf}
 use Rattle.record.proofs.Values.{phaseByte-phaseOf, phaseOf-phaseByte, stateByte-stateOf, stateOf-stateByte}
 use Rattle.record.proofs.Values.{linkByte-linkOf, linkOf-linkByte}
@@ -64,18 +64,18 @@ same-bytes f g e = sym (bytes-meaning f) ∙ ap bytesOf e ∙ bytes-meaning g
 
 -- the bytes of any meaning, read
 module _ (M : Meaning) where
-  pub read-phase : getD (bytesOf M) phaseAt 0 ≡ phaseByte (M .roster .phase)
+  pub read-phase : getD (bytesOf M) phaseAt 0 ≡ phaseByte (M .seats .phase)
   read-phase = getD-bytesOf M phaseAt (omega arith) ∙ at-phase M
 
-  pub read-state : (s : ℕ) → s < seats → getD (bytesOf M) (stateAt s) 0 ≡ stateByte (M .roster .state s)
+  pub read-state : (s : ℕ) → s < seats → getD (bytesOf M) (stateAt s) 0 ≡ stateByte (M .seats .state s)
   read-state s h = getD-bytesOf M (stateAt s) (omega arith) ∙ at-state M s h
 
-  pub read-number : (s : ℕ) → s < seats → M .roster .number s < 2 ^ numberBits → numberAt (bytesOf M) (numberFrom s) 8 ≡ M .roster .number s
+  pub read-number : (s : ℕ) → s < seats → M .seats .number s < 2 ^ numberBits → numberAt (bytesOf M) (numberFrom s) 8 ≡ M .seats .number s
   read-number s h b =
-      numberAt-digits (bytesOf M) (numberFrom s) 8 (M .roster .number s) b
+      numberAt-digits (bytesOf M) (numberFrom s) 8 (M .seats .number s) b
       (λ j q. getD-bytesOf M (numberFrom s + j) (omega arith) ∙ at-number M s j h q)
 
-  pub read-vector : (s : ℕ) → s < seats → getD (bytesOf M) (vectorAt s) 0 ≡ M .roster .vector s
+  pub read-vector : (s : ℕ) → s < seats → getD (bytesOf M) (vectorAt s) 0 ≡ M .seats .vector s
   read-vector s h = getD-bytesOf M (vectorAt s) (omega arith) ∙ at-vector M s h
 
   pub read-link : (s k : ℕ) (d : Side) → s < seats → k < levels → getD (bytesOf M) (linkAt s k d) 0 ≡ linkByte (M .link s k d)
@@ -94,14 +94,14 @@ module _ (M : Meaning) where
       read-bit (place seats width m) (place-within m x) ∙ ap (M .pending) (messageAt-place seats width m x)
 
   -- they are bytes if vectors and links are
-  pub bytes-bytes : ((s : ℕ) → s < seats → M .roster .vector s < 256)
+  pub bytes-bytes : ((s : ℕ) → s < seats → M .seats .vector s < 256)
       → ((s k : ℕ) (d : Side) → s < seats → k < levels → linkByte (M .link s k d) < 256) → AreBytes (bytesOf M)
   unfolding pendingByte
   bytes-bytes v k i = ⊎-elim
       (λ p. rw (getD-bytesOf M i p) (by-place (λ i. byteOf M i < 256)
-      (rw (at-phase M) (omega (arith, phaseByte-lt (M .roster .phase))))
-      (λ s p. rw (at-state M s p) (omega (arith, stateByte-lt (M .roster .state s))))
-      (λ s j p q. rw (at-number M s j p q) (digit-lt 8 (M .roster .number s) j))
+      (rw (at-phase M) (omega (arith, phaseByte-lt (M .seats .phase))))
+      (λ s p. rw (at-state M s p) (omega (arith, stateByte-lt (M .seats .state s))))
+      (λ s j p q. rw (at-number M s j p q) (digit-lt 8 (M .seats .number s) j))
       (λ s p. rw (at-vector M s p) (v s p))
       (λ s j d p q. rw (at-link M s j d p q) (k s j d p q))
       (λ b p. rw (at-pending M b p) (packed-lt 8 (λ j. M .pending (messageAt seats width (b * 8 + j))))) i p))
@@ -110,8 +110,8 @@ module _ (M : Meaning) where
 
 -- a sound meaning is that of its bytes
 module _ {M : Meaning} (h : Sound seats width M) where
-  pub out-free : (x : ℕ) → seats ≤ x → T (isFree (M .roster .state x))
-  out-free x p = by (M .roster .state x) (λ t. omega (arith, h .seats x t))
+  pub out-free : (x : ℕ) → seats ≤ x → T (isFree (M .seats .state x))
+  out-free x p = by (M .seats .state x) (λ t. omega (arith, h .seats x t))
     where
       by : (s : SeatState) → (T (not (isFree s)) → ⊥) → T (isFree s)
       by free f = tt
@@ -131,19 +131,19 @@ module _ {M : Meaning} (h : Sound seats width M) where
       by none e = e
       by (some y) e = absurd (omega (arith, two-level (link-linked h e .0)))
 
-  same-state : (x : ℕ) → meaning (bytesOf M) .roster .state x ≡ M .roster .state x
+  same-state : (x : ℕ) → meaning (bytesOf M) .seats .state x ≡ M .seats .state x
   same-state x = ⊎-elim
-      (λ p. meaning-state (bytesOf M) x p ∙ ap stateOf (read-state M x p) ∙ stateOf-stateByte (M .roster .state x))
-      (λ p. no-seat-state (bytesOf M) x p ∙ sym (isFree-free (M .roster .state x) (out-free x p)))
+      (λ p. meaning-state (bytesOf M) x p ∙ ap stateOf (read-state M x p) ∙ stateOf-stateByte (M .seats .state x))
+      (λ p. no-seat-state (bytesOf M) x p ∙ sym (isFree-free (M .seats .state x) (out-free x p)))
       (lt-or-ge x seats)
 
-  same-number : (x : ℕ) → meaning (bytesOf M) .roster .number x ≡ M .roster .number x
+  same-number : (x : ℕ) → meaning (bytesOf M) .seats .number x ≡ M .seats .number x
   same-number x = ⊎-elim
       (λ p. meaning-number (bytesOf M) x p ∙ read-number M x p (h .numbers x))
       (λ p. no-seat-number (bytesOf M) x p ∙ sym (h .unused x (out-free x p) .0))
       (lt-or-ge x seats)
 
-  same-vector : (x : ℕ) → meaning (bytesOf M) .roster .vector x ≡ M .roster .vector x
+  same-vector : (x : ℕ) → meaning (bytesOf M) .seats .vector x ≡ M .seats .vector x
   same-vector x = ⊎-elim
       (λ p. meaning-vector (bytesOf M) x p ∙ read-vector M x p)
       (λ p. no-seat-vector (bytesOf M) x p ∙ sym (h .unused x (out-free x p) .1))
@@ -168,10 +168,10 @@ module _ {M : Meaning} (h : Sound seats width M) where
       by (no x) = not-T-false (λ t. x (exists-pending (bytesOf M) m t)) ∙ sym (not-T-false (λ t. x (pending-exists h m t)))
 
   pub meaning-bytes : meaning (bytesOf M) ≡ M
-  unfolding meaning rosterIn
+  unfolding meaning seatsIn
   meaning-bytes = λ i. record {
-    roster = record {
-      phase = (ap phaseOf (read-phase M) ∙ phaseOf-phaseByte (M .roster .phase)) i;
+    seats = record {
+      phase = (ap phaseOf (read-phase M) ∙ phaseOf-phaseByte (M .seats .phase)) i;
       state = λ x. same-state x i;
       number = λ x. same-number x i;
       vector = λ x. same-vector x i;
@@ -184,7 +184,7 @@ module _ {M : Meaning} (h : Sound seats width M) where
   bytes-form = record {
     sized = length-bytesOf M;
     bytes = bytes-bytes M (λ s p. h .vectors s) (λ s k d p q. ⊎-elim (λ e. omega arith) (λ e. omega arith) (link-fits s k d));
-    phase = rw (read-phase M) (phaseByte-lt (M .roster .phase));
-    states = λ s p. rw (read-state M s p) (stateByte-lt (M .roster .state s));
+    phase = rw (read-phase M) (phaseByte-lt (M .seats .phase));
+    states = λ s p. rw (read-state M s p) (stateByte-lt (M .seats .state s));
     links = λ s k d p q. rw (read-link M s k d p q) (link-fits s k d);
   }

@@ -9,7 +9,7 @@ use native.Mathlib.Omega.{arith}
 use lib.Dec.{T}
 use lib.ListN.{getD}
 use Rattle.memory.specs.Bits.{hasBit, withBit, packed, putBit, setBit, clearBit}
-use Rattle.memory.proofs.Cases.{eq-or-ne}
+use Rattle.base.proofs.Cases.{eq-or-ne}
 use Rattle.memory.proofs.Bits.{hasBit-withBit, hasBit-withBit-other, withBit-lt}
 use Rattle.memory.proofs.Packed.{packed-lt, packed-bits, packed-is}
 use Rattle.graph.specs.Vector.{width}
@@ -19,6 +19,7 @@ use Rattle.protocol.specs.State.{Meaning}
 use Rattle.protocol.specs.Calls.{pendingAfter}
 use Rattle.protocol.proofs.Numbering.{messageAt-place}
 use Rattle.record.specs.Layout.{seats, messages, pendingFrom}
+use Rattle.record.specs.inner.Sent.{sentBits}
 use Rattle.record.specs.Meaning.{pendingByte, byteOf, bytesOf}
 use Rattle.record.proofs.Places.{place-within, place-at, at-pending, getD-bytesOf}
 use Rattle.record.proofs.Frame.{agree-pending, one-byte}
@@ -74,11 +75,7 @@ module _ (M : Meaning) (m : Msg) (x : T (exists seats width m)) where
   pub bytes-withoutMessage : bytesOf (withoutMessage M m) ≡ clearBit (bytesOf M) pendingFrom (place seats width m)
   bytes-withoutMessage = bytes-withBit M (pendingAfter [] (some m) (M .pending)) m x false (taken-same m (M .pending)) (taken-other m (M .pending))
 
--- messages sent one after the other, and one taken first
-unfoldable pub sentBits : List Msg → List ℕ → List ℕ
-sentBits [] l = l
-sentBits (m ∷ s) l = sentBits s (setBit l pendingFrom (place seats width m))
-
+-- a message taken first
 unfoldable pub takenBits : Option Msg → List ℕ → List ℕ
 takenBits none l = l
 takenBits (some m) l = clearBit l pendingFrom (place seats width m)

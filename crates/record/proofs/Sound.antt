@@ -10,11 +10,11 @@ use lib.Dec.{T}
 use lib.Pow.{pow-pos}
 use lib.ListN.{length, getD}
 use Rattle.memory.specs.Bytes.{AreBytes}
-use Rattle.memory.proofs.Cases.{lt-or-ge}
+use Rattle.base.proofs.Cases.{lt-or-ge}
 use Rattle.memory.proofs.Bytes.{numberAt-lt}
 use Rattle.graph.specs.Side.{Side}
 use Rattle.graph.specs.Vector.{width}
-use Rattle.graph.proofs.Tests.{some-inj, none-some}
+use Rattle.base.proofs.Tests.{some-inj, none-some}
 use Rattle.protocol.specs.Message.{Msg}
 use Rattle.protocol.specs.Numbering.{place, messageAt}
 use Rattle.protocol.specs.Rules.{SeatState}
@@ -22,7 +22,7 @@ use Rattle.protocol.specs.State.{Meaning, isFree, seated}
 use Rattle.protocol.specs.Sound.{Sound, linkOk, messageOk, numberBits}
 use Rattle.protocol.proofs.Numbering.{messageAt-place}
 use Rattle.record.specs.Layout.{seats, levels, noLink, messages, numberFrom, vectorAt, linkAt, size}
-use Rattle.record.specs.Meaning.{linkOf, rosterIn, meaning, bytesOf}
+use Rattle.record.specs.Meaning.{linkOf, seatsIn, meaning, bytesOf}
 use Rattle.record.specs.Sound.{sound}
 use Rattle.record.proofs.Places.{place-within}
 use Rattle.record.proofs.Links.{linkOf-some}
@@ -46,7 +46,7 @@ module _ {l : List ℕ} (bytes : AreBytes l) (f : Fits l) where
     links = λ s k d h g. ⊎-elim (λ q. inl q) (λ q. inr (q .0)) (f .links s k d h g);
   }
 
-  seat-in : (x : ℕ) → T (seated (meaning l .roster) x) → x < seats
+  seat-in : (x : ℕ) → T (seated (meaning l .seats) x) → x < seats
   seat-in x t = ⊎-elim (λ p. p) (λ p. absurd (subst (λ (s : SeatState). T (not (isFree s))) (no-seat-state l x p) t)) (lt-or-ge x seats)
 
   link-in : (x k y : ℕ) (d : Side) → meaning l .link x k d ≡ some y → (x < seats) × (k < levels)
@@ -55,20 +55,20 @@ module _ {l : List ℕ} (bytes : AreBytes l) (f : Fits l) where
     ⊎-elim (λ p. p) (λ p. none-some (no-level-link l x k d p) e) (lt-or-ge k levels),
   )
 
-  number-fits : (x : ℕ) → meaning l .roster .number x < 2 ^ numberBits
+  number-fits : (x : ℕ) → meaning l .seats .number x < 2 ^ numberBits
   number-fits x = ⊎-elim
       (λ p. rw (meaning-number l x p) (numberAt-lt l (numberFrom x) 8 bytes))
       (λ p. rw (no-seat-number l x p) (pow-pos numberBits))
       (lt-or-ge x seats)
 
-  vector-fits : (x : ℕ) → meaning l .roster .vector x < 2 ^ width
+  vector-fits : (x : ℕ) → meaning l .seats .vector x < 2 ^ width
   vector-fits x = ⊎-elim
       (λ p. rw (meaning-vector l x p) (bytes (vectorAt x)))
       (λ p. rw (no-seat-vector l x p) (pow-pos width))
       (lt-or-ge x seats)
 
-  unused-fits : (x : ℕ) → T (isFree (meaning l .roster .state x))
-      → (meaning l .roster .number x ≡ 0) × (meaning l .roster .vector x ≡ 0) × ((k : ℕ) (d : Side) → meaning l .link x k d ≡ none)
+  unused-fits : (x : ℕ) → T (isFree (meaning l .seats .state x))
+      → (meaning l .seats .number x ≡ 0) × (meaning l .seats .vector x ≡ 0) × ((k : ℕ) (d : Side) → meaning l .link x k d ≡ none)
   unfolding meaning
   unused-fits x t = ⊎-elim
       (λ p. let u = f .unused x p t in (
@@ -82,15 +82,15 @@ module _ {l : List ℕ} (bytes : AreBytes l) (f : Fits l) where
       (λ p. (no-seat-number l x p, no-seat-vector l x p, λ k d. no-seat-link l x k d p))
       (lt-or-ge x seats)
 
-  numbers-fit : (x y : ℕ) → T (seated (meaning l .roster) x) → T (seated (meaning l .roster) y)
-      → meaning l .roster .number x ≡ meaning l .roster .number y → x ≡ y
+  numbers-fit : (x y : ℕ) → T (seated (meaning l .seats) x) → T (seated (meaning l .seats) y)
+      → meaning l .seats .number x ≡ meaning l .seats .number y → x ≡ y
   unfolding meaning
   numbers-fit x y s t e = ⊎-elim
       (λ p. absurd (f .differ y x (seat-in y t) p t s (sym e)))
       (λ p. ⊎-elim (λ q. absurd (f .differ x y (seat-in x s) q s t e)) (λ q. omega arith) (lt-or-ge y x))
       (lt-or-ge x y)
 
-  link-fits : (x k y : ℕ) (d : Side) → meaning l .link x k d ≡ some y → T (linkOk width (meaning l .roster) x k d y)
+  link-fits : (x k y : ℕ) (d : Side) → meaning l .link x k d ≡ some y → T (linkOk width (meaning l .seats) x k d y)
   unfolding meaning
   link-fits x k y d e =
       let (p, q) = link-in x k y d e in
@@ -98,14 +98,14 @@ module _ {l : List ℕ} (bytes : AreBytes l) (f : Fits l) where
       let m = meaning-link l x k d p q in
       ⊎-elim
       (λ u. none-some (m ∙ linkOf-noLink b u) e)
-      (λ u. subst (λ (z : ℕ). T (linkOk width (rosterIn l) x k d z)) (some-inj (sym (m ∙ linkOf-some b (u .0)) ∙ e)) (u .1))
+      (λ u. subst (λ (z : ℕ). T (linkOk width (seatsIn l) x k d z)) (some-inj (sym (m ∙ linkOf-some b (u .0)) ∙ e)) (u .1))
       (f .links x k d p q)
 
-  message-fits : (m : Msg) → T (meaning l .pending m) → T (messageOk width (meaning l .roster) m)
+  message-fits : (m : Msg) → T (meaning l .pending m) → T (messageOk width (meaning l .seats) m)
   unfolding meaning
   message-fits m t =
       let x = exists-pending l m t in
-      subst (λ (n : Msg). T (messageOk width (rosterIn l) n)) (messageAt-place seats width m x)
+      subst (λ (n : Msg). T (messageOk width (seatsIn l) n)) (messageAt-place seats width m x)
       (f .messages (place seats width m) (place-within m x) (rw (meaning-pending l m x) at t))
 
   fits-sound : Sound seats width (meaning l)
@@ -120,7 +120,7 @@ module _ {l : List ℕ} (bytes : AreBytes l) (f : Fits l) where
   }
 
 module _ {l : List ℕ} (f : Form l) (h : Sound seats width (meaning l)) where
-  sound-unused : (s : ℕ) → s < seats → T (isFree (rosterIn l .state s)) → AsOpened l s
+  sound-unused : (s : ℕ) → s < seats → T (isFree (seatsIn l .state s)) → AsOpened l s
   unfolding meaning
   sound-unused s p t = let u = h .unused s t in (
     u .0,

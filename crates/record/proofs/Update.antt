@@ -15,7 +15,7 @@ use Rattle.graph.specs.Side.{Side}
 use Rattle.graph.specs.Graph.{Links}
 use Rattle.protocol.specs.Message.{Msg}
 use Rattle.protocol.specs.Rules.{SeatState, Change, keep, set as put}
-use Rattle.protocol.specs.State.{Phase, Roster, Meaning}
+use Rattle.protocol.specs.State.{Phase, Seats, Meaning}
 use Rattle.protocol.specs.Calls.{at, pendingAfter, applied}
 use Rattle.protocol.proofs.Numbering.{sideNumber-lt}
 use Rattle.protocol.proofs.Calls.{at-same, at-other, applied-at, applied-frame}
@@ -25,26 +25,26 @@ use Rattle.record.proofs.Places.{at-phase, at-state, at-number, at-vect
 use Rattle.record.proofs.Frame.{agree-links, one-byte, range-bytes}
 
 -- the changed meanings
-abbrev pub withRoster : Meaning → Roster → Meaning
-withRoster M r = record { roster = r; link = M .link; pending = M .pending }
+abbrev pub withSeats : Meaning → Seats → Meaning
+withSeats M r = record { seats = r; link = M .link; pending = M .pending }
 
 abbrev pub withPhase : Meaning → Phase → Meaning
-withPhase M p = withRoster M (record { phase = p; state = M .roster .state; number = M .roster .number; vector = M .roster .vector })
+withPhase M p = withSeats M (record { phase = p; state = M .seats .state; number = M .seats .number; vector = M .seats .vector })
 
 abbrev pub withState : Meaning → (s : ℕ) → SeatState → Meaning
 withState M s v =
-    withRoster M (record { phase = M .roster .phase; state = at s v (M .roster .state); number = M .roster .number; vector = M .roster .vector })
+    withSeats M (record { phase = M .seats .phase; state = at s v (M .seats .state); number = M .seats .number; vector = M .seats .vector })
 
 abbrev pub withNumber : Meaning → (s n : ℕ) → Meaning
 withNumber M s n =
-    withRoster M (record { phase = M .roster .phase; state = M .roster .state; number = at s n (M .roster .number); vector = M .roster .vector })
+    withSeats M (record { phase = M .seats .phase; state = M .seats .state; number = at s n (M .seats .number); vector = M .seats .vector })
 
 abbrev pub withVector : Meaning → (s v : ℕ) → Meaning
 withVector M s v =
-    withRoster M (record { phase = M .roster .phase; state = M .roster .state; number = M .roster .number; vector = at s v (M .roster .vector) })
+    withSeats M (record { phase = M .seats .phase; state = M .seats .state; number = M .seats .number; vector = at s v (M .seats .vector) })
 
 abbrev pub withLinks : Meaning → Links → Meaning
-withLinks M L = record { roster = M .roster; link = L; pending = M .pending }
+withLinks M L = record { seats = M .seats; link = L; pending = M .pending }
 
 -- a rule's change of the links of seat x
 abbrev pub withChange : Meaning → (x : ℕ) → Change → Meaning
@@ -54,7 +54,7 @@ abbrev pub withLink : Meaning → (x k : ℕ) → Side → Option ℕ → Meanin
 withLink M x k d o = withChange M x (put k d o)
 
 abbrev pub withPending : Meaning → (Msg → Bool) → Meaning
-withPending M p = record { roster = M .roster; link = M .link; pending = p }
+withPending M p = record { seats = M .seats; link = M .link; pending = p }
 
 -- a message sent, a message taken
 abbrev pub withMessage : Meaning → Msg → Meaning
@@ -77,7 +77,7 @@ module _ (M : Meaning) where
   pub bytes-withState : (s : ℕ) (v : SeatState) → s < seats → bytesOf (withState M s v) ≡ set (bytesOf M) (stateAt s) (stateByte v)
   bytes-withState s v h = one-byte (stateAt s) (stateByte v) (omega arith) new (record {
     phase = λ q. refl;
-    state = λ x g q. at-other s v (M .roster .state) x (λ e. q (ap stateAt e));
+    state = λ x g q. at-other s v (M .seats .state) x (λ e. q (ap stateAt e));
     number = λ x j g l q. refl;
     vector = λ x g q. refl;
     link = λ x k d g l q. refl;
@@ -85,20 +85,20 @@ module _ (M : Meaning) where
   })
     where
       new : byteOf (withState M s v) (stateAt s) ≡ stateByte v
-      new = at-state (withState M s v) s h ∙ ap stateByte (at-same s v (M .roster .state) s refl)
+      new = at-state (withState M s v) s h ∙ ap stateByte (at-same s v (M .seats .state) s refl)
 
   pub bytes-withVector : (s v : ℕ) → s < seats → bytesOf (withVector M s v) ≡ set (bytesOf M) (vectorAt s) v
   bytes-withVector s v h = one-byte (vectorAt s) v (omega arith) new (record {
     phase = λ q. refl;
     state = λ x g q. refl;
     number = λ x j g l q. refl;
-    vector = λ x g q. at-other s v (M .roster .vector) x (λ e. q (ap vectorAt e));
+    vector = λ x g q. at-other s v (M .seats .vector) x (λ e. q (ap vectorAt e));
     link = λ x k d g l q. refl;
     pending = λ i g q. refl;
   })
     where
       new : byteOf (withVector M s v) (vectorAt s) ≡ v
-      new = at-vector (withVector M s v) s h ∙ at-same s v (M .roster .vector) s refl
+      new = at-vector (withVector M s v) s h ∙ at-same s v (M .seats .vector) s refl
 
   pub bytes-withLink : (x k : ℕ) (d : Side) (o : Option ℕ) → x < seats → k < levels
       → bytesOf (withLink M x k d o) ≡ set (bytesOf M) (linkAt x k d) (linkByte o)
@@ -123,7 +123,7 @@ module _ (M : Meaning) where
   bytes-withNumber s n h = range-bytes (numberFrom s) 8 l (length-putNumber (bytesOf M) (numberFrom s) 8 n ∙ length-bytesOf M) (record {
     phase = λ q. refl;
     state = λ x g q. refl;
-    number = λ x j g p q. at-other s n (M .roster .number) x (λ e. ⊎-elim (λ u. omega arith) (λ u. omega arith) q);
+    number = λ x j g p q. at-other s n (M .seats .number) x (λ e. ⊎-elim (λ u. omega arith) (λ u. omega arith) q);
     vector = λ x g q. refl;
     link = λ x k d g p q. refl;
     pending = λ i g q. refl;
@@ -135,5 +135,5 @@ module _ (M : Meaning) where
       new : (j : ℕ) → j < 8 → byteOf (withNumber M s n) (numberFrom s + j) ≡ getD l (numberFrom s + j) 0
       new j p =
           at-number (withNumber M s n) s j h p
-          ∙ ap (λ (v : ℕ). digit 8 v j) (at-same s n (M .roster .number) s refl)
+          ∙ ap (λ (v : ℕ). digit 8 v j) (at-same s n (M .seats .number) s refl)
           ∙ sym (getD-putNumber (bytesOf M) (numberFrom s) 8 n j (rw (length-bytesOf M) (omega arith)) p)

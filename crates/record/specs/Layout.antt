@@ -1,7 +1,7 @@
 -- Sizes and offsets of a record (docs/RECORD.md): phase, entries, pending bits. Assumes nothing.
 use Prim.Native.Nat.{ℕ, _+_, _*_}
 use Rattle.graph.specs.Side.{Side}
-use Rattle.protocol.specs.Message.{sideNumber}
+use Rattle.graph.specs.Side.{sideNumber}
 
 abbrev pub seats : ℕ
 seats = 64

@@ -3,3 +3,6 @@ pub mod Layout
 pub mod Meaning
 pub mod Sound
 pub mod Reading
+pub mod Call
+pub mod Answer
+pub mod inner

@@ -7,12 +7,12 @@ use lib.Dec.{eqb, ltb}
 use lib.ListN.{getD}
 use Rattle.memory.specs.Bytes.{numberAt, digit}
 use Rattle.memory.specs.Bits.{bitSet, packed}
-use Rattle.memory.specs.Loops.{tabulate}
+use Rattle.base.specs.Loops.{tabulate}
 use Rattle.graph.specs.Side.{left, right}
 use Rattle.graph.specs.Vector.{width}
 use Rattle.protocol.specs.Numbering.{exists, place, messageAt}
 use Rattle.protocol.specs.Rules.{SeatState, free, staying, leaving}
-use Rattle.protocol.specs.State.{Phase, open-phase, clearing, Roster, Meaning}
+use Rattle.protocol.specs.State.{Phase, open-phase, clearing, Seats, Meaning}
 use Rattle.record.specs.Layout.{seats, levels, entrySize, noLink, phaseAt, stateAt, numberFrom, vectorAt, linkAt, pendingFrom, size}
 
 -- a byte as phase, state and link
@@ -26,8 +26,8 @@ unfoldable pub linkOf : ℕ → Option ℕ
 linkOf b = cond (ltb b seats) (some b) none
 
 -- phase and lots; seats that do not exist are free
-unfoldable pub rosterIn : List ℕ → Roster
-rosterIn l = record {
+unfoldable pub seatsIn : List ℕ → Seats
+seatsIn l = record {
   phase = phaseOf (getD l phaseAt 0);
   state = λ x. cond (ltb x seats) (stateOf (getD l (stateAt x) 0)) free;
   number = λ x. cond (ltb x seats) (numberAt l (numberFrom x) 8) 0;
@@ -37,7 +37,7 @@ rosterIn l = record {
 -- the meaning of the bytes
 unfoldable pub meaning : List ℕ → Meaning
 meaning l = record {
-  roster = rosterIn l;
+  seats = seatsIn l;
   link = λ x k d. cond (ltb x seats && ltb k levels) (linkOf (getD l (linkAt x k d) 0)) none;
   pending = λ m. exists seats width m && bitSet l pendingFrom (place seats width m);
 }
@@ -59,9 +59,9 @@ linkByte (some x) = x
 -- byte j of the entry of seat s
 unfoldable pub entryByte : Meaning → (s j : ℕ) → ℕ
 entryByte M s j =
-    cond (eqb j 0) (stateByte (M .roster .state s))
-    (cond (ltb j 9) (digit 8 (M .roster .number s) (j - 1))
-    (cond (eqb j 9) (M .roster .vector s)
+    cond (eqb j 0) (stateByte (M .seats .state s))
+    (cond (ltb j 9) (digit 8 (M .seats .number s) (j - 1))
+    (cond (eqb j 9) (M .seats .vector s)
     (linkByte (M .link s ((j - 10) / 2) (cond (eqb ((j - 10) % 2) 1) right left)))))
 
 -- byte b of the pending bits
@@ -71,7 +71,7 @@ pendingByte M b = packed 8 (λ j. M .pending (messageAt seats width (b * 8 + j))
 -- byte i of the record
 unfoldable pub byteOf : Meaning → ℕ → ℕ
 byteOf M i =
-    cond (eqb i phaseAt) (phaseByte (M .roster .phase))
+    cond (eqb i phaseAt) (phaseByte (M .seats .phase))
     (cond (ltb i pendingFrom) (entryByte M ((i - 1) / entrySize) ((i - 1) % entrySize)) (pendingByte M (i - pendingFrom)))
 
 -- the bytes of a meaning

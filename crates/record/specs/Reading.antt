@@ -5,14 +5,14 @@ use mathlib.Core.Bool.{not, cond, _||_}
 use mathlib.Core.List.{List, [], _∷_}
 use lib.Dec.{eqb, ltb}
 use lib.ListN.{length}
-use Rattle.memory.specs.Loops.{oneIf, count}
+use Rattle.base.specs.Loops.{oneIf, count}
 use Rattle.memory.specs.Bits.{bitSet}
-use Rattle.graph.specs.Side.{Side, left, right}
+use Rattle.graph.specs.Side.{sideOfNumber}
 use Rattle.protocol.specs.Message.{Name, named}
 use Rattle.protocol.specs.State.{opened, isFree, seated}
 use Rattle.protocol.specs.Table.{Row, row, first, isPending}
 use Rattle.record.specs.Layout.{seats, levels, messages, pendingFrom, size}
-use Rattle.record.specs.Meaning.{rosterIn, meaning, bytesOf, phaseByte, stateByte, linkByte}
+use Rattle.record.specs.Meaning.{seatsIn, meaning, bytesOf, phaseByte, stateByte, linkByte}
 use Rattle.record.specs.Sound.{sound}
 
 -- 1 wrong size, 2 unsound: first in every call but open, which has 1 alone
@@ -27,7 +27,7 @@ abbrev pub noSuchSeat : ℕ → Row
 noSuchSeat s = row 3 (not (ltb s seats))
 
 abbrev pub emptySeat : List ℕ → ℕ → Row
-emptySeat l s = row 8 (isFree (rosterIn l .state s))
+emptySeat l s = row 8 (isFree (seatsIn l .state s))
 
 -- the bytes after open: the empty record, or as before
 unfoldable pub openBytes : List ℕ → List ℕ
@@ -48,7 +48,7 @@ lotRefusal l s = first (wrongSize l ∷ unsound l ∷ noSuchSeat s ∷ emptySeat
 
 unfoldable pub readLot : List ℕ → (s : ℕ) → LotAnswer
 readLot l s = let n = lotRefusal l s in
-    cond (eqb n 0) (record { refused = 0; state = stateByte (rosterIn l .state s); number = rosterIn l .number s; vector = rosterIn l .vector s })
+    cond (eqb n 0) (record { refused = 0; state = stateByte (seatsIn l .state s); number = seatsIn l .number s; vector = seatsIn l .vector s })
     (record { refused = n; state = 0; number = 0; vector = 0 })
 
 -- reading a link: its seat or 255
@@ -61,9 +61,6 @@ noSuchLevel k d = row 12 (not (ltb k levels) || not (ltb d 2))
 
 unfoldable pub linkRefusal : List ℕ → (s k d : ℕ) → ℕ
 linkRefusal l s k d = first (wrongSize l ∷ unsound l ∷ noSuchSeat s ∷ noSuchLevel k d ∷ emptySeat l s ∷ [])
-
-abbrev pub sideOfNumber : ℕ → Side
-sideOfNumber d = cond (eqb d 1) right left
 
 unfoldable pub readLink : List ℕ → (s k d : ℕ) → LinkAnswer
 readLink l s k d = let n = linkRefusal l s k d in
@@ -92,8 +89,8 @@ unfoldable pub readCounts : List ℕ → CountAnswer
 readCounts l = let r = recordRefusal l in
     cond (eqb r 0) (record {
       refused = 0;
-      lots = count seats (seated (rosterIn l));
-      phase = phaseByte (rosterIn l .phase);
+      lots = count seats (seated (seatsIn l));
+      phase = phaseByte (seatsIn l .phase);
       pending = count messages (λ i. bitSet l pendingFrom i);
     })
     (record { refused = r; lots = 0; phase = 0; pending = 0 })

@@ -6,14 +6,14 @@ use mathlib.Core.List.{List}
 use lib.Dec.{eqb, ltb}
 use lib.ListN.{getD}
 use Rattle.memory.specs.Bits.{bitSet}
-use Rattle.memory.specs.Loops.{all}
+use Rattle.base.specs.Loops.{all}
 use Rattle.graph.specs.Side.{Side, left, right}
 use Rattle.graph.specs.Vector.{width}
 use Rattle.protocol.specs.Numbering.{messageAt}
 use Rattle.protocol.specs.State.{seated}
 use Rattle.protocol.specs.Sound.{linkOk, messageOk}
 use Rattle.record.specs.Layout.{seats, levels, noLink, messages, phaseAt, stateAt, linkAt, pendingFrom}
-use Rattle.record.specs.Meaning.{rosterIn}
+use Rattle.record.specs.Meaning.{seatsIn}
 
 module _ (l : List ℕ) where
   -- phase 0 or 1
@@ -27,27 +27,27 @@ module _ (l : List ℕ) where
   -- a free seat's entry is as opened
   unfoldable pub asOpened : ℕ → Bool
   asOpened s =
-      eqb (rosterIn l .number s) 0
-      && (eqb (rosterIn l .vector s) 0
+      eqb (seatsIn l .number s) 0
+      && (eqb (seatsIn l .vector s) 0
       && all levels (λ k. eqb (getD l (linkAt s k left) 0) noLink && eqb (getD l (linkAt s k right) 0) noLink))
 
   unfoldable pub unusedFit : Bool
-  unusedFit = all seats (λ s. seated (rosterIn l) s || asOpened s)
+  unusedFit = all seats (λ s. seated (seatsIn l) s || asOpened s)
 
   -- numbers differ
   unfoldable pub numbersDiffer : Bool
-  numbersDiffer = all seats (λ x. all x (λ y. not (seated (rosterIn l) x && (seated (rosterIn l) y && eqb (rosterIn l .number x) (rosterIn l .number y)))))
+  numbersDiffer = all seats (λ x. all x (λ y. not (seated (seatsIn l) x && (seated (seatsIn l) y && eqb (seatsIn l .number x) (seatsIn l .number y)))))
 
   -- a link is none, or names another seated lot on its own side sharing the level's bits
   unfoldable pub linkFits : (x k : ℕ) → Side → Bool
-  linkFits x k d = let b = getD l (linkAt x k d) 0 in eqb b noLink || (ltb b seats && linkOk width (rosterIn l) x k d b)
+  linkFits x k d = let b = getD l (linkAt x k d) 0 in eqb b noLink || (ltb b seats && linkOk width (seatsIn l) x k d b)
 
   unfoldable pub linksFit : Bool
   linksFit = all seats (λ x. all levels (λ k. linkFits x k left && linkFits x k right))
 
   -- pending messages name seated lots, fit their kind and stand in their kind's phase
   unfoldable pub messagesFit : Bool
-  messagesFit = all messages (λ i. not (bitSet l pendingFrom i) || messageOk width (rosterIn l) (messageAt seats width i))
+  messagesFit = all messages (λ i. not (bitSet l pendingFrom i) || messageOk width (seatsIn l) (messageAt seats width i))
 
   unfoldable pub sound : Bool
   sound = phaseFits && (statesFit && (unusedFit && (numbersDiffer && (linksFit && messagesFit))))

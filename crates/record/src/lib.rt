@@ -5,8 +5,10 @@ ghost use Prim.Native.Nat.{_+_, _*_, _<_};
 ghost use lib.ListN.{length, getD, set};
 ghost use Rattle.memory.specs.Bytes.{numberAt, putNumber};
 ghost use Rattle.memory.specs.Bits.{bitSet, setBit, clearBit};
+ghost use Rattle.record.specs.Answer.{answerOf};
 ghost use Rattle.record.specs.Layout.{seats, levels, messages, size, phaseAt, entryAt, stateAt, numberFrom, vectorAt, pendingFrom};
 
+pub mod lots;
 pub mod refusals;
 
 pub const SEATS: usize = 64;
@@ -148,4 +150,20 @@ pub fn take(rec: &mut [u8], i: usize)
     ensures { λ _. ⌜ now (rec .exit) ≡ clearBit (now (rec .entry)) pendingFrom i ⌝ }
 {
     memory::clear_bit(rec, PENDING, i);
+}
+
+// The answer of a changing call.
+pub enum Answer {
+    Done,
+    Refused(u8),
+}
+
+// The answer from the refusal number, 0 if the call is accepted.
+pub fn answer_of(refused: u8) -> Answer
+    ensures { λ r. ⌜ r ≡ answerOf refused ⌝ }
+{
+    if refused == 0 {
+        return Answer::Done;
+    }
+    Answer::Refused(refused)
 }

@@ -14,11 +14,12 @@ use Rattle.protocol.specs.Rules.{toLink, setting}
 use Rattle.protocol.specs.State.{entry}
 use Rattle.record.specs.Layout.{seats, pendingFrom, linkAt, vectorAt}
 use Rattle.record.specs.Meaning.{meaning, linkOf}
-use Rattle.record.specs.Reading.{sideOfNumber}
-use Rattle.record.proofs.Sent.{sentBits, sentBits-append}
+use Rattle.graph.specs.Side.{sideOfNumber}
+use Rattle.record.specs.inner.Sent.{sentBits}
+use Rattle.record.proofs.Sent.{sentBits-append}
 use Rattle.record.proofs.Form.{meaning-vector}
 use Rattle.record.proofs.Links.{side-opp}
-use Rattle.rules.specs.Done.{changed, done}
+use Rattle.rules.specs.inner.Done.{changed, done}
 use Rattle.rules.proofs.Sends.{send-more}
 use Rattle.rules.proofs.Sides.{bit-not}
 
@@ -45,7 +46,7 @@ pub setting-done : (l : List ℕ) (about level old other : ℕ) {w x y z : List 
     → y ≡ sentBits (toLink (linkOf old) (λ o. meet about o level)) x
     → z ≡ sentBits (cond (ltb level width)
     (probe about to level ∷ toLink (linkOf other) (λ o. pull o (not (bit width level v)) level (sideOfNumber (1 - d)))) []) y
-    → z ≡ done to (setting width (meaning l .roster .number) (meaning l .roster .vector) (entry (meaning l) to) to about level (sideOfNumber d)) l
+    → z ≡ done to (setting width (meaning l .seats .number) (meaning l .seats .vector) (entry (meaning l) to) to about level (sideOfNumber d)) l
 unfolding done sentBits changed setting
 setting-done l about level old other ht hd eo en ev ew ei ex ey ez =
     rw (sentBits-append, ← eo, ← side-opp _ hd, ← en, meaning-vector l _ ht, ← ev, ← ei, ← ew, ← ex, ← ey) ez

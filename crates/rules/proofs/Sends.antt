@@ -10,7 +10,7 @@ use Rattle.protocol.specs.Rules.{toLink}
 use Rattle.record.specs.Layout.{seats, pendingFrom}
 use Rattle.record.specs.Meaning.{linkOf}
 use Rattle.record.proofs.Links.{linkOf-some, linkOf-none}
-use Rattle.record.proofs.Sent.{sentBits}
+use Rattle.record.specs.inner.Sent.{sentBits}
 
 pub send-more : (m : Msg) (ms : List Msg) (l : List ℕ) → sentBits (m ∷ ms) l ≡ sentBits ms (setBit l pendingFrom (place seats width m))
 unfolding sentBits

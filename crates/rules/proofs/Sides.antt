@@ -8,7 +8,7 @@ use lib.Dec.{eqb}
 use Rattle.graph.specs.Vector.{sameBit}
 use Rattle.protocol.specs.Rules.{isStaying}
 use Rattle.protocol.specs.State.{stays}
-use Rattle.record.specs.Meaning.{rosterIn, meaning}
+use Rattle.record.specs.Meaning.{seatsIn, meaning}
 
 -- the other bit
 pub bit-not : (n : ℕ) → n < 2 → eqb (1 - n) 1 ≡ not (eqb n 1)
@@ -27,6 +27,6 @@ same-bits zero (suc (suc n)) h g = absurd (omega arith)
 same-bits (suc zero) (suc (suc n)) h g = absurd (omega arith)
 
 -- whether a lot stays, by the roster in the bytes
-pub staying-in : (l : List ℕ) (s : ℕ) → isStaying (meaning l .roster .state s) ≡ stays (rosterIn l) s
+pub staying-in : (l : List ℕ) (s : ℕ) → isStaying (meaning l .seats .state s) ≡ stays (seatsIn l) s
 unfolding meaning
 staying-in l s = refl

@@ -1,2 +1,2 @@
 -- What a delivery does to the bytes of a record.
-pub mod Done
+pub mod inner

@@ -13,18 +13,18 @@ ghost use Rattle.protocol.specs.State.{entry as entryOf};
 ghost use Rattle.protocol.specs.Calls.{rule};
 ghost use Rattle.record.specs.Layout.{seats, levels, size};
 ghost use Rattle.record.specs.Meaning.{meaning, linkOf};
-ghost use Rattle.record.specs.Reading.{sideOfNumber};
-ghost use Rattle.record.proofs.Sent.{sentBits};
-ghost use Rattle.rules.specs.Done.{done};
+ghost use Rattle.graph.specs.Side.{sideOfNumber};
+ghost use Rattle.record.specs.inner.Sent.{sentBits};
+ghost use Rattle.rules.specs.inner.Done.{done};
 
 mod reads;
 mod writes;
 
-use places::found_place;
-use places::meet_place;
-use places::none_place;
-use places::probe_place;
-use places::seek_place;
+use messages::found_place;
+use messages::meet_place;
+use messages::none_place;
+use messages::probe_place;
+use messages::seek_place;
 use reads::beyond;
 use reads::bit;
 use reads::link;
@@ -33,7 +33,7 @@ use reads::side_of;
 use record::NONE;
 use record::SEATS;
 use record::WIDTH;
-use roster::is_staying;
+use record::lots::is_staying;
 use writes::meet_about_link;
 use writes::probe_link;
 use writes::pull_link;
@@ -65,7 +65,7 @@ fn spread(
 // 1 MEET, the link is set to `about`.
 fn setting(rec: &mut [u8], to: usize, about: usize, level: usize, d: usize)
     requires { ⌜ (length (now rec) ≡ size) × (to < seats) × (about < seats) × (level < levels) × (d < 2) ⌝ }
-    ensures { λ _. ⌜ now (rec .exit) ≡ done to (settingOf width (meaning (now (rec .entry)) .roster .number) (meaning (now (rec .entry)) .roster .vector)
+    ensures { λ _. ⌜ now (rec .exit) ≡ done to (settingOf width (meaning (now (rec .entry)) .seats .number) (meaning (now (rec .entry)) .seats .vector)
         (entryOf (meaning (now (rec .entry))) to) to about level (sideOfNumber d)) (now (rec .entry)) ⌝ }
 {
     let away = 1 - d;

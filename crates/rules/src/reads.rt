@@ -7,7 +7,7 @@ ghost use Rattle.graph.specs.Side.{onSide, sideOf};
 ghost use Rattle.graph.specs.Vector.{width, bit as bitAt, shared};
 ghost use Rattle.record.specs.Layout.{seats, levels, size};
 ghost use Rattle.record.specs.Meaning.{meaning, linkOf};
-ghost use Rattle.record.specs.Reading.{sideOfNumber};
+ghost use Rattle.graph.specs.Side.{sideOfNumber};
 
 // The last bit of a vector; bit 0 is the highest.
 const LAST_BIT: usize = record::WIDTH - 1;
@@ -15,7 +15,7 @@ const LAST_BIT: usize = record::WIDTH - 1;
 // The side of seat x on which seat y lies.
 pub fn side_of(rec: &[u8], x: usize, y: usize) -> usize
     requires { ⌜ (length (now rec) ≡ size) × (x < seats) × (y < seats) ⌝ }
-    ensures { λ r. ⌜ (sideOfNumber r ≡ sideOf (meaning (now (rec .entry)) .roster .number x) (meaning (now (rec .entry)) .roster .number y))
+    ensures { λ r. ⌜ (sideOfNumber r ≡ sideOf (meaning (now (rec .entry)) .seats .number x) (meaning (now (rec .entry)) .seats .number y))
         × (r < 2) ⌝ }
 {
     if record::number(rec, x) < record::number(rec, y) {
@@ -28,7 +28,7 @@ pub fn side_of(rec: &[u8], x: usize, y: usize) -> usize
 // Whether seat y lies beyond seat x on side d: x is nearer.
 pub fn beyond(rec: &[u8], x: usize, y: usize, d: usize) -> bool
     requires { ⌜ (length (now rec) ≡ size) × (x < seats) × (y < seats) ⌝ }
-    ensures { λ r. ⌜ r ≡ onSide (sideOfNumber d) (meaning (now (rec .entry)) .roster .number x) (meaning (now (rec .entry)) .roster .number y) ⌝ }
+    ensures { λ r. ⌜ r ≡ onSide (sideOfNumber d) (meaning (now (rec .entry)) .seats .number x) (meaning (now (rec .entry)) .seats .number y) ⌝ }
 {
     if d == 1 {
         return record::number(rec, x) < record::number(rec, y);
@@ -39,7 +39,7 @@ pub fn beyond(rec: &[u8], x: usize, y: usize, d: usize) -> bool
 // How many bits the vectors of seats x and y share.
 pub fn share(rec: &[u8], x: usize, y: usize) -> usize
     requires { ⌜ (length (now rec) ≡ size) × (x < seats) × (y < seats) ⌝ }
-    ensures { λ r. ⌜ r ≡ shared width (meaning (now (rec .entry)) .roster .vector x) (meaning (now (rec .entry)) .roster .vector y) ⌝ }
+    ensures { λ r. ⌜ r ≡ shared width (meaning (now (rec .entry)) .seats .vector x) (meaning (now (rec .entry)) .seats .vector y) ⌝ }
 {
     graph::share(record::vector(rec, x), record::vector(rec, y)) as usize
 }

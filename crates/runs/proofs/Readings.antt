@@ -4,11 +4,12 @@ use mathlib.Core.Path.{_≡_, refl, ap, _∙_}
 use mathlib.Core.Logic.{_↔_}
 use mathlib.Core.Bool.{Bool, true, false, not}
 use mathlib.Core.List.{List}
-use Rattle.memory.specs.Loops.{oneIf, count}
+use Rattle.base.specs.Loops.{oneIf, count}
 use Rattle.graph.specs.Side.{Side}
 use Rattle.graph.specs.Vector.{width}
-use Rattle.graph.proofs.Tests.{true-T}
-use Rattle.protocol.specs.Message.{Name, named, sideNumber}
+use Rattle.base.proofs.Tests.{true-T}
+use Rattle.graph.specs.Side.{sideNumber}
+use Rattle.protocol.specs.Message.{Name, named}
 use Rattle.protocol.specs.Numbering.{somePending}
 use Rattle.protocol.specs.State.{Meaning, isFree, seated}
 use Rattle.protocol.specs.Table.{isPending}
@@ -26,8 +27,8 @@ use Rattle.runs.specs.Run.{lotOf}
 unfoldable pub countsOf : Meaning → CountAnswer
 countsOf M = record {
   refused = 0;
-  lots = count seats (seated (M .roster));
-  phase = phaseByte (M .roster .phase);
+  lots = count seats (seated (M .seats));
+  phase = phaseByte (M .seats .phase);
   pending = pendingCount M;
 }
 
@@ -35,11 +36,11 @@ module _ (M : Meaning) (h : Sound seats width M) where
   abbrev b : List ℕ
   b = bytesOf M
 
-  pub read-lot : (x : ℕ) → x < seats → readLot b x ≡ lotOf (M .roster) x
+  pub read-lot : (x : ℕ) → x < seats → readLot b x ≡ lotOf (M .seats) x
   unfolding lotOf
-  read-lot x p = by (isFree (M .roster .state x)) refl
+  read-lot x p = by (isFree (M .seats .state x)) refl
     where
-      by : (f : Bool) → isFree (M .roster .state x) ≡ f → readLot b x ≡ lotOf (M .roster) x
+      by : (f : Bool) → isFree (M .seats .state x) ≡ f → readLot b x ≡ lotOf (M .seats) x
       by true e = free-read b (length-bytesOf M) (bytes-sound h) x p (rw (meaning-bytes h) (true-T e)) ∙ rw e
       by false e = lot-read b (length-bytesOf M) (bytes-sound h) x p (rw (meaning-bytes h) (true-T (ap not e))) ∙ rw (meaning-bytes h, e)
 
@@ -51,7 +52,7 @@ module _ (M : Meaning) (h : Sound seats width M) where
   read-counts = counts-read b (length-bytesOf M) (bytes-sound h) ∙ rw (meaning-bytes h)
 
   -- a seated lot's link
-  pub read-link : (x k : ℕ) (d : Side) → x < seats → k < levels → isFree (M .roster .state x) ≡ false
+  pub read-link : (x k : ℕ) (d : Side) → x < seats → k < levels → isFree (M .seats .state x) ≡ false
       → readLink b x k (sideNumber d) ≡ record { refused = 0; seat = linkByte (M .link x k d) }
   read-link x k d p q f =
       link-read b (length-bytesOf M) (bytes-sound h) x p (rw (meaning-bytes h) (true-T (ap not f))) k d q ∙ rw (meaning-bytes h)

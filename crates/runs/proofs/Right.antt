@@ -9,20 +9,20 @@ use lib.ListN.{length}
 use borrow.Author.Tests.{lt-ltb, eq-eqb}
 use Rattle.graph.specs.Vector.{width}
 use Rattle.graph.specs.Graph.{IsGraph}
-use Rattle.graph.proofs.Tests.{not-T-false}
-use Rattle.protocol.specs.State.{open-phase, Roster, Meaning, isFree, seated, member, members}
+use Rattle.base.proofs.Tests.{not-T-false}
+use Rattle.protocol.specs.State.{open-phase, Seats, Meaning, isFree, seated, member, members}
 use Rattle.protocol.specs.Table.{Call, first}
 use Rattle.protocol.specs.Sound.{Sound}
 use Rattle.protocol.specs.Run as protocol
-use Rattle.protocol.specs.Run.{AllInRange, logOf, rosterOf, Settled}
+use Rattle.protocol.specs.Run.{AllInRange, logOf, rosterOf, NothingPending}
 use Rattle.protocol.proofs.Reached.{members-laws}
 use Rattle.protocol.proofs.Theorem as protocol-theorem
 use Rattle.protocol.proofs.Measure as measure
 use Rattle.record.specs.Layout.{seats, size}
-use Rattle.record.specs.Meaning.{rosterIn, bytesOf}
+use Rattle.record.specs.Meaning.{seatsIn, bytesOf}
 use Rattle.record.specs.Reading.{openRefusal, recordRefusal, lotRefusal}
 use Rattle.record.proofs.Places.{length-bytesOf}
-use Rattle.record.proofs.Form.{meaning-roster}
+use Rattle.record.proofs.Form.{meaning-seats}
 use Rattle.record.proofs.Round.{meaning-bytes}
 use Rattle.record.proofs.Sound.{bytes-sound}
 use Rattle.search.specs.Walk.{find}
@@ -31,28 +31,28 @@ use Rattle.search.specs.Right.{RightHolder}
 use Rattle.search.proofs.Holder.{find-holder}
 use Rattle.search.proofs.Check.{check-graph}
 use Rattle.find.specs.Find.{FindAnswer, findIn}
-use Rattle.audit.specs.Check.{checkIn}
+use Rattle.check_links.specs.Check.{checkIn}
 use Rattle.runs.specs.Run.{run, meant, roster}
 use Rattle.runs.proofs.Same.{Same, run-same}
 use Rattle.runs.proofs.Theorem.{open-sized}
 
 -- what check and find answer on the bytes of a sound meaning
 module _ (M : Meaning) (h : Sound seats width M) where
-  roster-bytes : rosterIn (bytesOf M) ≡ M .roster
-  roster-bytes = sym (meaning-roster (bytesOf M)) ∙ ap (λ (X : Meaning). X .roster) (meaning-bytes h)
+  seats-bytes : seatsIn (bytesOf M) ≡ M .seats
+  seats-bytes = sym (meaning-seats (bytesOf M)) ∙ ap (λ (X : Meaning). X .seats) (meaning-bytes h)
 
-  check-bytes : checkIn (bytesOf M) ≡ record { refused = 0; yes = check seats width (members (M .roster)) (M .link) }
+  check-bytes : checkIn (bytesOf M) ≡ record { refused = 0; yes = check seats width (members (M .seats)) (M .link) }
   unfolding checkIn recordRefusal first
-  check-bytes = rw (eq-eqb (length (bytesOf M)) size (length-bytesOf M), bytes-sound h, roster-bytes, meaning-bytes h)
+  check-bytes = rw (eq-eqb (length (bytesOf M)) size (length-bytesOf M), bytes-sound h, seats-bytes, meaning-bytes h)
 
-  find-bytes : (s x : ℕ) → T (seated (M .roster) s)
-      → findIn (bytesOf M) s x ≡ (let f = find (M .roster .number) (M .link) x seats width s in record { refused = 0; holder = f .holder; hops = f .hops })
+  find-bytes : (s x : ℕ) → T (seated (M .seats) s)
+      → findIn (bytesOf M) s x ≡ (let f = find (M .seats .number) (M .link) x seats width s in record { refused = 0; holder = f .holder; hops = f .hops })
   unfolding findIn lotRefusal first
   find-bytes s x m =
-      let f : isFree (M .roster .state s) ≡ false = not-T-false (T-not (isFree (M .roster .state s)) m) in
-      rw (eq-eqb (length (bytesOf M)) size (length-bytesOf M), bytes-sound h, lt-ltb s seats (h .seats s m), roster-bytes, f, meaning-bytes h)
+      let f : isFree (M .seats .state s) ≡ false = not-T-false (T-not (isFree (M .seats .state s)) m) in
+      rw (eq-eqb (length (bytesOf M)) size (length-bytesOf M), bytes-sound h, lt-ltb s seats (h .seats s m), seats-bytes, f, meaning-bytes h)
 
-module _ (l : List ℕ) (e : openRefusal l ≡ 0) (cs : List Call) (r : AllInRange seats width cs) (q : Settled seats width (meant (run l cs .history))) where
+module _ (l : List ℕ) (e : openRefusal l ≡ 0) (cs : List Call) (r : AllInRange seats width cs) (q : NothingPending seats width (meant (run l cs .history))) where
   abbrev M : Meaning
   M = protocol.run seats width cs .now
 
@@ -62,18 +62,18 @@ module _ (l : List ℕ) (e : openRefusal l ≡ 0) (cs : List Call) (r : AllInRan
   D : protocol.Demand3 seats width (measure.bound seats width) (protocol.run seats width cs)
   D = protocol-theorem.every-list seats width cs r
 
-  right : IsGraph seats width (members (M .roster)) (M .link)
-  right = rw (D .lots) (D .graph (subst (Settled seats width) (both .history) q))
+  right : IsGraph seats width (members (M .seats)) (M .link)
+  right = rw (D .lots) (D .graph (subst (NothingPending seats width) (both .history) q))
 
   pub checked : checkIn (run l cs .now) ≡ record { refused = 0; yes = true }
   checked = ap checkIn (both .now) ∙ check-bytes M (both .fine)
       ∙ ap (λ (b : Bool). record { refused = 0; yes = b }) (check-graph (λ x m. members-laws (both .fine) .seat x m) .1 right)
 
   -- the roster, as the log has it
-  who : M .roster ≡ rosterOf seats width (logOf (meant (run l cs .history)))
+  who : M .seats ≡ rosterOf seats width (logOf (meant (run l cs .history)))
   who = D .lots ∙ ap (λ (es : List protocol.Event). rosterOf seats width (logOf es)) (sym (both .history))
 
-  seated-members : (r : Roster) → r .phase ≡ open-phase → member r ≡ seated r
+  seated-members : (r : Seats) → r .phase ≡ open-phase → member r ≡ seated r
   unfolding member
   seated-members r p = rw p
 
@@ -81,12 +81,12 @@ module _ (l : List ℕ) (e : openRefusal l ≡ 0) (cs : List Call) (r : AllInRan
       → (findIn (run l cs .now) s x .refused ≡ 0)
       × RightHolder (seated (roster (run l cs .history))) (roster (run l cs .history) .number) x (findIn (run l cs .now) s x .holder)
   found p s x m =
-      let n : T (seated (M .roster) s) = subst (λ (r : Roster). T (seated r s)) (sym who) m in
+      let n : T (seated (M .seats) s) = subst (λ (r : Seats). T (seated r s)) (sym who) m in
       let a = ap (λ (b : List ℕ). findIn b s x) (both .now) ∙ find-bytes M (both .fine) s x n in
-      let o : member (M .roster) ≡ seated (M .roster) = seated-members (M .roster) (ap (λ (r : Roster). r .phase) who ∙ p) in
+      let o : member (M .seats) ≡ seated (M .seats) = seated-members (M .seats) (ap (λ (r : Seats). r .phase) who ∙ p) in
       let g = find-holder (members-laws (both .fine)) right (λ y z u v. refl) x s (rw o n) in (
         ap (λ (f : FindAnswer). f .refused) a,
-        subst (λ (r : Roster). RightHolder (seated r) (r .number) x (findIn (run l cs .now) s x .holder)) who
+        subst (λ (r : Seats). RightHolder (seated r) (r .number) x (findIn (run l cs .now) s x .holder)) who
             (rw (ap (λ (f : FindAnswer). f .holder) a)
-            (subst (λ (t : ℕ → Bool). RightHolder t (M .roster .number) x (find (M .roster .number) (M .link) x seats width s .holder)) o g)),
+            (subst (λ (t : ℕ → Bool). RightHolder t (M .seats .number) x (find (M .seats .number) (M .link) x seats width s .holder)) o g)),
       )

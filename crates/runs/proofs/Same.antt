@@ -18,8 +18,8 @@ use Rattle.record.specs.Layout.{seats, size}
 use Rattle.record.specs.Meaning.{meaning, bytesOf}
 use Rattle.record.specs.Reading.{openBytes}
 use Rattle.record.proofs.Round.{meaning-bytes}
-use Rattle.outcome.specs.Made.{Outcome, made}
-use Rattle.outcome.proofs.Bridge.{made-call}
+use Rattle.record.specs.Call.{Called, called}
+use Rattle.record.proofs.Call.{call-bytes}
 use Rattle.runs.specs.Run.{Standing, step, steps, run, meant, accepted}
 
 -- the same standing on the bytes and on the meaning, and the meaning is sound
@@ -32,15 +32,15 @@ step-same : (s : Standing) (t : protocol.Standing) → Same s t → (c : Call) �
 unfolding step protocol.step meant
 step-same s t h c r = record {
   fine = call-sound seats width (t .now) (h .fine) c r;
-  now = ap (λ (o : Outcome). o .bytes) both;
+  now = ap (λ (o : Called). o .bytes) both;
   history = λ i. record {
-    logged = record { made = c; refused = both i .refused };
+    logged = record { call = c; refused = both i .refused };
     before = (ap meaning (h .now) ∙ meaning-bytes (h .fine)) i;
   } ∷ h .history i;
 }
   where
-    both : made (s .now) c ≡ record { refused = call seats width (t .now) c .refused; bytes = bytesOf (call seats width (t .now) c .meaning) }
-    both = ap (λ (l : List ℕ). made l c) (h .now) ∙ made-call (t .now) (h .fine) c
+    both : called (s .now) c ≡ record { refused = call seats width (t .now) c .refused; bytes = bytesOf (call seats width (t .now) c .meaning) }
+    both = ap (λ (l : List ℕ). called l c) (h .now) ∙ call-bytes (t .now) (h .fine) c
 
 steps-same : (s : Standing) (t : protocol.Standing) → Same s t → (cs : List Call) → AllInRange seats width cs
     → Same (steps s cs) (protocol.steps seats width t cs)
@@ -57,5 +57,5 @@ pub accepted-same : (M : Meaning) → Sound seats width M → (ns : List Name) �
 unfolding accepted protocol.accepted
 accepted-same M h [] = refl
 accepted-same M h (n ∷ ns) =
-    ap (λ (o : Outcome). unlessRefused (o .refused) 0 1 + accepted (o .bytes) ns) (made-call M h (deliver n))
+    ap (λ (o : Called). unlessRefused (o .refused) 0 1 + accepted (o .bytes) ns) (call-bytes M h (deliver n))
     ∙ ap (λ (a : ℕ). unlessRefused (call seats width M (deliver n) .refused) 0 1 + a) (accepted-same _ (call-sound seats width M h (deliver n) tt) ns)

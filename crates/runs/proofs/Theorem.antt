@@ -9,16 +9,17 @@ use lib.Dec.{T, T-not, eqb}
 use lib.ListN.{length}
 use borrow.Author.Tests.{ne-eqb}
 use native.Mathlib.Decide.{ℕ-discrete}
-use Rattle.memory.specs.Loops.{oneIf, count}
+use Rattle.base.specs.Loops.{oneIf, count}
 use Rattle.graph.specs.Side.{Side}
 use Rattle.graph.specs.Vector.{width}
 use Rattle.graph.specs.Graph.{graph, IsGraph}
-use Rattle.graph.proofs.Tests.{not-T-false}
-use Rattle.protocol.specs.Message.{Msg, named, sideNumber}
-use Rattle.protocol.specs.State.{Roster, Meaning, isFree, seated, member, members}
+use Rattle.base.proofs.Tests.{not-T-false}
+use Rattle.graph.specs.Side.{sideNumber}
+use Rattle.protocol.specs.Message.{Msg, named}
+use Rattle.protocol.specs.State.{Seats, Meaning, isFree, seated, member, members}
 use Rattle.protocol.specs.Table.{Call, first, isPending}
 use Rattle.protocol.specs.Run as protocol
-use Rattle.protocol.specs.Run.{AllInRange, logOf, rosterOf, pendingOf, RefusedByTable, Settled}
+use Rattle.protocol.specs.Run.{AllInRange, logOf, rosterOf, pendingOf, RefusedByTable, NothingPending}
 use Rattle.protocol.proofs.Reached.{member-seated}
 use Rattle.protocol.proofs.Theorem as protocol-theorem
 use Rattle.protocol.proofs.Measure as measure
@@ -47,21 +48,21 @@ carried : (s : Standing) (t : protocol.Standing) → Same s t → protocol.Deman
 unfolding bound countsOf
 carried s t h D = record {
   refusals = subst (RefusedByTable seats width) (sym (h .history)) (D .refusals);
-  lots = λ x p. at (λ l. readLot l x) ∙ read-lot M (h .fine) x p ∙ ap (λ (r : Roster). lotOf r x) who;
+  lots = λ x p. at (λ l. readLot l x) ∙ read-lot M (h .fine) x p ∙ ap (λ (r : Seats). lotOf r x) who;
   readable = at (λ l. readCounts l .refused) ∙ ap (λ (a : CountAnswer). a .refused) counts;
-  phase = at (λ l. readCounts l .phase) ∙ ap (λ (a : CountAnswer). a .phase) counts ∙ ap (λ (r : Roster). phaseByte (r .phase)) who;
-  seated = at (λ l. readCounts l .lots) ∙ ap (λ (a : CountAnswer). a .lots) counts ∙ ap (λ (r : Roster). count seats (seated r)) who;
+  phase = at (λ l. readCounts l .phase) ∙ ap (λ (a : CountAnswer). a .phase) counts ∙ ap (λ (r : Seats). phaseByte (r .phase)) who;
+  seated = at (λ l. readCounts l .lots) ∙ ap (λ (a : CountAnswer). a .lots) counts ∙ ap (λ (r : Seats). count seats (seated r)) who;
   messages = λ n. at (λ l. readMessage l n) ∙ read-message M (h .fine) n
       ∙ ap (λ (p : Msg → Bool). record { refused = 0; pending = oneIf (isPending p (named n)) })
       (fun-ext (D .messages) ∙ ap (pendingOf seats width) (sym (h .history)));
   none-left = (
-    λ e. subst (Settled seats width) (sym (h .history)) (D .none-left .0 (count-none M (h .fine) .0 (sym left ∙ e))),
-    λ q. left ∙ count-none M (h .fine) .1 (D .none-left .1 (subst (Settled seats width) (h .history) q)),
+    λ e. subst (NothingPending seats width) (sym (h .history)) (D .none-left .0 (count-none M (h .fine) .0 (sym left ∙ e))),
+    λ q. left ∙ count-none M (h .fine) .1 (D .none-left .1 (subst (NothingPending seats width) (h .history) q)),
   );
   links = λ q x k d m p.
-      let here : T (seated (t .now .roster) x) = member-seated (t .now .roster) x (subst (λ (r : Roster). T (member r x)) (sym who) m) in
+      let here : T (seated (t .now .seats) x) = member-seated (t .now .seats) x (subst (λ (r : Seats). T (member r x)) (sym who) m) in
       at (λ l. readLink l x k (sideNumber d))
-      ∙ read-link M (h .fine) x k d (h .fine .seats x here) p (not-T-false (T-not (isFree (t .now .roster .state x)) here))
+      ∙ read-link M (h .fine) x k d (h .fine .seats x here) p (not-T-false (T-not (isFree (t .now .seats .state x)) here))
       ∙ ap (λ (o : Option ℕ). record { refused = 0; seat = linkByte o }) (linked q x k d m p);
   ends = λ ns. rw (h .now, meaning-bytes (h .fine), accepted-same (t .now) (h .fine) ns) (D .ends ns);
 }
@@ -72,7 +73,7 @@ carried s t h D = record {
     at : {A : Type 0} (f : List ℕ → A) → f (s .now) ≡ f (bytesOf (t .now))
     at f = ap f (h .now)
 
-    who : t .now .roster ≡ rosterOf seats width (logOf (meant (s .history)))
+    who : t .now .seats ≡ rosterOf seats width (logOf (meant (s .history)))
     who = D .lots ∙ ap (λ (es : List protocol.Event). rosterOf seats width (logOf es)) (sym (h .history))
 
     counts : readCounts (bytesOf (t .now)) ≡ countsOf (t .now)
@@ -81,11 +82,11 @@ carried s t h D = record {
     left : readCounts (s .now) .pending ≡ countsOf (t .now) .pending
     left = at (λ l. readCounts l .pending) ∙ ap (λ (a : CountAnswer). a .pending) counts
 
-    linked : Settled seats width (meant (s .history)) → (x k : ℕ) (d : Side) → T (member (rosterOf seats width (logOf (meant (s .history)))) x)
+    linked : NothingPending seats width (meant (s .history)) → (x k : ℕ) (d : Side) → T (member (rosterOf seats width (logOf (meant (s .history)))) x)
         → k < levels
         → t .now .link x k d ≡ graph seats width (members (rosterOf seats width (logOf (meant (s .history))))) x k d
     linked q x k d m p =
-        subst (λ (es : List protocol.Event). Settled seats width es → IsGraph seats width (members (rosterOf seats width (logOf es))) (t .now .link))
+        subst (λ (es : List protocol.Event). NothingPending seats width es → IsGraph seats width (members (rosterOf seats width (logOf es))) (t .now .link))
         (sym (h .history)) (D .graph) q
         .link x k d m (omega arith)
 

@@ -7,19 +7,20 @@ use mathlib.Core.Logic.{_↔_}
 use mathlib.Core.Bool.{cond}
 use mathlib.Core.List.{List, [], _∷_}
 use lib.Dec.{T}
-use Rattle.memory.specs.Loops.{oneIf, count}
+use Rattle.base.specs.Loops.{oneIf, count}
 use Rattle.graph.specs.Side.{Side}
 use Rattle.graph.specs.Vector.{width}
 use Rattle.graph.specs.Graph.{graph}
-use Rattle.protocol.specs.Message.{Name, named, sideNumber}
-use Rattle.protocol.specs.State.{Roster, isFree, seated, member, members}
+use Rattle.graph.specs.Side.{sideNumber}
+use Rattle.protocol.specs.Message.{Name, named}
+use Rattle.protocol.specs.State.{Seats, isFree, seated, member, members}
 use Rattle.protocol.specs.Table.{Call, deliver, isPending}
 use Rattle.protocol.specs.Calls.{unlessRefused}
-use Rattle.protocol.specs.Run.{Logged, Event as MeantEvent, logOf, rosterOf, pendingOf, RefusedByTable, Settled}
+use Rattle.protocol.specs.Run.{Logged, Event as MeantEvent, logOf, rosterOf, pendingOf, RefusedByTable, NothingPending}
 use Rattle.record.specs.Layout.{seats, levels}
 use Rattle.record.specs.Meaning.{meaning, phaseByte, stateByte, linkByte}
 use Rattle.record.specs.Reading.{openBytes, LotAnswer, readLot, readLink, readMessage, readCounts}
-use Rattle.outcome.specs.Made.{made}
+use Rattle.record.specs.Call.{called}
 
 -- a call with its refusal number, and the bytes before it
 pub record Event : Type 0 where
@@ -31,8 +32,8 @@ pub record Standing : Type 0 where
   pub history : List Event
 
 unfoldable pub step : Standing → Call → Standing
-step s c = let o = made (s .now) c in
-    record { now = o .bytes; history = record { logged = record { made = c; refused = o .refused }; before = s .now } ∷ s .history }
+step s c = let o = called (s .now) c in
+    record { now = o .bytes; history = record { logged = record { call = c; refused = o .refused }; before = s .now } ∷ s .history }
 
 unfoldable pub steps : Standing → List Call → Standing
 steps s [] = s
@@ -48,18 +49,18 @@ meant [] = []
 meant (e ∷ es) = record { logged = e .logged; before = meaning (e .before) } ∷ meant es
 
 -- roster and pending messages after a history
-abbrev pub roster : List Event → Roster
+abbrev pub roster : List Event → Seats
 roster es = rosterOf seats width (logOf (meant es))
 
 -- what reading a seat answers of a roster: its lot, or 8
-unfoldable pub lotOf : Roster → ℕ → LotAnswer
+unfoldable pub lotOf : Seats → ℕ → LotAnswer
 lotOf r x = cond (isFree (r .state x)) (record { refused = 8; state = 0; number = 0; vector = 0 })
     (record { refused = 0; state = stateByte (r .state x); number = r .number x; vector = r .vector x })
 
 -- how many of a list of deliveries are accepted
 unfoldable pub accepted : List ℕ → List Name → ℕ
 accepted l [] = 0
-accepted l (n ∷ ns) = let o = made l (deliver n) in unlessRefused (o .refused) 0 1 + accepted (o .bytes) ns
+accepted l (n ∷ ns) = let o = called l (deliver n) in unlessRefused (o .refused) 0 1 + accepted (o .bytes) ns
 
 -- demand 3 after a list; the bound is a number fixed by the bytes alone
 pub record Demand3 (bound : List ℕ → ℕ) (s : Standing) : Type 0 where
@@ -73,9 +74,9 @@ pub record Demand3 (bound : List ℕ → ℕ) (s : Standing) : Type 0 where
   -- a message reads as pending exactly if it is, and the count reads 0 exactly if none is
   pub messages : (n : Name) → readMessage (s .now) n
       ≡ record { refused = 0; pending = oneIf (isPending (pendingOf seats width (meant (s .history))) (named n)) }
-  pub none-left : (readCounts (s .now) .pending ≡ 0) ↔ Settled seats width (meant (s .history))
+  pub none-left : (readCounts (s .now) .pending ≡ 0) ↔ NothingPending seats width (meant (s .history))
   -- with none pending, each link of each member reads as in the graph of the members
-  pub links : Settled seats width (meant (s .history)) → (x k : ℕ) (d : Side) → T (member (roster (s .history)) x) → k < levels
+  pub links : NothingPending seats width (meant (s .history)) → (x k : ℕ) (d : Side) → T (member (roster (s .history)) x) → k < levels
       → readLink (s .now) x k (sideNumber d) ≡ record { refused = 0; seat = linkByte (graph seats width (members (roster (s .history))) x k d) }
   -- no list of deliveries from here has more accepted ones
   pub ends : (ns : List Name) → accepted (s .now) ns ≤ bound (s .now)

@@ -9,8 +9,9 @@ use native.Mathlib.Decide.{decLe}
 use lib.Dec.{T}
 use Rattle.graph.specs.Side.{Side, left, right}
 use Rattle.graph.specs.Graph.{Lots, Links, Laws}
-use Rattle.graph.proofs.Tests.{none-some}
-use Rattle.graph.proofs.Order.{Lt, lt-trans, lt-asym, lt-ne, lt-ne′, lt-opp}
+use Rattle.base.proofs.Tests.{none-some}
+use Rattle.graph.specs.inner.Order.{Lt}
+use Rattle.graph.proofs.Order.{lt-trans, lt-asym, lt-ne, lt-ne′, lt-opp}
 use Rattle.graph.proofs.Laws.{member-compare}
 use Rattle.graph.proofs.Neighbour.{InList, list-refl, list-sym, list-trans, Nearest, nobody, nearest, nearest-first}
 use Rattle.graph.proofs.Walk.{Walk, here, there, walk-zero, walk-snoc, walk-rest, walk-beyond, Sorted}

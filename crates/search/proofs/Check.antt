@@ -10,11 +10,12 @@ use lib.Dec.{T, eqb→eq, eqb-refl}
 use Rattle.graph.specs.Side.{Side, left, right}
 use Rattle.graph.specs.Graph.{Lots, Links, Laws, graph, IsGraph}
 use Rattle.graph.specs.Constraints.{Constraints, OneList}
-use Rattle.graph.proofs.Tests.{T-true, true-T, and-T, and-fst, and-snd}
+use Rattle.base.proofs.Tests.{T-true, true-T, and-T, and-fst, and-snd}
 use Rattle.graph.proofs.SkipGraph.{skip-graph}
-use Rattle.search.specs.Check.{sameLink, every, levelRight, check}
+use Rattle.base.specs.Loops.{all}
+use Rattle.search.specs.Check.{sameLink, levelRight, check}
 use Rattle.search.specs.Walk.{find}
-use Rattle.search.proofs.Count.{when-T, T-when, every-at, all-every}
+use Rattle.search.proofs.Count.{when-T, T-when, all-passes, passes-all}
 use Rattle.search.proofs.Ordered.{OneComponent}
 use Rattle.search.specs.Right.{RightHolder}
 use Rattle.search.proofs.Holder.{find-holder}
@@ -44,10 +45,10 @@ at-both p h = and-T (p left) (p right) (h left) (h right)
 
 -- a test of every member
 pub members-at : (N : ℕ) (member p : ℕ → Bool) → ((x : ℕ) → T (member x) → x < N)
-    → T (every N (λ x. not (member x) || p x)) ↔ ((x : ℕ) → T (member x) → T (p x))
+    → T (all N (λ x. not (member x) || p x)) ↔ ((x : ℕ) → T (member x) → T (p x))
 members-at N member p seat = (
-  (λ t x m. T-when (member x) (p x) (every-at N (λ x. not (member x) || p x) x (seat x m) t) m),
-  (λ h. all-every N (λ x. not (member x) || p x) (λ x l. when-T (member x) (p x) (h x))),
+  (λ t x m. T-when (member x) (p x) (all-passes N (λ x. not (member x) || p x) x (seat x m) t) m),
+  (λ h. passes-all N (λ x. not (member x) || p x) (λ x l. when-T (member x) (p x) (h x))),
 )
 
 module _ (N W : ℕ) (G : Lots) (L : Links) where
@@ -55,17 +56,17 @@ module _ (N W : ℕ) (G : Lots) (L : Links) where
   same-at x k d = sameLink (L x k d) (graph N W G x k d)
 
   -- the test of a lot, level by level and on both sides
-  lot-right : (x : ℕ) → T (every (suc W) (levelRight N W G L x)) ↔ ((k : ℕ) (d : Side) → k ≤ W → L x k d ≡ graph N W G x k d)
+  lot-right : (x : ℕ) → T (all (suc W) (levelRight N W G L x)) ↔ ((k : ℕ) (d : Side) → k ≤ W → L x k d ≡ graph N W G x k d)
   unfolding levelRight same-at
   lot-right x = (
-    (λ t k d l. link-eq (L x k d) (graph N W G x k d) (both-at (same-at x k) d (every-at (suc W) (levelRight N W G L x) k (omega arith) t))),
-    (λ h. all-every (suc W) (levelRight N W G L x) (λ k l. at-both (same-at x k) (λ d. eq-link (h k d (omega arith))))),
+    (λ t k d l. link-eq (L x k d) (graph N W G x k d) (both-at (same-at x k) d (all-passes (suc W) (levelRight N W G L x) k (omega arith) t))),
+    (λ h. passes-all (suc W) (levelRight N W G L x) (λ k l. at-both (same-at x k) (λ d. eq-link (h k d (omega arith))))),
   )
 
 pub check-graph : {N W : ℕ} {G : Lots} {L : Links} → ((x : ℕ) → T (G .member x) → x < N) → (check N W G L ≡ true) ↔ IsGraph N W G L
 unfolding check
 check-graph {N} {W} {G} {L} seat =
-    let r = members-at N (G .member) (λ x. every (suc W) (levelRight N W G L x)) seat in (
+    let r = members-at N (G .member) (λ x. all (suc W) (levelRight N W G L x)) seat in (
       (λ e. record { link = λ x k d m l. lot-right N W G L x .0 (r .0 (true-T e) x m) k d l }),
       (λ g. T-true (r .1 (λ x m. lot-right N W G L x .1 (λ k d l. g .link x k d m l)))),
     )

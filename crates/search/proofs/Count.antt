@@ -5,9 +5,9 @@ use mathlib.Core.Bool.{Bool, true, false, cond, not, _||_}
 use native.Mathlib.Omega.{arith}
 use native.Mathlib.Decide.{ℕ-discrete}
 use lib.Dec.{T}
-use Rattle.graph.proofs.Tests.{T-true, not-T-false, and-T, and-fst, and-snd}
+use Rattle.base.proofs.Tests.{T-true, not-T-false, and-T, and-fst, and-snd}
 use Rattle.graph.proofs.Below.{below-suc}
-use Rattle.search.specs.Check.{every}
+use Rattle.base.specs.Loops.{all}
 
 -- how many numbers below n pass
 unfoldable pub count : ℕ → (ℕ → Bool) → ℕ
@@ -29,16 +29,16 @@ pub T-when : (a b : Bool) → T (not a || b) → T a → T b
 T-when true b t u = t
 T-when false b t u = absurd u
 
-pub every-at : (n : ℕ) (p : ℕ → Bool) (i : ℕ) → i < n → T (every n p) → T (p i)
-unfolding every
-every-at zero p i l t = absurd (omega arith)
-every-at (suc n) p i l t =
-    below-suc {A = λ j. T (p j)} (λ j m. every-at n p j m (and-fst (every n p) (p n) t)) (and-snd (every n p) (p n) t) i l
+pub all-passes : (n : ℕ) (p : ℕ → Bool) (i : ℕ) → i < n → T (all n p) → T (p i)
+unfolding all
+all-passes zero p i l t = absurd (omega arith)
+all-passes (suc n) p i l t =
+    below-suc {A = λ j. T (p j)} (λ j m. all-passes n p j m (and-fst (all n p) (p n) t)) (and-snd (all n p) (p n) t) i l
 
-pub all-every : (n : ℕ) (p : ℕ → Bool) → ((i : ℕ) → i < n → T (p i)) → T (every n p)
-unfolding every
-all-every zero p h = tt
-all-every (suc n) p h = and-T (every n p) (p n) (all-every n p (λ i l. h i (omega arith))) (h n (omega arith))
+pub passes-all : (n : ℕ) (p : ℕ → Bool) → ((i : ℕ) → i < n → T (p i)) → T (all n p)
+unfolding all
+passes-all zero p h = tt
+passes-all (suc n) p h = and-T (all n p) (p n) (passes-all n p (λ i l. h i (omega arith))) (h n (omega arith))
 
 one-le : (a b : Bool) → (T a → T b) → cond a 1 0 ≤ cond b 1 0
 one-le true true f = omega arith

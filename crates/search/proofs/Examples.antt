@@ -11,7 +11,8 @@ use Rattle.graph.specs.Vector.{bit, equalBits, shared}
 use Rattle.graph.specs.Graph.{Lots, Links, inList, beside, nearer, nearest, graph}
 use Rattle.graph.proofs.Examples.{settledQ, linkQ}
 use Rattle.search.specs.Walk.{Found, along, stepAt, walk, path, holderAt, find}
-use Rattle.search.specs.Check.{sameLink, every, levelRight, check}
+use Rattle.base.specs.Loops.{all}
+use Rattle.search.specs.Check.{sameLink, levelRight, check}
 use Rattle.search.proofs.LocalCheck.{backOf, knownOf, endsAt, apart, levelOk, localCheck}
 
 -- F start number, in Q
@@ -39,7 +40,7 @@ abbrev Checked : Lots → Links → Bool → Type 0
 Checked G L b = (check 4 8 G L ≡ b) × (localCheck 4 8 G L ≡ b)
 
 pub yes-Q : Checked settledQ linkQ true
-unfolding check levelRight every sameLink localCheck levelOk backOf knownOf apart endsAt
+unfolding check levelRight all sameLink localCheck levelOk backOf knownOf apart endsAt
     graph nearest nearer beside inList onSide shared equalBits bit
 yes-Q = (refl, refl)
 
@@ -49,7 +50,7 @@ missing x k left = cond (eqb x 2 && eqb k 1) none (linkQ x k left)
 missing x k right = linkQ x k right
 
 pub no-missing : Checked settledQ missing false
-unfolding check levelRight every sameLink localCheck levelOk backOf knownOf apart endsAt
+unfolding check levelRight all sameLink localCheck levelOk backOf knownOf apart endsAt
     graph nearest nearer beside inList onSide shared equalBits bit
 no-missing = (refl, refl)
 
@@ -67,15 +68,15 @@ twoLists = graph 4 8 (fourLots (λ x. x / 2))
 
 -- each list is good by itself, and the two are not one
 pub yes-each : check 4 8 (fourLots (λ x. x / 2)) twoLists ≡ true
-unfolding check levelRight every sameLink graph nearest nearer beside inList onSide shared equalBits bit
+unfolding check levelRight all sameLink graph nearest nearer beside inList onSide shared equalBits bit
 yes-each = refl
 
 -- what fails is that lot 300 is a second one without a left link at level 0
-pub second-end : (levelOk 8 (fourLots (λ x. 0)) twoLists 2 0 ≡ false) × (every 2 (levelOk 8 (fourLots (λ x. 0)) twoLists 0) ≡ true)
-unfolding every sameLink levelOk backOf knownOf apart endsAt graph nearest nearer beside inList onSide shared equalBits bit
+pub second-end : (levelOk 8 (fourLots (λ x. 0)) twoLists 2 0 ≡ false) × (all 2 (levelOk 8 (fourLots (λ x. 0)) twoLists 0) ≡ true)
+unfolding all sameLink levelOk backOf knownOf apart endsAt graph nearest nearer beside inList onSide shared equalBits bit
 second-end = (refl, refl)
 
 pub no-two-lists : Checked (fourLots (λ x. 0)) twoLists false
-unfolding check levelRight every sameLink localCheck levelOk backOf knownOf apart endsAt
+unfolding check levelRight all sameLink localCheck levelOk backOf knownOf apart endsAt
     graph nearest nearer beside inList onSide shared equalBits bit
 no-two-lists = (refl, refl)

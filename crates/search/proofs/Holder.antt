@@ -10,8 +10,9 @@ use native.Mathlib.Decide.{decLt, decLe}
 use lib.Dec.{T}
 use Rattle.graph.specs.Side.{Side, left}
 use Rattle.graph.specs.Graph.{Lots, Links, Laws, IsGraph}
-use Rattle.graph.proofs.Tests.{none-some, some-inj}
-use Rattle.graph.proofs.Order.{Lt, toL, toR, lt-asym, lt-irr, lt-side}
+use Rattle.base.proofs.Tests.{none-some, some-inj}
+use Rattle.graph.specs.inner.Order.{Lt, toL, toR}
+use Rattle.graph.proofs.Order.{lt-asym, lt-irr, lt-side}
 use Rattle.graph.proofs.Neighbour.{InList, Nearest, nobody-there, nearest-first, nearest-list, nearest-side}
 use Rattle.graph.proofs.SkipGraph.{link-nearest}
 use Rattle.search.specs.Walk.{stop, drop, lastOf, Found, find}
@@ -19,7 +20,8 @@ use Rattle.search.specs.Right.{Holds, RightHolder, holds, nobody}
 use Rattle.search.proofs.Ordered.{OneComponent, graph-ordered}
 use Rattle.search.proofs.Step.{Beyond, Upto, uptoL, uptoR, upto-not, Stepped, is-found, is-past, is-last, at-stepped}
 use Rattle.search.proofs.Step.{Held, is-end, is-left, is-none, at-held}
-use Rattle.search.proofs.Search.{Search, found, moves, drops, ends, path-search}
+use Rattle.search.specs.inner.Search.{Search, found, moves, drops, ends}
+use Rattle.search.proofs.Search.{path-search}
 use Rattle.search.proofs.Hops.{search-seated}
 
 -- none exactly if there is none

@@ -11,13 +11,16 @@ use lib.Dec.{T}
 use lib.ListN.{length}
 use Rattle.graph.specs.Side.{Side, left}
 use Rattle.graph.specs.Graph.{Links}
-use Rattle.graph.proofs.Order.{Lt, toL, toR, lt-trans, lt-irr, lt-eq}
+use Rattle.graph.specs.inner.Order.{Lt, toL, toR}
+use Rattle.graph.proofs.Order.{lt-trans, lt-irr, lt-eq}
 use Rattle.search.specs.Walk.{lastOf, path, holderAt, Found, find}
 use Rattle.search.specs.Right.{Once, nothing, new, Between}
 use Rattle.search.proofs.Count.{count}
-use Rattle.search.proofs.Ordered.{Ordered, rank, rank-less, rank-most}
+use Rattle.search.specs.inner.Ordered.{Ordered}
+use Rattle.search.proofs.Ordered.{rank, rank-less, rank-most}
 use Rattle.search.proofs.Step.{Upto, uptoL, uptoR, upto-some, Held, is-end, is-left, is-none, at-held}
-use Rattle.search.proofs.Search.{Search, found, moves, drops, ends, move-on, path-search}
+use Rattle.search.specs.inner.Search.{Search, found, moves, drops, ends}
+use Rattle.search.proofs.Search.{move-on, path-search}
 
 -- seated lots, each on side d of the one before it, the first of s, and none beyond the number x
 pub data Toward (seated : ℕ → Bool) (number : ℕ → ℕ) (x : ℕ) (d : Side) : (s : ℕ) → List ℕ → Type 0 where

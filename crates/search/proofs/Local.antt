@@ -12,13 +12,14 @@ use Rattle.graph.specs.Side.{Side, left, right}
 use Rattle.graph.specs.Vector.{shared}
 use Rattle.graph.specs.Graph.{Lots, Links, Laws, IsGraph}
 use Rattle.graph.specs.Constraints.{Constraints}
-use Rattle.graph.proofs.Tests.{T-true, true-T, and-T, and-fst, and-snd}
-use Rattle.graph.proofs.Order.{Lt}
+use Rattle.base.proofs.Tests.{T-true, true-T, and-T, and-fst, and-snd}
+use Rattle.graph.specs.inner.Order.{Lt}
 use Rattle.graph.proofs.Laws.{member-compare}
 use Rattle.graph.proofs.Neighbour.{InList, list-sym, nobody-there, nearest-graph}
 use Rattle.graph.proofs.SkipGraph.{link-nearest, graph-constraints}
-use Rattle.search.specs.Check.{sameLink, every, check}
-use Rattle.search.proofs.Count.{test-eq, every-at, all-every}
+use Rattle.base.specs.Loops.{all}
+use Rattle.search.specs.Check.{sameLink, check}
+use Rattle.search.proofs.Count.{test-eq, all-passes, passes-all}
 use Rattle.search.proofs.Ordered.{OneComponent}
 use Rattle.search.proofs.Check.{link-eq, eq-link, members-at, check-graph}
 use Rattle.search.proofs.LocalCheck.{backOf, knownOf, endsAt, apart, levelOk, localCheck}
@@ -67,24 +68,24 @@ module _ (N W : ℕ) (G : Lots) (L : Links) where
   unfolding levelOk
   level-back x k t =
       let b = backOf G L x k (L x k left) in
-      let e = every x (apart W G L k x) in
+      let e = all x (apart W G L k x) in
       and-fst b e (and-fst (b && e) (knownOf G (L x k right)) t)
 
   level-known : (x k : ℕ) → T (levelOk W G L x k) → T (knownOf G (L x k right))
   unfolding levelOk
-  level-known x k t = and-snd (backOf G L x k (L x k left) && every x (apart W G L k x)) (knownOf G (L x k right)) t
+  level-known x k t = and-snd (backOf G L x k (L x k left) && all x (apart W G L k x)) (knownOf G (L x k right)) t
 
-  level-apart : (x k : ℕ) → T (levelOk W G L x k) → T (every x (apart W G L k x))
+  level-apart : (x k : ℕ) → T (levelOk W G L x k) → T (all x (apart W G L k x))
   unfolding levelOk
   level-apart x k t =
       let b = backOf G L x k (L x k left) in
-      let e = every x (apart W G L k x) in
+      let e = all x (apart W G L k x) in
       and-snd b e (and-fst (b && e) (knownOf G (L x k right)) t)
 
-  level-all : (x k : ℕ) → T (backOf G L x k (L x k left)) → T (every x (apart W G L k x)) → T (knownOf G (L x k right)) → T (levelOk W G L x k)
+  level-all : (x k : ℕ) → T (backOf G L x k (L x k left)) → T (all x (apart W G L k x)) → T (knownOf G (L x k right)) → T (levelOk W G L x k)
   unfolding levelOk
   level-all x k b a r =
-      let e = every x (apart W G L k x) in
+      let e = all x (apart W G L k x) in
       and-T (backOf G L x k (L x k left) && e) (knownOf G (L x k right)) (and-T (backOf G L x k (L x k left)) e b a) r
 
   -- those of all
@@ -92,9 +93,9 @@ module _ (N W : ℕ) (G : Lots) (L : Links) where
       → T (localCheck N W G L) ↔ ((x k : ℕ) → T (G .member x) → k ≤ W → T (levelOk W G L x k))
   unfolding localCheck
   local-levels seat =
-      let (to, from) = members-at N (G .member) (λ x. every (suc W) (levelOk W G L x)) seat in (
-        (λ t x k m l. every-at (suc W) (levelOk W G L x) k (omega arith) (to t x m)),
-        (λ h. from (λ x m. all-every (suc W) (levelOk W G L x) (λ k l. h x k m (omega arith)))),
+      let (to, from) = members-at N (G .member) (λ x. all (suc W) (levelOk W G L x)) seat in (
+        (λ t x k m l. all-passes (suc W) (levelOk W G L x) k (omega arith) (to t x m)),
+        (λ h. from (λ x m. passes-all (suc W) (levelOk W G L x) (λ k l. h x k m (omega arith)))),
       )
 
   ends-test : (k x : ℕ) → T (endsAt G L k x) ↔ (T (G .member x) × (L x k left ≡ none))
@@ -133,7 +134,7 @@ module _ {N W : ℕ} {G : Lots} {L : Links} (laws : Laws N G) (one : OneComponen
       within right {x} {k} {y} m l e = known-test N W G L y (L x k right) (level-known N W G L x k (t x k m l)) e
 
       apart-at : (k x y : ℕ) → k ≤ W → T (G .member x) → y < x → T (apart W G L k x y)
-      apart-at k x y l m h = every-at x (apart W G L k x) y h (level-apart N W G L x k (t x k m l))
+      apart-at k x y l m h = all-passes x (apart W G L k x) y h (level-apart N W G L x k (t x k m l))
 
       ends : {k x : ℕ} → T (G .member x) → L x k left ≡ none → T (endsAt G L k x)
       ends {k} {x} m e = ends-test N W G L k x .1 (m, e)
@@ -157,7 +158,7 @@ module _ {N W : ℕ} {G : Lots} {L : Links} (laws : Laws N G) (one : OneComponen
   graph-levels : IsGraph N W G L → (x k : ℕ) → T (G .member x) → k ≤ W → T (levelOk W G L x k)
   graph-levels g x k m l = level-all N W G L x k
       (test-back N W G L x k (λ y e. (c .within x k y left m l e, c .back x k y left m l e)))
-      (all-every x (apart W G L k x) (λ y i. ends-apart N W G L k x y (λ t u s.
+      (passes-all x (apart W G L k x) (λ y i. ends-apart N W G L k x y (λ t u s.
       let (n, f) = ends-test N W G L k y .0 u in
       one-end y i (ends-test N W G L k x .0 t .1) n f s (member-compare laws left x y m n))))
       (test-known N W G L (L x k right) (λ y e. c .within x k y right m l e))

@@ -8,7 +8,8 @@ use lib.Dec.{leb}
 use Rattle.graph.specs.Side.{left, right}
 use Rattle.graph.specs.Vector.{shared}
 use Rattle.graph.specs.Graph.{Lots, Links}
-use Rattle.search.specs.Check.{sameLink, every}
+use Rattle.base.specs.Loops.{all}
+use Rattle.search.specs.Check.{sameLink}
 
 -- a link is none, or a member
 unfoldable pub knownOf : Lots → Option ℕ → Bool
@@ -32,8 +33,8 @@ module _ (W : ℕ) (G : Lots) (L : Links) where
 
   -- the tests of x at level k: the left link back, if x is a left end that none below it is another of its list, and the right link
   unfoldable pub levelOk : (x k : ℕ) → Bool
-  levelOk x k = (backOf G L x k (L x k left) && every x (apart k x)) && knownOf G (L x k right)
+  levelOk x k = (backOf G L x k (L x k left) && all x (apart k x)) && knownOf G (L x k right)
 
 -- every member passes at every level
 unfoldable pub localCheck : (N W : ℕ) → Lots → Links → Bool
-localCheck N W G L = every N (λ x. not (G .member x) || every (suc W) (levelOk W G L x))
+localCheck N W G L = all N (λ x. not (G .member x) || all (suc W) (levelOk W G L x))

@@ -7,19 +7,14 @@ use mathlib.Core.Bool.{Bool, _&&_}
 use lib.Dec.{T}
 use Rattle.graph.specs.Side.{Side, onSide}
 use Rattle.graph.specs.Graph.{Lots, Links, Laws, graph, IsGraph}
-use Rattle.graph.proofs.Tests.{and-T, and-fst, and-snd}
-use Rattle.graph.proofs.Order.{Lt, lt-trans, lt-irr, on-lt, lt-on}
+use Rattle.base.proofs.Tests.{and-T, and-fst, and-snd}
+use Rattle.graph.specs.inner.Order.{Lt}
+use Rattle.graph.proofs.Order.{lt-trans, lt-irr, on-lt, lt-on}
 use Rattle.graph.proofs.Laws.{twoSeated, laws-two}
 use Rattle.graph.proofs.Walk.{Sorted, constraints-sorted}
 use Rattle.graph.proofs.SkipGraph.{graph-constraints}
+use Rattle.search.specs.inner.Ordered.{Ordered}
 use Rattle.search.proofs.Count.{count, count-less}
-
--- seated lots sit below N, their numbers differ, and a link of a seated lot names a seated lot on its own side
-pub record Ordered (N W : ℕ) (seated : ℕ → Bool) (number : ℕ → ℕ) (L : Links) : Type 0 where
-  pub seat : (x : ℕ) → T (seated x) → x < N
-  pub differ : (x y : ℕ) → T (seated x) → T (seated y) → number x ≡ number y → x ≡ y
-  pub within : {x k y : ℕ} {d : Side} → T (seated x) → k ≤ W → L x k d ≡ some y → T (seated y)
-  pub order : {x k y : ℕ} {d : Side} → T (seated x) → k ≤ W → L x k d ≡ some y → Lt number d x y
 
 pub sorted-ordered : {N W : ℕ} {G : Lots} {L : Links} → Laws N G → Sorted W G L → Ordered N W (G .member) (G .number) L
 sorted-ordered laws s = record { seat = laws .seat; differ = laws .differ; within = s .within; order = s .order }

@@ -10,22 +10,13 @@ use lib.Dec.{T}
 use lib.ListN.{length}
 use Rattle.graph.specs.Side.{Side}
 use Rattle.graph.specs.Graph.{Links}
-use Rattle.graph.proofs.Order.{Lt, toL, toR}
+use Rattle.graph.specs.inner.Order.{Lt, toL, toR}
 use Rattle.search.specs.Walk.{Step, stop, move, drop, lastOf, stepAt, walk, path, holderAt, find}
+use Rattle.search.specs.inner.Search.{Search, found, moves, drops, ends, gap}
 use Rattle.search.proofs.Count.{count-bound}
-use Rattle.search.proofs.Ordered.{Ordered, rank, rank-less, rank-most}
+use Rattle.search.specs.inner.Ordered.{Ordered}
+use Rattle.search.proofs.Ordered.{rank, rank-less, rank-most}
 use Rattle.search.proofs.Step.{Upto, uptoL, uptoR, upto-some, upto-side, Stepped, is-move, at-stepped}
-
--- how far two numbers are apart
-abbrev pub gap : ℕ → ℕ → ℕ
-gap a b = (a - b) + (b - a)
-
--- from lot s at level k the walk moves to the lots of a list
-pub data Search (number : ℕ → ℕ) (L : Links) (x : ℕ) : (s k : ℕ) → List ℕ → Type 0 where
-  found : {s k : ℕ} → stepAt number L x s k ≡ stop → Search number L x s k []
-  moves : {s k y : ℕ} {p : List ℕ} → stepAt number L x s k ≡ move y → Search number L x y k p → Search number L x s k (y ∷ p)
-  drops : {s k : ℕ} {p : List ℕ} → stepAt number L x s (suc k) ≡ drop → Search number L x s k p → Search number L x s (suc k) p
-  ends : {s : ℕ} → stepAt number L x s 0 ≡ drop → Search number L x s 0 []
 
 module _ (number : ℕ → ℕ) (L : Links) (x : ℕ) where
   -- the walk after a step

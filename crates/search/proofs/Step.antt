@@ -10,8 +10,9 @@ use native.Mathlib.Decide.{ℕ-discrete, decLt}
 use borrow.Author.Tests.{eq-eqb, ne-eqb, le-leb, lt-leb}
 use Rattle.graph.specs.Side.{Side, left, right, onSide}
 use Rattle.graph.specs.Graph.{Links}
-use Rattle.graph.proofs.Tests.{T-true, not-T-false}
-use Rattle.graph.proofs.Order.{Lt, toL, toR, lt-irr, lt-some, on-lt, lt-on, side-of}
+use Rattle.base.proofs.Tests.{T-true, not-T-false}
+use Rattle.graph.specs.inner.Order.{Lt, toL, toR}
+use Rattle.graph.proofs.Order.{lt-irr, lt-some, on-lt, lt-on, side-of}
 use Rattle.search.specs.Walk.{Step, stop, move, drop, along, stepAt, Found, holderAt}
 
 -- number b lies on side d of number a

@@ -4,6 +4,7 @@ use Prim.Native.Nat.{ℕ, zero, suc}
 use mathlib.Core.Option.{Option, none, some}
 use mathlib.Core.Bool.{Bool, true, false, not, _&&_, _||_}
 use lib.Dec.{eqb}
+use Rattle.base.specs.Loops.{all}
 use Rattle.graph.specs.Side.{left, right}
 use Rattle.graph.specs.Graph.{Lots, Links, graph}
 
@@ -14,15 +15,10 @@ sameLink none (some y) = false
 sameLink (some x) none = false
 sameLink (some x) (some y) = eqb x y
 
--- every number below n passes
-unfoldable pub every : ℕ → (ℕ → Bool) → Bool
-every zero p = true
-every (suc n) p = every n p && p n
-
 module _ (N W : ℕ) (G : Lots) (L : Links) where
   -- both links of x at level k are the graph's
   unfoldable pub levelRight : (x k : ℕ) → Bool
   levelRight x k = sameLink (L x k left) (graph N W G x k left) && sameLink (L x k right) (graph N W G x k right)
 
   unfoldable pub check : Bool
-  check = every N (λ x. not (G .member x) || every (suc W) (λ k. levelRight x k))
+  check = all N (λ x. not (G .member x) || all (suc W) (λ k. levelRight x k))

@@ -2,3 +2,4 @@
 pub mod Walk
 pub mod Check
 pub mod Right
+pub mod inner

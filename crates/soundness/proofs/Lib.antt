@@ -5,3 +5,6 @@ pub mod Kept
 pub mod Unlinked
 pub mod LinkByte
 pub mod Refusal
+pub mod PendingPasses
+pub mod PendingPlaces
+pub mod PendingWord

@@ -7,20 +7,20 @@ use native.Mathlib.Omega.{arith}
 use lib.Dec.{eqb, ltb, leb}
 use lib.ListN.{getD}
 use borrow.Author.Tests.{ne-eqb}
-use Rattle.memory.specs.Loops.{all}
-use Rattle.memory.proofs.Cases.{and-left, and-right}
-use Rattle.memory.proofs.All.{all-at, all-from}
+use Rattle.base.specs.Loops.{all}
+use Rattle.base.proofs.Cases.{and-left, and-right}
+use Rattle.base.proofs.All.{all-at, all-from}
 use Rattle.graph.specs.Side.{Side, left, right, onSide}
 use Rattle.graph.specs.Vector.{width, shared}
-use Rattle.graph.proofs.Tests.{true-T}
+use Rattle.base.proofs.Tests.{true-T}
 use Rattle.graph.proofs.Order.{lt-ne, on-lt}
-use Rattle.protocol.specs.State.{Roster, seated}
+use Rattle.protocol.specs.State.{Seats, seated}
 use Rattle.protocol.specs.Sound.{pairOk, linkOk}
 use Rattle.record.specs.Layout.{seats, levels, noLink, entryAt, stateAt, linkAt}
-use Rattle.record.specs.Meaning.{rosterIn}
-use Rattle.record.specs.Reading.{sideOfNumber}
+use Rattle.record.specs.Meaning.{seatsIn}
+use Rattle.graph.specs.Side.{sideOfNumber}
 use Rattle.record.specs.Sound.{asOpened, linkFits}
-use Rattle.soundness.specs.Parts.{seatFits}
+use Rattle.soundness.specs.inner.Parts.{seatFits}
 
 link-place : (x k d : ℕ) → d < 2 → linkAt x k (sideOfNumber d) ≡ entryAt x + 10 + 2 * k + d
 link-place x k zero h = refl
@@ -28,12 +28,12 @@ link-place x k (suc zero) h = refl
 link-place x k (suc (suc d)) h = absurd (omega arith)
 
 pub link-byte : (l : List ℕ) (x k d b : ℕ) → d < 2 → b ≡ getD l (entryAt x + 10 + 2 * k + d) 0
-    → linkFits l x k (sideOfNumber d) ≡ eqb b noLink || (ltb b seats && linkOk width (rosterIn l) x k (sideOfNumber d) b)
+    → linkFits l x k (sideOfNumber d) ≡ eqb b noLink || (ltb b seats && linkOk width (seatsIn l) x k (sideOfNumber d) b)
 unfolding linkFits
 link-byte l x k d b h e = rw (link-place x k d h, e)
 
 -- a seated lot and a seat on its side are two, so that need not be tested
-pub link-ok : (r : Roster) (x k y : ℕ) (d : Side) → seated r x ≡ true
+pub link-ok : (r : Seats) (x k y : ℕ) (d : Side) → seated r x ≡ true
     → linkOk width r x k d y ≡ seated r y && (leb k (shared width (r .vector x) (r .vector y)) && onSide d (r .number x) (r .number y))
 unfolding linkOk pairOk
 link-ok r x k y d e = rw e (by (seated r y) (not (eqb x y)) (leb k (shared width (r .vector x) (r .vector y))) (onSide d (r .number x) (r .number y)) other)
@@ -49,7 +49,7 @@ link-ok r x k y d e = rw e (by (seated r y) (not (eqb x y)) (leb k (shared width
     by true false false o h = refl
 
 -- a free seat has no links
-pub free-links : (l : List ℕ) (x : ℕ) → all seats (seatFits l) ≡ true → x < seats → seated (rosterIn l) x ≡ false
+pub free-links : (l : List ℕ) (x : ℕ) → all seats (seatFits l) ≡ true → x < seats → seated (seatsIn l) x ≡ false
     → true ≡ all levels (λ k. linkFits l x k left && linkFits l x k right)
 unfolding asOpened linkFits
 free-links l x u h f = sym (all-from levels _ (λ k g. both k (all-at levels k free none g)))
@@ -58,12 +58,12 @@ free-links l x u h f = sym (all-from levels _ (λ k g. both k (all-at levels k f
     free k = eqb (getD l (linkAt x k left) 0) noLink && eqb (getD l (linkAt x k right) 0) noLink
 
     opened : asOpened l x ≡ true
-    opened = let t : seated (rosterIn l) x || asOpened l x ≡ true = and-right (ltb (getD l (stateAt x) 0) 3) _ (all-at seats x (seatFits l) u h) in rw f at t
+    opened = let t : seated (seatsIn l) x || asOpened l x ≡ true = and-right (ltb (getD l (stateAt x) 0) 3) _ (all-at seats x (seatFits l) u h) in rw f at t
 
     none : all levels free ≡ true
     none =
-        let v = eqb (rosterIn l .vector x) 0 in
-        and-right v (all levels free) (and-right (eqb (rosterIn l .number x) 0) (v && all levels free) opened)
+        let v = eqb (seatsIn l .vector x) 0 in
+        and-right v (all levels free) (and-right (eqb (seatsIn l .number x) 0) (v && all levels free) opened)
 
     both : (k : ℕ) → free k ≡ true → linkFits l x k left && linkFits l x k right ≡ true
     both k e =

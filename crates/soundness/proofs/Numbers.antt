@@ -3,15 +3,15 @@ use Prim.Native.Nat.{ℕ, zero, suc}
 use mathlib.Core.Path.{_≡_, refl, _∙_}
 use mathlib.Core.Bool.{Bool, true, false, not, _&&_, _||_}
 use mathlib.Core.List.{List}
-use Rattle.memory.specs.Loops.{all}
-use Rattle.memory.proofs.All.{all-from, all-same, all-and}
-use Rattle.protocol.specs.Numbering.{any}
+use Rattle.base.specs.Loops.{all}
+use Rattle.base.proofs.All.{all-from, all-same, all-and}
+use Rattle.base.specs.Loops.{any}
 use Rattle.protocol.specs.State.{seated}
 use Rattle.record.specs.Layout.{seats}
-use Rattle.record.specs.Meaning.{rosterIn}
+use Rattle.record.specs.Meaning.{seatsIn}
 use Rattle.record.specs.Sound.{numbersDiffer}
-use Rattle.soundness.specs.Parts.{differ, seatFits}
-use Rattle.soundness.specs.Buckets.{sameNumber}
+use Rattle.soundness.specs.inner.Parts.{differ, seatFits}
+use Rattle.soundness.specs.inner.Buckets.{sameNumber}
 
 none-all : (n : ℕ) (p : ℕ → Bool) → all n (λ y. not (p y)) ≡ not (any n p)
 unfolding all any
@@ -26,10 +26,10 @@ none-all (suc n) p = rw (none-all n p) (by (any n p) (p n))
 
 -- a lot and every seat below it, by the search for its number; a free seat
 module _ (l : List ℕ) (s : ℕ) where
-  pub all-differ : seated (rosterIn l) s ≡ true → all s (differ l s) ≡ not (any s (sameNumber l s))
+  pub all-differ : seated (seatsIn l) s ≡ true → all s (differ l s) ≡ not (any s (sameNumber l s))
   all-differ t = all-same s (differ l s) (λ y. not (sameNumber l s y)) (λ y h. rw t) ∙ none-all s (sameNumber l s)
 
-  pub free-differs : seated (rosterIn l) s ≡ false → all s (differ l s) ≡ true
+  pub free-differs : seated (seatsIn l) s ≡ false → all s (differ l s) ≡ true
   free-differs f = all-from s (differ l s) (λ y h. rw f)
 
 -- the clauses of the seats and that on numbers, seat by seat

@@ -6,20 +6,20 @@ use mathlib.Core.List.{List}
 use lib.Dec.{ltb}
 use lib.ListN.{length, getD}
 use borrow.Author.Tests.{eq-eqb}
-use Rattle.memory.proofs.All.{all-and}
+use Rattle.base.proofs.All.{all-and}
 use Rattle.protocol.specs.State.{seated}
 use Rattle.protocol.specs.Table.{first}
 use Rattle.record.specs.Layout.{seats, stateAt, size}
-use Rattle.record.specs.Meaning.{rosterIn}
+use Rattle.record.specs.Meaning.{seatsIn}
 use Rattle.record.specs.Sound.{sound, messagesFit, phaseFits, statesFit, asOpened, unusedFit, numbersDiffer, linksFit}
 use Rattle.record.specs.Reading.{recordRefusal}
-use Rattle.soundness.specs.Parts.{entriesFit}
+use Rattle.soundness.specs.inner.Parts.{entriesFit}
 
 module _ (l : List ℕ) where
   sound-parts : sound l ≡ entriesFit l && messagesFit l
   unfolding sound entriesFit statesFit unusedFit
   sound-parts =
-      rw (all-and seats (λ s. ltb (getD l (stateAt s) 0) 3) (λ s. seated (rosterIn l) s || asOpened l s))
+      rw (all-and seats (λ s. ltb (getD l (stateAt s) 0) 3) (λ s. seated (seatsIn l) s || asOpened l s))
       (by (phaseFits l) (statesFit l) (unusedFit l) (numbersDiffer l) (linksFit l) (messagesFit l))
     where
       by : (p s u n k m : Bool) → p && (s && (u && (n && (k && m)))) ≡ (p && ((s && u) && (n && k))) && m

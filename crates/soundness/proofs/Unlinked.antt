@@ -7,11 +7,11 @@ use native.Mathlib.Omega.{arith}
 use lib.Dec.{eqb}
 use lib.ListN.{getD}
 use Rattle.memory.specs.Bytes.{fulls}
-use Rattle.memory.specs.Loops.{all}
-use Rattle.memory.proofs.All.{all-same, all-product}
+use Rattle.base.specs.Loops.{all}
+use Rattle.base.proofs.All.{all-same, all-product}
 use Rattle.graph.specs.Side.{left, right}
 use Rattle.record.specs.Layout.{levels, entryAt, linkAt}
-use Rattle.soundness.specs.Parts.{unlinked}
+use Rattle.soundness.specs.inner.Parts.{unlinked}
 
 two : (q : ℕ → Bool) → all 2 q ≡ q 0 && q 1
 unfolding all

@@ -1,3 +1,2 @@
 -- What the functions of the soundness test hand to each other. The test itself is record's specs/Sound.antt.
-pub mod Parts
-pub mod Buckets
+pub mod inner

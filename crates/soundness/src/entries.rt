@@ -6,21 +6,21 @@ ghost use mathlib.Core.Bool.{true, false, _&&_};
 ghost use Prim.Native.Nat.{ℕ, _+_, _%_, _≤_, _<_};
 ghost use lib.Dec.{leb};
 ghost use lib.ListN.{length};
-ghost use Rattle.memory.specs.Loops.{all};
-ghost use Rattle.protocol.specs.Numbering.{any};
+ghost use Rattle.base.specs.Loops.{all};
+ghost use Rattle.base.specs.Loops.{any};
 ghost use Rattle.protocol.specs.State.{seated};
 ghost use Rattle.record.specs.Layout.{seats, levels, size};
-ghost use Rattle.record.specs.Meaning.{rosterIn};
+ghost use Rattle.record.specs.Meaning.{seatsIn};
 ghost use Rattle.record.specs.Sound.{phaseFits, asOpened, numbersDiffer};
-ghost use Rattle.soundness.specs.Parts.{HasNumbers, unlinked, differ, seatFits};
-ghost use Rattle.soundness.specs.Buckets.{buckets, sameNumber, Kept};
+ghost use Rattle.soundness.specs.inner.Parts.{HasNumbers, unlinked, differ, seatFits};
+ghost use Rattle.soundness.specs.inner.Buckets.{buckets, sameNumber, Kept};
 use record::ENTRIES;
 use record::ENTRY;
 use record::LEVELS;
 use record::LINKS_AT;
 use record::NUMBER_AT;
 use record::SEATS;
-use roster::is_seated;
+use record::lots::is_seated;
 
 // How many phases and states there are.
 const PHASES: u8 = 2;
@@ -94,7 +94,7 @@ fn keep(
     before: &mut [u8; SEATS],
     s: usize,
 )
-    requires { ⌜ (length (now rec) ≡ size) × (s < seats) × (seated (rosterIn (now rec)) s ≡ true)
+    requires { ⌜ (length (now rec) ≡ size) × (s < seats) × (seated (seatsIn (now rec)) s ≡ true)
         × Kept (now rec) s (now numbers) (now last) (now before) ⌝ }
     ensures { λ _. ⌜ Kept (now (rec .entry)) (s + 1) (now (numbers .exit)) (now (last .exit)) (now (before .exit)) ⌝ }
 {
@@ -113,7 +113,7 @@ fn lot_fits(
     before: &mut [u8; SEATS],
     s: usize,
 ) -> bool
-    requires { ⌜ (length (now rec) ≡ size) × (s < seats) × (seated (rosterIn (now rec)) s ≡ true)
+    requires { ⌜ (length (now rec) ≡ size) × (s < seats) × (seated (seatsIn (now rec)) s ≡ true)
         × Kept (now rec) s (now numbers) (now last) (now before) ⌝ }
     ensures { λ r. ⌜ (let l = now (rec .entry) in (r ≡ all s (differ l s))
         × (r ≡ true → Kept l (s + 1) (now (numbers .exit)) (now (last .exit)) (now (before .exit)))) ⌝ }
@@ -152,7 +152,7 @@ pub fn seats_fit(rec: &[u8], numbers: &mut [u64; SEATS]) -> usize
     requires { ⌜ (length (now rec) ≡ size) × (length (now numbers) ≡ seats) ⌝ }
     ensures says { λ r. ⌜ leb r seats ≡ all seats (seatFits (now (rec .entry))) && numbersDiffer (now (rec .entry)) ⌝ }
     ensures numbers { λ r. ⌜ (r ≤ seats → HasNumbers (now (rec .entry)) (now (numbers .exit))) ⌝ }
-    ensures above { λ r. ⌜ ((s : ℕ) → s < seats → r ≤ s → seated (rosterIn (now (rec .entry))) s ≡ false) ⌝ }
+    ensures above { λ r. ⌜ ((s : ℕ) → s < seats → r ≤ s → seated (seatsIn (now (rec .entry))) s ≡ false) ⌝ }
 {
     let mut last = [0u8; BUCKETS];
     let mut before = [0u8; SEATS];

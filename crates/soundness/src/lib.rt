@@ -3,14 +3,15 @@
 ghost use mathlib.Core.Path.{_≡_};
 ghost use mathlib.Core.Bool.{true, _&&_};
 ghost use lib.ListN.{length};
-ghost use Rattle.memory.specs.Loops.{all};
+ghost use Rattle.base.specs.Loops.{all};
 ghost use Rattle.record.specs.Layout.{seats, size};
 ghost use Rattle.record.specs.Reading.{recordRefusal};
-ghost use Rattle.soundness.specs.Parts.{seatFits, entriesFit};
+ghost use Rattle.soundness.specs.inner.Parts.{seatFits, entriesFit};
 ghost use Rattle.record.specs.Sound.{numbersDiffer, linksFit, messagesFit};
 
 mod entries;
 mod links;
+mod pending;
 
 use record::SEATS;
 use record::SIZE;
@@ -49,7 +50,7 @@ pub fn sized_refusal(rec: &[u8], quiet: bool) -> u8
     if quiet {
         return 0;
     }
-    if !postbox::messages_fit(rec) {
+    if !pending::messages_fit(rec) {
         return UNSOUND;
     }
     0

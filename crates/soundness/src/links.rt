@@ -3,21 +3,21 @@ ghost use mathlib.Core.Path.{_≡_};
 ghost use mathlib.Core.Bool.{true, false, _&&_};
 ghost use Prim.Native.Nat.{ℕ, _≤_, _<_};
 ghost use lib.ListN.{length};
-ghost use Rattle.memory.specs.Loops.{all};
+ghost use Rattle.base.specs.Loops.{all};
 ghost use Rattle.graph.specs.Side.{left, right, onSide};
 ghost use Rattle.graph.specs.Vector.{width};
 ghost use Rattle.protocol.specs.State.{seated};
 ghost use Rattle.protocol.specs.Sound.{linkOk};
 ghost use Rattle.record.specs.Layout.{seats, levels, size};
-ghost use Rattle.record.specs.Meaning.{rosterIn};
-ghost use Rattle.record.specs.Reading.{sideOfNumber};
+ghost use Rattle.record.specs.Meaning.{seatsIn};
+ghost use Rattle.graph.specs.Side.{sideOfNumber};
 ghost use Rattle.record.specs.Sound.{linkFits, linksFit};
-ghost use Rattle.soundness.specs.Parts.{HasNumbers, seatFits};
+ghost use Rattle.soundness.specs.inner.Parts.{HasNumbers, seatFits};
 use record::LEVELS;
 use record::NONE;
 use record::SEATS;
-use roster::is_seated;
-use roster::shares;
+use record::lots::is_seated;
+use record::lots::shares;
 
 // Whether number b lies on side d of number a.
 fn on_side(d: usize, a: u64, b: u64) -> bool
@@ -29,8 +29,8 @@ fn on_side(d: usize, a: u64, b: u64) -> bool
 // Whether seat y may be the link of the lot on seat x at level k on side d. That y is another seat shows by its number.
 fn may_link(rec: &[u8], numbers: &[u64; SEATS], x: usize, k: usize, d: usize, y: usize) -> bool
     requires { ⌜ (length (now rec) ≡ size) × HasNumbers (now rec) (now numbers) × (x < seats) × (y < seats)
-        × (seated (rosterIn (now rec)) x ≡ true) ⌝ }
-    ensures { λ r. ⌜ r ≡ linkOk width (rosterIn (now (rec .entry))) x k (sideOfNumber d) y ⌝ }
+        × (seated (seatsIn (now rec)) x ≡ true) ⌝ }
+    ensures { λ r. ⌜ r ≡ linkOk width (seatsIn (now (rec .entry))) x k (sideOfNumber d) y ⌝ }
 {
     is_seated(rec, y) && (shares(rec, k, x, y) && on_side(d, numbers[x], numbers[y]))
 }
@@ -38,7 +38,7 @@ fn may_link(rec: &[u8], numbers: &[u64; SEATS], x: usize, k: usize, d: usize, y:
 // The link of the lot on seat x at level k on side d.
 fn link_fits(rec: &[u8], numbers: &[u64; SEATS], x: usize, k: usize, d: usize) -> bool
     requires { ⌜ (length (now rec) ≡ size) × HasNumbers (now rec) (now numbers) × (x < seats) × (k < levels) × (d < 2)
-        × (seated (rosterIn (now rec)) x ≡ true) ⌝ }
+        × (seated (seatsIn (now rec)) x ≡ true) ⌝ }
     ensures { λ r. ⌜ r ≡ linkFits (now (rec .entry)) x k (sideOfNumber d) ⌝ }
 {
     let b = record::link(rec, x, k, d);
@@ -52,7 +52,7 @@ fn link_fits(rec: &[u8], numbers: &[u64; SEATS], x: usize, k: usize, d: usize) -
 // Both links of the lot on seat x at level k.
 fn level_fits(rec: &[u8], numbers: &[u64; SEATS], x: usize, k: usize) -> bool
     requires { ⌜ (length (now rec) ≡ size) × HasNumbers (now rec) (now numbers) × (x < seats) × (k < levels)
-        × (seated (rosterIn (now rec)) x ≡ true) ⌝ }
+        × (seated (seatsIn (now rec)) x ≡ true) ⌝ }
     ensures { λ r. ⌜ r ≡ linkFits (now (rec .entry)) x k left && linkFits (now (rec .entry)) x k right ⌝ }
 {
     link_fits(rec, numbers, x, k, 0) && link_fits(rec, numbers, x, k, 1)
@@ -61,7 +61,7 @@ fn level_fits(rec: &[u8], numbers: &[u64; SEATS], x: usize, k: usize) -> bool
 // All links of the lot on seat x.
 fn lot_fits(rec: &[u8], numbers: &[u64; SEATS], x: usize) -> bool
     requires { ⌜ (length (now rec) ≡ size) × HasNumbers (now rec) (now numbers) × (x < seats)
-        × (seated (rosterIn (now rec)) x ≡ true) ⌝ }
+        × (seated (seatsIn (now rec)) x ≡ true) ⌝ }
     ensures { λ r. ⌜ r ≡ all levels (λ k. linkFits (now (rec .entry)) x k left && linkFits (now (rec .entry)) x k right) ⌝ }
 {
     for k in 0..LEVELS {
@@ -86,7 +86,7 @@ fn seat_fits(rec: &[u8], numbers: &[u64; SEATS], x: usize) -> bool
 // All links: those of the first `top` seats, above which no lot sits.
 pub fn links_fit(rec: &[u8], numbers: &[u64; SEATS], top: usize) -> bool
     requires { ⌜ (length (now rec) ≡ size) × HasNumbers (now rec) (now numbers) × (all seats (seatFits (now rec)) ≡ true) × (top ≤ seats)
-        × ((s : ℕ) → s < seats → top ≤ s → seated (rosterIn (now rec)) s ≡ false) ⌝ }
+        × ((s : ℕ) → s < seats → top ≤ s → seated (seatsIn (now rec)) s ≡ false) ⌝ }
     ensures { λ r. ⌜ r ≡ linksFit (now (rec .entry)) ⌝ }
 {
     for x in 0..top {

@@ -7,7 +7,7 @@ use native.Mathlib.Omega.{arith}
 use lib.ListN.{length, getD, drop, drop-of-length-le}
 use borrow.Author.Needs.{needs}
 use Rattle.command.specs.Command.{fields}
-use Rattle.command.specs.Reading.{read, digitsField}
+use Rattle.command.specs.inner.Reading.{read, digitsField}
 use Rattle.command.proofs.Fields.{drop-here}
 use Rattle.command.proofs.Reading.{read-more, read-end, read-space, read-digit, read-low, read-high, read-wide, fits-end}
 use Rattle.command.proofs.digits_at.Statement.{statement}

@@ -3,13 +3,13 @@ use mathlib.Core.Path.{sym, _∙_}
 use mathlib.Core.Bool.{_&&_}
 use lib.Dec.{eqb, ltb, ltb→lt}
 use borrow.Author.Needs.{needs}
-use Rattle.graph.proofs.Tests.{and-snd}
+use Rattle.base.proofs.Tests.{and-snd}
 use Rattle.protocol.specs.Message.{meet, probe, pull, going, seek, found, none-found, named}
 use Rattle.protocol.specs.Numbering.{exists}
-use Rattle.record.specs.Reading.{sideOfNumber}
-use Rattle.rules.specs.Done.{ruled}
-use Rattle.places.proofs.Named.{named-meet, named-probe, named-pull, named-going, named-seek, named-found, named-none}
-use Rattle.places.proofs.Named.{named-rest, named-fits, two-below, three-below}
+use Rattle.graph.specs.Side.{sideOfNumber}
+use Rattle.rules.specs.inner.Done.{ruled}
+use Rattle.messages.proofs.Named.{named-meet, named-probe, named-pull, named-going, named-seek, named-found, named-none}
+use Rattle.messages.proofs.Named.{named-rest, named-fits, two-below, three-below}
 use Rattle.delivery.proofs.Ruled.{named-ruled}
 use Rattle.delivery.proofs.handle.Statement.{statement}
 use Rattle.delivery.proofs.handle.Tie as tie

@@ -2,8 +2,8 @@
 use mathlib.Core.Path.{sym, _∙_, ap}
 use borrow.Author.Needs.{needs}
 use Rattle.graph.specs.Side.{onSide}
-use Rattle.record.specs.Meaning.{rosterIn, meaning}
-use Rattle.record.specs.Reading.{sideOfNumber}
+use Rattle.record.specs.Meaning.{seatsIn, meaning}
+use Rattle.graph.specs.Side.{sideOfNumber}
 use Rattle.find.proofs.Read.{number-read, link-some, link-none}
 use Rattle.find.proofs.Steps.{along-moves, along-past, along-none}
 use Rattle.find.proofs.along.Statement.{statement}
@@ -28,7 +28,7 @@ returns c = let b = c .before .before .before in
     let l = b .args .rec .now in
     let y = c .before .link .result in
     let d = b .args .d in
-    along-none (rosterIn l .number) (meaning l .link) (b .args .x) y (sideOfNumber d)
+    along-none (seatsIn l .number) (meaning l .link) (b .args .x) y (sideOfNumber d)
     (link-none l (b .args .s) (b .args .k) d y (b .pre .1) (b .pre .2) (b .pre .3) (c .before .link .ensures) (c .if1 .taken))
 
 -- src/lib.rt:56:22
@@ -48,7 +48,7 @@ returns-2 c = let b = c .before .before .before .before .before .before in
     let x = b .args .x in
     let o = link-some l (b .args .s) (b .args .k) d y (b .pre .1) (b .pre .2) (b .pre .3) (c .before .before .before .before .link .ensures) (search needs) in
     let n = number-read l y (c .before .before .number .result) (search needs) (c .before .before .number .ensures) in
-    along-past (rosterIn l .number) (meaning l .link) x y (sideOfNumber d) o
+    along-past (seatsIn l .number) (meaning l .link) x y (sideOfNumber d) o
     (ap (onSide (sideOfNumber d) x) n ∙ sym (c .before .on-side .ensures) ∙ c .if2 .taken)
 
 -- src/lib.rt:48:1
@@ -60,7 +60,7 @@ returns-3 c = let b = c .before .before .before .before .before .before in
     let x = b .args .x in
     let o = link-some l (b .args .s) (b .args .k) d y (b .pre .1) (b .pre .2) (b .pre .3) (c .before .before .before .before .link .ensures) (search needs) in
     let n = number-read l y (c .before .before .number .result) (search needs) (c .before .before .number .ensures) in
-    along-moves (rosterIn l .number) (meaning l .link) x y (sideOfNumber d) (c .before .before .before .if1 .left) o
+    along-moves (seatsIn l .number) (meaning l .link) x y (sideOfNumber d) (c .before .before .before .if1 .left) o
     (ap (onSide (sideOfNumber d) x) n ∙ sym (c .before .on-side .ensures) ∙ c .if2 .left)
 
 pub along-spec : {M : Type 1} → statement M

@@ -8,13 +8,13 @@ use borrow.Author.Needs.{needs}
 use borrow.Author.Tests.{ne-eqb}
 use Rattle.graph.specs.Vector.{width}
 use Rattle.record.specs.Layout.{seats}
-use Rattle.record.specs.Meaning.{rosterIn, meaning}
+use Rattle.record.specs.Meaning.{seatsIn, meaning}
 use Rattle.record.specs.Reading.{lotRefusal}
 use Rattle.search.specs.Walk.{find}
 use Rattle.reading.proofs.Refusals.{lot-passed}
 use Rattle.find.specs.declared.Found.the-variants.{Refused}
 use Rattle.find.specs.Find.{findIn}
-use Rattle.find.specs.Answer.{heldOf, foundOf, answered}
+use Rattle.find.specs.Answer.{heldOf, foundOf, answerOf}
 use Rattle.find.proofs.Fits.{sound-fit}
 use Rattle.find.proofs.find.Statement.{statement}
 use Rattle.find.proofs.find.Tie as tie
@@ -23,14 +23,14 @@ use Rattle.find.proofs.find.Lts as lts
 use Rattle.find.proofs.search.Reads as search-reads
 use Rattle.reading.proofs.lot_refusal.Reads as lot-refusal-reads
 
-refusing : (l : List ℕ) (s x n : ℕ) → lotRefusal l s ≡ n → n ≢ 0 → Refused n ≡ answered (findIn l s x)
-unfolding findIn answered foundOf
+refusing : (l : List ℕ) (s x n : ℕ) → lotRefusal l s ≡ n → n ≢ 0 → Refused n ≡ answerOf (findIn l s x)
+unfolding findIn answerOf foundOf
 refusing l s x zero e h = absurd (h refl)
 refusing l s x (suc n) e h = rw (e, ne-eqb (suc n) 0 h)
 
 accepting : (l : List ℕ) (s x : ℕ) → lotRefusal l s ≡ 0
-    → heldOf (find (rosterIn l .number) (meaning l .link) x seats width s) ≡ answered (findIn l s x)
-unfolding findIn answered foundOf
+    → heldOf (find (seatsIn l .number) (meaning l .link) x seats width s) ≡ answerOf (findIn l s x)
+unfolding findIn answerOf foundOf
 accepting l s x e = rw e
 
 lot-refusal-requires : tie.Need-lot-refusal-requires

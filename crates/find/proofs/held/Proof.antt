@@ -4,7 +4,7 @@ use mathlib.Core.Path.{sym, _∙_, ap}
 use native.Mathlib.Omega.{arith}
 use native.Mathlib.Numerals.{add-one}
 use borrow.Author.Needs.{needs}
-use Rattle.record.specs.Meaning.{rosterIn}
+use Rattle.record.specs.Meaning.{seatsIn}
 use Rattle.search.proofs.Step.{is-end, is-left, is-none, held-at}
 use Rattle.find.specs.declared.Found.the-variants.{Holder}
 use Rattle.find.specs.Answer.{heldBy, heldOf}
@@ -30,7 +30,7 @@ unfolding heldBy
 returns c = let b = c .before .before .before in
     let l = b .args .rec .now in
     let n = number-read l (b .args .s) (c .before .number .result) (b .pre .1) (c .before .number .ensures) in
-    let q : rosterIn l .number (b .args .s) ≤ b .args .x = omega (arith, n, c .if1 .taken) in
+    let q : seatsIn l .number (b .args .s) ≤ b .args .x = omega (arith, n, c .if1 .taken) in
     ap heldOf (sym (held-at (is-end q)))
 
 -- src/lib.rt:128:9
@@ -53,7 +53,7 @@ returns-2 c = let b = c .before .before .before .before .before in
     let y = c .before .link .result in
     let n = number-read l (b .args .s) (c .before .before .before .number .result) (b .pre .1) (c .before .before .before .number .ensures) in
     let o = link-some l (b .args .s) 0 0 y (b .pre .1) (omega arith) (omega arith) (c .before .link .ensures) (c .if2 .taken) in
-    let q : b .args .x < rosterIn l .number (b .args .s) = omega (arith, n, c .before .before .if1 .left) in
+    let q : b .args .x < seatsIn l .number (b .args .s) = omega (arith, n, c .before .before .if1 .left) in
     ap (Holder y) (add-one (b .args .h)) ∙ ap heldOf (sym (held-at (is-left q o)))
 
 -- src/lib.rt:121:1
@@ -64,7 +64,7 @@ returns-3 c = let b = c .before .before .before .before .before in
     let y = c .before .link .result in
     let n = number-read l (b .args .s) (c .before .before .before .number .result) (b .pre .1) (c .before .before .before .number .ensures) in
     let o = link-none l (b .args .s) 0 0 y (b .pre .1) (omega arith) (omega arith) (c .before .link .ensures) (c .if2 .left) in
-    let q : b .args .x < rosterIn l .number (b .args .s) = omega (arith, n, c .before .before .if1 .left) in
+    let q : b .args .x < seatsIn l .number (b .args .s) = omega (arith, n, c .before .before .if1 .left) in
     ap heldOf (sym (held-at (is-none q o)))
 
 pub held-spec : {M : Type 1} → statement M

@@ -3,11 +3,11 @@ use mathlib.Core.Path.{_≡_, refl, ap, sym, _∙_}
 use Prim.Native.Nat.{ℕ, _+_, _-_, _*_, _/_, _≤_}
 use native.Mathlib.Omega.{arith}
 use borrow.Author.Needs.{needs}
-use Rattle.memory.specs.Loops.{count as countOf}
+use Rattle.base.specs.Loops.{count as countOf}
 use Rattle.memory.specs.Bytes.{nonZero}
 use Rattle.memory.specs.Bits.{bitSet}
 use Rattle.memory.proofs.First.{IsFirst, first}
-use Rattle.memory.proofs.Count.{count-none, count-le}
+use Rattle.base.proofs.Count.{count-none, count-le}
 use Rattle.memory.proofs.Search.{count-bytes, count-passed}
 use Rattle.memory.proofs.count_bits.Statement.{statement}
 use Rattle.memory.proofs.count_bits.Tie as tie

@@ -5,9 +5,9 @@ use native.Mathlib.Omega.{arith}
 use lib.Count.{ones}
 use lib.ListN.{getD}
 use borrow.Author.Needs.{needs}
-use Rattle.memory.specs.Loops.{count as countOf}
+use Rattle.base.specs.Loops.{count as countOf}
 use Rattle.memory.specs.Bits.{bitSet}
-use Rattle.memory.proofs.Count.{count-none, count-le}
+use Rattle.base.proofs.Count.{count-none, count-le}
 use Rattle.memory.proofs.Search.{count-byte}
 use Rattle.memory.proofs.count_chunk.Statement.{statement}
 use Rattle.memory.proofs.count_chunk.Tie as tie

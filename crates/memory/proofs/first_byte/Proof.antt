@@ -7,7 +7,7 @@ use native.Mathlib.Nat.{sub-self}
 use lib.ListN.{getD}
 use borrow.Author.Needs.{needs}
 use borrow.Author.Tests.{eq-eqb, ne-eqb}
-use Rattle.memory.specs.Loops.{firstFrom}
+use Rattle.base.specs.Loops.{firstFrom}
 use Rattle.memory.specs.Bytes.{nonZero}
 use Rattle.memory.proofs.First.{first-end, first-here, first-more}
 use Rattle.memory.proofs.first_byte.Statement.{statement}

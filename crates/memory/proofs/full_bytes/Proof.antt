@@ -9,7 +9,7 @@ use lib.ListN.{getD}
 use borrow.Author.Needs.{needs}
 use borrow.Author.Tests.{eq-eqb, ne-eqb}
 use Rattle.memory.specs.Bytes.{fulls}
-use Rattle.memory.proofs.All.{all-none, all-more, all-fails}
+use Rattle.base.proofs.All.{all-none, all-more, all-fails}
 use Rattle.memory.proofs.full_bytes.Statement.{statement}
 use Rattle.memory.proofs.full_bytes.Tie as tie
 

@@ -5,7 +5,7 @@ use Prim.Native.Nat.{_-_, _≤_}
 use native.Mathlib.Omega.{arith}
 use borrow.Author.Needs.{needs}
 use borrow.Author.Tests.{not-false}
-use Rattle.memory.specs.Loops.{firstFrom}
+use Rattle.base.specs.Loops.{firstFrom}
 use Rattle.memory.specs.Bytes.{nonZero, zeros}
 use Rattle.memory.proofs.Zeros.{zeros-skip}
 use Rattle.memory.proofs.skip_runs.Statement.{statement}

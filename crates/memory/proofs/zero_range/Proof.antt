@@ -4,7 +4,7 @@ use Prim.Native.Nat.{ℕ, _+_, _-_}
 use native.Mathlib.Omega.{arith}
 use lib.Dec.{eqb}
 use borrow.Author.Needs.{needs}
-use Rattle.memory.specs.Loops.{firstFrom}
+use Rattle.base.specs.Loops.{firstFrom}
 use Rattle.memory.specs.Bytes.{nonZero}
 use Rattle.memory.proofs.Zeros.{zeros-first}
 use Rattle.memory.proofs.zero_range.Statement.{statement}

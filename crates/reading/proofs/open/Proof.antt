@@ -3,8 +3,8 @@ use mathlib.Core.Path.{_≡_, ap, _∙_}
 use lib.ListN.{length}
 use borrow.Author.Tests.{eq-eqb, ne-eqb}
 use Rattle.protocol.specs.Table.{first}
-use Rattle.outcome.specs.Answer.{told, answerOf}
-use Rattle.outcome.specs.declared.Answer.the-variants.{Done}
+use Rattle.record.specs.Answer.{reply, answerOf}
+use Rattle.record.specs.declared.Answer.the-variants.{Done}
 use Rattle.record.specs.Layout.{size}
 use Rattle.record.specs.Reading.{openRefusal, openBytes}
 use Rattle.record.proofs.Opened.{opened-bytes}
@@ -37,7 +37,7 @@ returns-2 c =
     let b = c .before .before .before .before .before .before in
     let l = b .before .before .before .before .args .rec .now in
     let e : length l ≡ size = b .before .before .if1 .left in
-    rw (eq-eqb (length l) size e) (ap (told Done) (opened-bytes _ .1 (c .before .before .no-links .ensures)))
+    rw (eq-eqb (length l) size e) (ap (reply Done) (opened-bytes _ .1 (c .before .before .no-links .ensures)))
 
 pub open-spec : {M : Type 1} → statement M
 open-spec = tie.close (tie.spec returns fill-requires no-links-requires same-length returns-2)

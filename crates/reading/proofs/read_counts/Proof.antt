@@ -5,8 +5,8 @@ use mathlib.Core.Bool.{Bool}
 use native.Mathlib.Omega.{arith}
 use borrow.Author.Needs.{needs}
 use borrow.Author.Tests.{eqb-true}
-use Rattle.memory.specs.Loops.{count}
-use Rattle.memory.proofs.Count.{count-le}
+use Rattle.base.specs.Loops.{count}
+use Rattle.base.proofs.Count.{count-le}
 use Rattle.record.specs.Layout.{messages}
 use Rattle.record.proofs.Refused.{record-passed, wrong-size}
 use Rattle.record.proofs.Reading.{count-fit}

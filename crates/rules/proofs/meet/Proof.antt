@@ -3,8 +3,8 @@ use borrow.Author.Tests.{eq-eqb, ne-eqb}
 use borrow.Author.Needs.{needs}
 use Rattle.protocol.specs.Rules.{effect, meeting}
 use Rattle.protocol.specs.Calls.{rule}
-use Rattle.record.proofs.Sent.{sentBits}
-use Rattle.rules.specs.Done.{changed, done}
+use Rattle.record.specs.inner.Sent.{sentBits}
+use Rattle.rules.specs.inner.Done.{changed, done}
 use Rattle.record.proofs.Links.{linkOf-some, linkOf-none}
 use Rattle.rules.proofs.meet.Statement.{statement}
 use Rattle.rules.proofs.meet.Tie as tie

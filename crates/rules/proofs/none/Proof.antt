@@ -2,8 +2,8 @@
 use borrow.Author.Needs.{needs}
 use Rattle.protocol.specs.Rules.{effect}
 use Rattle.protocol.specs.Calls.{rule}
-use Rattle.record.proofs.Sent.{sentBits}
-use Rattle.rules.specs.Done.{changed, done}
+use Rattle.record.specs.inner.Sent.{sentBits}
+use Rattle.rules.specs.inner.Done.{changed, done}
 use Rattle.rules.proofs.none.Statement.{statement}
 use Rattle.rules.proofs.none.Tie as tie
 

@@ -4,8 +4,8 @@ use borrow.Author.Tests.{lt-ltb, le-ltb}
 use borrow.Author.Needs.{needs}
 use Rattle.protocol.specs.Rules.{effect, probing}
 use Rattle.protocol.specs.Calls.{rule}
-use Rattle.record.proofs.Sent.{sentBits}
-use Rattle.rules.specs.Done.{changed, done}
+use Rattle.record.specs.inner.Sent.{sentBits}
+use Rattle.rules.specs.inner.Done.{changed, done}
 use Rattle.record.proofs.Links.{side-opp}
 use Rattle.rules.proofs.probe.Statement.{statement}
 use Rattle.rules.proofs.probe.Tie as tie

@@ -4,8 +4,8 @@ use borrow.Author.Needs.{needs}
 use Rattle.protocol.specs.Rules.{effect, pulling}
 use Rattle.protocol.specs.Calls.{rule}
 use Rattle.record.proofs.Form.{meaning-vector}
-use Rattle.record.proofs.Sent.{sentBits}
-use Rattle.rules.specs.Done.{changed, done}
+use Rattle.record.specs.inner.Sent.{sentBits}
+use Rattle.rules.specs.inner.Done.{changed, done}
 use Rattle.record.proofs.Links.{side-opp}
 use Rattle.rules.proofs.Sides.{same-bits}
 use Rattle.rules.proofs.pull.Statement.{statement}

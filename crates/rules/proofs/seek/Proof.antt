@@ -2,8 +2,8 @@
 use borrow.Author.Needs.{needs}
 use Rattle.protocol.specs.Rules.{effect, seeking, passing}
 use Rattle.protocol.specs.Calls.{rule}
-use Rattle.record.proofs.Sent.{sentBits}
-use Rattle.rules.specs.Done.{changed, done}
+use Rattle.record.specs.inner.Sent.{sentBits}
+use Rattle.rules.specs.inner.Done.{changed, done}
 use Rattle.record.proofs.Links.{linkOf-some, linkOf-none}
 use Rattle.rules.proofs.Sides.{staying-in}
 use Rattle.rules.proofs.seek.Statement.{statement}

@@ -1,7 +1,7 @@
 -- `rules::spread` meets its contract. Assumes nothing.
 use borrow.Author.Tests.{le-ltb}
 use borrow.Author.Needs.{needs}
-use Rattle.record.proofs.Sent.{sentBits}
+use Rattle.record.specs.inner.Sent.{sentBits}
 use Rattle.rules.proofs.Linked.{spread-sent}
 use Rattle.rules.proofs.spread.Statement.{statement}
 use Rattle.rules.proofs.spread.Tie as tie

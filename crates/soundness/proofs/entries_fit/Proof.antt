@@ -1,7 +1,7 @@
 -- `soundness::entries_fit` meets its contract. Assumes nothing.
 use borrow.Author.Needs.{needs}
-use Rattle.roster.proofs.Tests.{and-stop, and-go}
-use Rattle.soundness.specs.Parts.{entriesFit}
+use Rattle.base.proofs.Stops.{and-stop, and-go}
+use Rattle.soundness.specs.inner.Parts.{entriesFit}
 use Rattle.soundness.proofs.entries_fit.Statement.{statement}
 use Rattle.soundness.proofs.entries_fit.Tie as tie
 

@@ -6,11 +6,11 @@ use mathlib.Core.Bool.{Bool, _&&_}
 use mathlib.Core.List.{List}
 use native.Mathlib.Omega.{arith}
 use borrow.Author.Tests.{le-leb, lt-leb}
-use Rattle.memory.specs.Loops.{all}
-use Rattle.memory.proofs.Cases.{and-assoc, and-left}
+use Rattle.base.specs.Loops.{all}
+use Rattle.base.proofs.Cases.{and-assoc, and-left}
 use Rattle.record.specs.Layout.{seats}
 use Rattle.record.specs.Sound.{numbersDiffer, linksFit}
-use Rattle.soundness.specs.Parts.{seatFits}
+use Rattle.soundness.specs.inner.Parts.{seatFits}
 use Rattle.soundness.proofs.lots_fit.Statement.{statement}
 use Rattle.soundness.proofs.lots_fit.Tie as tie
 

@@ -2,7 +2,7 @@
 use mathlib.Core.Path.{refl}
 use borrow.Author.Needs.{needs}
 use borrow.Author.Tests.{ne-eqb}
-use Rattle.graph.proofs.Tests.{true-false}
+use Rattle.base.proofs.Tests.{true-false}
 use Rattle.protocol.specs.Table.{first}
 use Rattle.record.specs.Reading.{recordRefusal}
 use Rattle.soundness.proofs.record_refusal.Statement.{statement}

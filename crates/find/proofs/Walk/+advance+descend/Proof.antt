@@ -2,7 +2,7 @@
 use Prim.Native.Nat.{ℕ, _<_, _*_, _+_}
 use mathlib.Core.Path.{sym, _∙_}
 use native.Mathlib.Omega.{arith}
-use Rattle.find.specs.Steps.{remains}
+use Rattle.find.specs.inner.Steps.{remains}
 use Rattle.find.proofs.Read.{number-read}
 use Rattle.find.proofs.Steps.{lot-seat, stop-walked, move-ready, move-less, move-fits, move-walked}
 use Rattle.find.proofs.Steps.{to-drop, end-walked, drop-ready, drop-walked}

@@ -4,22 +4,22 @@ use mathlib.Core.Logic.{⊎-elim}
 use Prim.Native.Nat.{ℕ, _-_, _≤_}
 use native.Mathlib.Omega.{arith}
 use borrow.Author.Needs.{needs}
-use Rattle.memory.specs.Loops.{count, oneIf}
-use Rattle.memory.proofs.Count.{count-none, count-more, count-le}
+use Rattle.base.specs.Loops.{count, oneIf}
+use Rattle.base.proofs.Count.{count-none, count-more, count-le}
 use Rattle.protocol.specs.State.{seated}
 use Rattle.record.specs.Layout.{seats}
-use Rattle.record.specs.Meaning.{rosterIn}
+use Rattle.record.specs.Meaning.{seatsIn}
 use Rattle.reading.proofs.counts.seated_lots.Statement.{statement}
 use Rattle.reading.proofs.counts.seated_lots.Tie as tie
 
 abbrev Inv-loop : tie.InvT-loop
-Inv-loop rec n₀ s₀ n s = (s ≤ 64) × (n ≡ count s (seated (rosterIn rec)))
+Inv-loop rec n₀ s₀ n s = (s ≤ 64) × (n ≡ count s (seated (seatsIn rec)))
 
 abbrev μ-loop : tie.MeasureT-loop
 μ-loop rec n₀ s₀ n s = 64 - s
 
 loop-holds : tie.Need-loop-holds Inv-loop μ-loop
-loop-holds c = (search needs, sym (count-none (seated (rosterIn (c .before .args .rec .now)))))
+loop-holds c = (search needs, sym (count-none (seated (seatsIn (c .before .args .rec .now)))))
 
 is-seated-requires : tie.Need-is-seated-requires Inv-loop μ-loop
 is-seated-requires c κs = search needs
@@ -27,7 +27,7 @@ is-seated-requires c κs = search needs
 add-n : tie.Need-add-n Inv-loop μ-loop
 add-n c =
     let l = c .before .before .before .before .before .args .rec .now in
-    omega (arith, count-le (c .before .before .before .loop .s) (seated (rosterIn l)))
+    omega (arith, count-le (c .before .before .before .loop .s) (seated (seatsIn l)))
 
 add-s : tie.Need-add-s Inv-loop μ-loop
 add-s c = search needs
@@ -38,7 +38,7 @@ loop-less c = search needs
 loop-again : tie.Need-loop-again Inv-loop μ-loop
 loop-again c =
     let b = c .before .before .before in
-    let more = count-more (b .loop .s) (seated (rosterIn (b .before .before .args .rec .now))) in
+    let more = count-more (b .loop .s) (seated (seatsIn (b .before .before .args .rec .now))) in
     let one = ap oneIf (c .before .is-seated .ensures) in (
       search needs,
       ⊎-elim
@@ -51,7 +51,7 @@ returns : tie.Need-returns Inv-loop μ-loop
 returns c =
     let l = c .before .before .before .args .rec .now in
     let e : c .before .loop .s ≡ seats = omega arith in
-    c .before .loop .inv .1 ∙ ap (λ (n : ℕ). count n (seated (rosterIn l))) e
+    c .before .loop .inv .1 ∙ ap (λ (n : ℕ). count n (seated (seatsIn l))) e
 
 pub seated-lots-spec : {M : Type 1} → statement M
 seated-lots-spec =

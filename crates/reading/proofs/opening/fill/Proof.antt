@@ -3,7 +3,7 @@ use Prim.Native.Nat.{ℕ, _-_, _≤_}
 use mathlib.Core.Path.{_≡_, subst}
 use native.Mathlib.Omega.{arith}
 use borrow.Author.Needs.{needs}
-use Rattle.reading.specs.Filled.{Filled}
+use Rattle.reading.specs.inner.Filled.{Filled}
 use Rattle.reading.proofs.Filled.{filled-none, filled-more}
 use Rattle.reading.proofs.opening.fill.Statement.{statement}
 use Rattle.reading.proofs.opening.fill.Tie as tie

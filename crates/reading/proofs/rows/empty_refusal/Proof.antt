@@ -4,7 +4,7 @@ use borrow.Author.Tests.{not-true, not-false}
 use mathlib.Core.Path.{sym, _∙_}
 use Rattle.protocol.specs.State.{isFree}
 use Rattle.protocol.specs.Table.{first}
-use Rattle.record.specs.Meaning.{rosterIn}
+use Rattle.record.specs.Meaning.{seatsIn}
 use Rattle.reading.proofs.rows.empty_refusal.Statement.{statement}
 use Rattle.reading.proofs.rows.empty_refusal.Tie as tie
 
@@ -15,13 +15,13 @@ returns : tie.Need-returns
 unfolding first
 returns c =
     let a = c .before .before .before .args in
-    rw (not-true (isFree (rosterIn (a .rec .now) .state (a .s))) (sym (c .before .is-seated .ensures) ∙ c .if1 .taken))
+    rw (not-true (isFree (seatsIn (a .rec .now) .state (a .s))) (sym (c .before .is-seated .ensures) ∙ c .if1 .taken))
 
 returns-2 : tie.Need-returns-2
 unfolding first
 returns-2 c =
     let a = c .before .before .before .args in
-    rw (not-false (isFree (rosterIn (a .rec .now) .state (a .s))) (sym (c .before .is-seated .ensures) ∙ c .if1 .left))
+    rw (not-false (isFree (seatsIn (a .rec .now) .state (a .s))) (sym (c .before .is-seated .ensures) ∙ c .if1 .left))
 
 pub empty-refusal-spec : {M : Type 1} → statement M
 empty-refusal-spec = tie.close (tie.spec is-seated-requires returns returns-2)

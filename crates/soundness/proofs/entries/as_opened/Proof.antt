@@ -6,10 +6,10 @@ use lib.Dec.{eqb}
 use borrow.Author.Tests.{eq-eqb, ne-eqb}
 use Rattle.memory.proofs.Zeros.{number-zero}
 use Rattle.record.specs.Layout.{numberFrom}
-use Rattle.record.specs.Meaning.{rosterIn}
+use Rattle.record.specs.Meaning.{seatsIn}
 use Rattle.record.specs.Sound.{asOpened}
-use Rattle.roster.proofs.Tests.{and-stop, and-go}
-use Rattle.roster.proofs.Bytes.{number-bytes, vector-byte}
+use Rattle.base.proofs.Stops.{and-stop, and-go}
+use Rattle.record.proofs.SeatBytes.{number-bytes, vector-byte}
 use Rattle.soundness.proofs.entries.as_opened.Statement.{statement}
 use Rattle.soundness.proofs.entries.as_opened.Tie as tie
 
@@ -33,14 +33,14 @@ no-links-requires c κs = search needs
 
 -- what was tested is the number and the vector of the seat
 number-test : (c : tie.After-zero-word) → let r = c .before .before .args in
-    c .zero-word .result ≡ eqb (rosterIn (r .rec .now) .number (r .s)) 0
+    c .zero-word .result ≡ eqb (seatsIn (r .rec .now) .number (r .s)) 0
 number-test c =
     let r = c .before .before .args in
     let n = number-bytes (r .rec .now) (r .s) (search needs) in
     c .zero-word .ensures ∙ sym (ap (λ (k : ℕ). eqb k 0) n ∙ number-zero (r .rec .now) (numberFrom (r .s)) 8)
 
 vector-test : (c : tie.After-vector) → let r = c .before .before .before .before .args in
-    eqb (c .vector .result) 0 ≡ eqb (rosterIn (r .rec .now) .vector (r .s)) 0
+    eqb (c .vector .result) 0 ≡ eqb (seatsIn (r .rec .now) .vector (r .s)) 0
 vector-test c =
     let r = c .before .before .before .before .args in
     ap (λ (n : ℕ). eqb n 0) (c .vector .ensures ∙ sym (vector-byte (r .rec .now) (r .s) (search needs)))

@@ -2,8 +2,8 @@
 use borrow.Author.Needs.{needs}
 use Prim.Native.Nat.{ℕ, _%_}
 use mathlib.Core.Path.{sym, ap, _∙_}
-use Rattle.roster.proofs.Bytes.{number-bytes}
-use Rattle.soundness.specs.Buckets.{buckets}
+use Rattle.record.proofs.SeatBytes.{number-bytes}
+use Rattle.soundness.specs.inner.Buckets.{buckets}
 use Rattle.soundness.proofs.Kept.{kept-lot}
 use Rattle.soundness.proofs.entries.keep.Statement.{statement}
 use Rattle.soundness.proofs.entries.keep.Tie as tie

@@ -2,7 +2,7 @@
 use borrow.Author.Needs.{needs}
 use mathlib.Core.Path.{refl, sym, ap, _∙_}
 use mathlib.Core.Bool.{not}
-use Rattle.graph.proofs.Tests.{true-false}
+use Rattle.base.proofs.Tests.{true-false}
 use Rattle.soundness.proofs.Numbers.{all-differ}
 use Rattle.soundness.proofs.entries.lot_fits.Statement.{statement}
 use Rattle.soundness.proofs.entries.lot_fits.Tie as tie

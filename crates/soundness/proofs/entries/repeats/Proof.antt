@@ -7,18 +7,18 @@ use mathlib.Core.Path.{_≡_, refl, sym, ap, _∙_}
 use native.Mathlib.Omega.{arith}
 use lib.ListN.{getD}
 use borrow.Author.Tests.{eq-eqb, ne-eqb}
-use Rattle.protocol.specs.Numbering.{any}
-use Rattle.protocol.proofs.Any.{any-here}
-use Rattle.record.specs.Meaning.{rosterIn}
-use Rattle.roster.proofs.Bytes.{number-bytes}
-use Rattle.soundness.specs.Buckets.{buckets, bucketOf, sameNumber, lastIn}
+use Rattle.base.specs.Loops.{any}
+use Rattle.base.proofs.Any.{any-here}
+use Rattle.record.specs.Meaning.{seatsIn}
+use Rattle.record.proofs.SeatBytes.{number-bytes}
+use Rattle.soundness.specs.inner.Buckets.{buckets, bucketOf, sameNumber, lastIn}
 use Rattle.soundness.proofs.Buckets.{LotOf, last-le, last-lot, any-below, any-end}
 use Rattle.soundness.proofs.entries.repeats.Statement.{statement}
 use Rattle.soundness.proofs.entries.repeats.Tie as tie
 
 abbrev Inv-loop : tie.InvT-loop
 Inv-loop rec numbers last before s n y₀ y =
-    (n ≡ rosterIn rec .number s) × ((m : ℕ) × (m ≤ s) × (y ≡ lastIn rec m (bucketOf rec s))
+    (n ≡ seatsIn rec .number s) × ((m : ℕ) × (m ≤ s) × (y ≡ lastIn rec m (bucketOf rec s))
     × (any s (sameNumber rec s) ≡ any m (sameNumber rec s)))
 
 abbrev μ-loop : tie.MeasureT-loop
@@ -68,7 +68,7 @@ returns c =
     let x = lot (c .before .before) in
     let m = c .before .before .before .loop .inv in
     let y = c .before .before .before .loop .y - 1 in
-    let same : rosterIn l .number (r .args .s) ≡ rosterIn l .number y =
+    let same : seatsIn l .number (r .args .s) ≡ seatsIn l .number y =
     sym (m .0) ∙ sym (c .if1 .taken) ∙ r .pre .2 .number y (omega (arith, x .below, m .1 .1)) (x .lot) in
     sym (any-here (r .args .s) y (sameNumber l (r .args .s)) (omega (arith, x .below, m .1 .1)) (rw (x .lot, eq-eqb _ _ same)))
 
@@ -94,7 +94,7 @@ goes-on c =
     let m = b .before .loop .inv in
     let below : x < s = omega (arith, lot b .below, m .1 .1) in
     let at = r .pre .2 .number x below (lot b .lot) in
-    let other : rosterIn l .number s ≡ rosterIn l .number x → ⊥ = λ e. c .before .if1 .left (at ∙ sym e ∙ sym (m .0)) in (
+    let other : seatsIn l .number s ≡ seatsIn l .number x → ⊥ = λ e. c .before .if1 .left (at ∙ sym e ∙ sym (m .0)) in (
       r .pre .2 .links x below (lot b .lot) ∙ ap (lastIn l x) (lot b .same),
       m .1 .3 ∙ any-below l s (m .1 .0) (b .before .loop .y) (m .1 .2) (b .loop-test .taken) (rw (lot b .lot) (ne-eqb _ _ other)),
     )

@@ -5,8 +5,8 @@ use mathlib.Core.Bool.{true, false}
 use lib.Dec.{ltb}
 use lib.ListN.{getD}
 use borrow.Author.Tests.{lt-ltb, le-ltb}
-use Rattle.graph.proofs.Tests.{true-false}
-use Rattle.memory.proofs.Cases.{and-true}
+use Rattle.base.proofs.Tests.{true-false}
+use Rattle.base.proofs.Cases.{and-true}
 use Rattle.record.specs.Layout.{stateAt}
 use Rattle.soundness.proofs.Numbers.{free-differs}
 use Rattle.soundness.proofs.Kept.{kept-free}

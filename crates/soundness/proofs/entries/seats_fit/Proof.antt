@@ -8,14 +8,14 @@ use mathlib.Core.Bool.{Bool, true, false, _&&_}
 use mathlib.Core.List.{List}
 use native.Mathlib.Omega.{arith}
 use borrow.Author.Tests.{not-false, le-leb}
-use Rattle.memory.specs.Loops.{all}
-use Rattle.memory.proofs.All.{all-none}
+use Rattle.base.specs.Loops.{all}
+use Rattle.base.proofs.All.{all-none}
 use Rattle.protocol.specs.State.{seated}
 use Rattle.record.specs.Layout.{seats}
-use Rattle.record.specs.Meaning.{rosterIn}
-use Rattle.roster.proofs.Tests.{all-stop, all-go, all-end}
-use Rattle.soundness.specs.Parts.{differ, seatFits}
-use Rattle.soundness.specs.Buckets.{Kept}
+use Rattle.record.specs.Meaning.{seatsIn}
+use Rattle.base.proofs.Stops.{all-stop, all-go, all-end}
+use Rattle.soundness.specs.inner.Parts.{differ, seatFits}
+use Rattle.soundness.specs.inner.Buckets.{Kept}
 use Rattle.soundness.proofs.Numbers.{seat-clauses}
 use Rattle.soundness.proofs.Kept.{kept-none, none-above}
 use Rattle.soundness.proofs.entries.seats_fit.Statement.{statement}
@@ -28,7 +28,7 @@ passes l s = seatFits l s && all s (differ l s)
 abbrev Inv-loop : tie.InvT-loop
 Inv-loop rec numbers₀ last₀ before₀ top₀ s₀ numbers last before top s = (s ≤ seats) × (top ≤ s)
     × (all s (passes rec) ≡ true) × Kept rec s numbers last before
-    × ((y : ℕ) → y < s → top ≤ y → seated (rosterIn rec) y ≡ false)
+    × ((y : ℕ) → y < s → top ≤ y → seated (seatsIn rec) y ≡ false)
 
 abbrev μ-loop : tie.MeasureT-loop
 μ-loop rec numbers₀ last₀ before₀ top₀ s₀ numbers last before top s = seats - s
@@ -63,7 +63,7 @@ loop-less c = search needs
 -- where the last lot below s + 1 is
 top-next : (c : tie.Joined2 Inv-loop μ-loop) → let s = c .before .before .before .before .before .before .before .before .loop .s in
     let l = c .before .before .before .before .before .before .before .before .before .before .args .rec .now in
-    (c .if2 .top ≤ s + 1) × ((y : ℕ) → y < s + 1 → c .if2 .top ≤ y → seated (rosterIn l) y ≡ false)
+    (c .if2 .top ≤ s + 1) × ((y : ℕ) → y < s + 1 → c .if2 .top ≤ y → seated (seatsIn l) y ≡ false)
 top-next c =
     let b = c .before .before .before .before .before .before .before .before in
     let i = b .loop .inv in

@@ -1,6 +1,6 @@
 -- `soundness::links::level_fits` meets its contract. Assumes nothing.
 use borrow.Author.Needs.{needs}
-use Rattle.roster.proofs.Tests.{and-stop, and-go}
+use Rattle.base.proofs.Stops.{and-stop, and-go}
 use Rattle.soundness.proofs.links.level_fits.Statement.{statement}
 use Rattle.soundness.proofs.links.level_fits.Tie as tie
 

@@ -7,8 +7,8 @@ use borrow.Author.Tests.{eq-eqb, ne-eqb, lt-ltb, le-ltb}
 use Rattle.graph.specs.Vector.{width}
 use Rattle.protocol.specs.Sound.{linkOk}
 use Rattle.record.specs.Layout.{seats, noLink}
-use Rattle.record.specs.Meaning.{rosterIn}
-use Rattle.record.specs.Reading.{sideOfNumber}
+use Rattle.record.specs.Meaning.{seatsIn}
+use Rattle.graph.specs.Side.{sideOfNumber}
 use Rattle.record.specs.Sound.{linkFits}
 use Rattle.soundness.proofs.LinkByte.{link-byte}
 use Rattle.soundness.proofs.links.link_fits.Statement.{statement}
@@ -21,7 +21,7 @@ link-requires c κs = search needs
 by-byte : (c : tie.After-link) → let r = c .before .before .args in
     let b = c .link .result in
     let d = sideOfNumber (r .d) in
-    linkFits (r .rec .now) (r .x) (r .k) d ≡ eqb b noLink || (ltb b seats && linkOk width (rosterIn (r .rec .now)) (r .x) (r .k) d b)
+    linkFits (r .rec .now) (r .x) (r .k) d ≡ eqb b noLink || (ltb b seats && linkOk width (seatsIn (r .rec .now)) (r .x) (r .k) d b)
 by-byte c =
     let r = c .before .before .args in
     link-byte (r .rec .now) (r .x) (r .k) (r .d) (c .link .result) (search needs) (c .link .ensures)

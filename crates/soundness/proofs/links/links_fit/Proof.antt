@@ -6,13 +6,13 @@ use mathlib.Core.Bool.{true, _&&_}
 use native.Mathlib.Omega.{arith}
 use mathlib.Core.Logic.{⊎-elim}
 use borrow.Author.Needs.{needs}
-use Rattle.memory.specs.Loops.{all}
-use Rattle.memory.proofs.Cases.{lt-or-ge}
-use Rattle.memory.proofs.All.{all-none, all-at, all-from}
+use Rattle.base.specs.Loops.{all}
+use Rattle.base.proofs.Cases.{lt-or-ge}
+use Rattle.base.proofs.All.{all-none, all-at, all-from}
 use Rattle.graph.specs.Side.{left, right}
 use Rattle.record.specs.Layout.{seats, levels}
 use Rattle.record.specs.Sound.{linkFits, linksFit}
-use Rattle.roster.proofs.Tests.{all-stop, all-go}
+use Rattle.base.proofs.Stops.{all-stop, all-go}
 use Rattle.soundness.proofs.LinkByte.{free-links}
 use Rattle.soundness.proofs.links.links_fit.Statement.{statement}
 use Rattle.soundness.proofs.links.links_fit.Tie as tie

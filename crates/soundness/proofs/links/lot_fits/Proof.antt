@@ -3,12 +3,12 @@ use Prim.Native.Nat.{_≤_, _-_}
 use mathlib.Core.Path.{_≡_}
 use mathlib.Core.Bool.{true, _&&_}
 use borrow.Author.Needs.{needs}
-use Rattle.memory.specs.Loops.{all}
-use Rattle.memory.proofs.All.{all-none}
+use Rattle.base.specs.Loops.{all}
+use Rattle.base.proofs.All.{all-none}
 use Rattle.graph.specs.Side.{left, right}
 use Rattle.record.specs.Layout.{levels}
 use Rattle.record.specs.Sound.{linkFits}
-use Rattle.roster.proofs.Tests.{all-stop, all-go, all-end}
+use Rattle.base.proofs.Stops.{all-stop, all-go, all-end}
 use Rattle.soundness.proofs.links.lot_fits.Statement.{statement}
 use Rattle.soundness.proofs.links.lot_fits.Tie as tie
 

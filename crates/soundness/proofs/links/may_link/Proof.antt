@@ -2,8 +2,8 @@
 use mathlib.Core.Path.{sym, ap₂, _∙_}
 use borrow.Author.Needs.{needs}
 use Rattle.graph.specs.Side.{onSide}
-use Rattle.record.specs.Reading.{sideOfNumber}
-use Rattle.roster.proofs.Tests.{and-stop, and-go}
+use Rattle.graph.specs.Side.{sideOfNumber}
+use Rattle.base.proofs.Stops.{and-stop, and-go}
 use Rattle.soundness.proofs.LinkByte.{link-ok}
 use Rattle.soundness.proofs.links.may_link.Statement.{statement}
 use Rattle.soundness.proofs.links.may_link.Tie as tie

@@ -1,0 +1,2 @@
+-- What loops over the numbers below a bound answer.
+pub mod Loops

@@ -1,0 +1,60 @@
+-- `clearing::free_seat` meets its contract. Assumes nothing.
+use Prim.Native.Nat.{ℕ}
+use mathlib.Core.Path.{sym, ap, _∙_}
+use mathlib.Core.List.{List}
+use native.Mathlib.Omega.{arith}
+use lib.ListN.{set}
+use borrow.Author.Needs.{needs}
+use Rattle.memory.specs.Bytes.{putNumber}
+use Rattle.record.specs.Layout.{numberFrom, vectorAt}
+use Rattle.clearing.proofs.Freeing.{free-lot, keep-lot}
+use Rattle.clearing.proofs.free_seat.Statement.{statement}
+use Rattle.clearing.proofs.free_seat.Tie as tie
+
+is-leaving-requires : tie.Need-is-leaving-requires
+is-leaving-requires c κs = search needs
+
+set-state-requires : tie.Need-set-state-requires
+set-state-requires c κs = search needs
+
+set-number-requires : tie.Need-set-number-requires
+set-number-requires c κs = search needs
+
+set-vector-requires : tie.Need-set-vector-requires
+set-vector-requires c κs = search needs
+
+same-length : tie.Need-same-length
+same-length c = search needs
+
+returns : tie.Need-returns
+returns c = λ M f e.
+    let a = c .before .before .before .before .before .before in
+    let b = a .before .before .before .before in
+    let d = b .before .before in
+    let s = d .before .before .before .before .args .s in
+    c .before .before .set-vector .ensures
+    ∙ ap (λ (l : List ℕ). set l (vectorAt s) 0) (a .set-number .ensures
+    ∙ ap (λ (l : List ℕ). putNumber l (numberFrom s) 8 0) (b .set-state .ensures))
+    ∙ free-lot M s (omega arith) e (sym (d .before .is-leaving .ensures) ∙ d .if1 .taken)
+
+same-length-2 : tie.Need-same-length-2
+same-length-2 c = search needs
+
+returns-2 : tie.Need-returns-2
+returns-2 c = λ M f e.
+    let a = c .before in
+    let s = a .before .before .before .args .s in
+    keep-lot M s (omega arith) e (sym (a .is-leaving .ensures) ∙ c .if1 .left)
+
+pub free-seat-spec : {M : Type 1} → statement M
+free-seat-spec =
+    tie.close
+    (tie.spec
+    is-leaving-requires
+    set-state-requires
+    set-number-requires
+    set-vector-requires
+    same-length
+    returns
+    same-length-2
+    returns-2)

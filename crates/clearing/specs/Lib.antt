@@ -1,0 +1,2 @@
+-- What the inner steps of a turn leave.
+pub mod inner

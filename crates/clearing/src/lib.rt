@@ -1,0 +1,225 @@
+// Turn (document 01, "Calls"): into phase clearing, or out of it.
+ghost use mathlib.Core.Path.{_≡_};
+ghost use Prim.Native.Nat.{_+_, _*_, _-_, _<_};
+ghost use lib.ListN.{length, getD};
+ghost use Rattle.graph.specs.Vector.{width};
+ghost use Rattle.base.specs.Loops.{any};
+ghost use Rattle.protocol.specs.Numbering.{somePending};
+ghost use Rattle.protocol.specs.Table.{turn as turning};
+ghost use Rattle.protocol.specs.State.{leaves};
+ghost use Rattle.protocol.specs.Calls.{farewell, farewells, accept};
+ghost use Rattle.record.specs.Layout.{seats, levels, size, entryAt};
+ghost use Rattle.record.specs.Meaning.{seatsIn, meaning};
+ghost use Rattle.graph.specs.Side.{sideOfNumber};
+ghost use Rattle.record.specs.Call.{callRefusal, called};
+ghost use Rattle.record.specs.Answer.{reply, replyOf};
+ghost use Rattle.clearing.specs.inner.Steps.{Step, same, saying, lotFarewells, farewellsFrom, linkGoes, linkPlace, relinked, freedTo, begun, ended};
+use messages::going_place;
+use record::Answer;
+use record::CLEARING;
+use record::FREE;
+use record::LEVELS;
+use record::NONE;
+use record::OPEN;
+use record::PENDING;
+use record::SEATS;
+use record::SIZE;
+use record::lots::is_leaving;
+use record::refusals::MESSAGES_LEFT;
+use record::refusals::WRONG_SIZE;
+
+// The sides.
+const LEFT: usize = 0;
+
+const RIGHT: usize = 1;
+
+fn has_leaver(rec: &[u8]) -> bool
+    requires { ⌜ length (now rec) ≡ size ⌝ }
+    ensures { λ r. ⌜ r ≡ any seats (leaves (seatsIn (now (rec .entry)))) ⌝ }
+{
+    for s in 0..SEATS {
+        if is_leaving(rec, s) {
+            return true;
+        }
+    }
+    false
+}
+
+// The link of seat s at level k on side d as a number.
+fn link(rec: &[u8], s: usize, k: usize, d: usize) -> usize
+    requires { ⌜ (length (now rec) ≡ size) × (s < seats) × (k < levels) × (d < 2) ⌝ }
+    ensures { λ r. ⌜ r ≡ getD (now (rec .entry)) (entryAt s + 10 + 2 * k + d) 0 ⌝ }
+{
+    record::link(rec, s, k, d) as usize
+}
+
+// Sends GOING from y to its link at level k on side d, if there is one, with the side on which the receiver has y.
+fn tell(rec: &mut [u8], y: usize, k: usize, d: usize)
+    requires { ⌜ (length (now rec) ≡ size) × (y < seats) × (k < levels) × (d < 2) ⌝ }
+    ensures { λ _. ⌜ Step same (λ M. saying M (farewell (M .link) y k (sideOfNumber d))) (now (rec .entry)) (now (rec .exit)) ⌝ }
+{
+    let to = link(rec, y, k, d);
+    if to < SEATS {
+        record::send(rec, going_place(to, k, 1 - d));
+    }
+}
+
+fn tell_links(rec: &mut [u8], y: usize)
+    requires { ⌜ (length (now rec) ≡ size) × (y < seats) ⌝ }
+    ensures { λ _. ⌜ Step same (λ M. saying M (lotFarewells (M .link) y)) (now (rec .entry)) (now (rec .exit)) ⌝ }
+{
+    for k in 0..LEVELS {
+        tell(rec, y, k, LEFT);
+        tell(rec, y, k, RIGHT);
+    }
+}
+
+fn tell_if_leaving(rec: &mut [u8], y: usize)
+    requires { ⌜ (length (now rec) ≡ size) × (y < seats) ⌝ }
+    ensures { λ _. ⌜ Step same (λ M. saying M (farewellsFrom M y)) (now (rec .entry)) (now (rec .exit)) ⌝ }
+{
+    if is_leaving(rec, y) {
+        tell_links(rec, y);
+    }
+}
+
+// Every leaver sends GOING to each of its links.
+fn tell_all(rec: &mut [u8])
+    requires { ⌜ length (now rec) ≡ size ⌝ }
+    ensures { λ _. ⌜ Step same (λ M. saying M (farewells seats width (M .seats) (M .link))) (now (rec .entry)) (now (rec .exit)) ⌝ }
+{
+    for y in 0..SEATS {
+        tell_if_leaving(rec, y);
+    }
+}
+
+// Whether a link from x that is y becomes none: it names a seat, and one of the two is freed.
+fn parts(rec: &[u8], x: usize, y: usize) -> bool
+    requires { ⌜ (length (now rec) ≡ size) × (x < seats) ⌝ }
+    ensures { λ r. ⌜ r ≡ linkGoes (now (rec .entry)) x y ⌝ }
+{
+    y < SEATS && (is_leaving(rec, x) || is_leaving(rec, y))
+}
+
+// Makes the link of x at level k on side d none if x or the lot that it names leaves.
+fn unlink(rec: &mut [u8], x: usize, k: usize, d: usize)
+    requires { ⌜ (length (now rec) ≡ size) × (x < seats) × (k < levels) × (d < 2) ⌝ }
+    ensures { λ _. ⌜ Step (relinked (linkPlace x k d)) (relinked (linkPlace x k d + 1)) (now (rec .entry)) (now (rec .exit)) ⌝ }
+{
+    let y = link(rec, x, k, d);
+    if parts(rec, x, y) {
+        record::set_link(rec, x, k, d, NONE);
+    }
+}
+
+fn unlink_lot(rec: &mut [u8], x: usize)
+    requires { ⌜ (length (now rec) ≡ size) × (x < seats) ⌝ }
+    ensures { λ _. ⌜ Step (relinked (linkPlace x 0 0)) (relinked (linkPlace (x + 1) 0 0)) (now (rec .entry)) (now (rec .exit)) ⌝ }
+{
+    for k in 0..LEVELS {
+        unlink(rec, x, k, LEFT);
+        unlink(rec, x, k, RIGHT);
+    }
+}
+
+// Makes the links of leavers, and all links to leavers, none.
+fn unlink_all(rec: &mut [u8])
+    requires { ⌜ length (now rec) ≡ size ⌝ }
+    ensures { λ _. ⌜ Step same (relinked (linkPlace seats 0 0)) (now (rec .entry)) (now (rec .exit)) ⌝ }
+{
+    for x in 0..SEATS {
+        unlink_lot(rec, x);
+    }
+}
+
+// Frees seat s if its lot leaves; its links are none already.
+fn free_seat(rec: &mut [u8], s: usize)
+    requires { ⌜ (length (now rec) ≡ size) × (s < seats) ⌝ }
+    ensures { λ _. ⌜ Step (freedTo s) (freedTo (s + 1)) (now (rec .entry)) (now (rec .exit)) ⌝ }
+{
+    if is_leaving(rec, s) {
+        record::set_state(rec, s, FREE);
+        record::set_number(rec, s, 0);
+        record::set_vector(rec, s, 0);
+    }
+}
+
+fn free_all(rec: &mut [u8])
+    requires { ⌜ length (now rec) ≡ size ⌝ }
+    ensures { λ _. ⌜ Step same (freedTo seats) (now (rec .entry)) (now (rec .exit)) ⌝ }
+{
+    for s in 0..SEATS {
+        free_seat(rec, s);
+    }
+}
+
+// Into phase clearing: GOING to the links of the leavers.
+fn begin_clearing(rec: &mut [u8])
+    requires { ⌜ length (now rec) ≡ size ⌝ }
+    ensures { λ _. ⌜ Step same begun (now (rec .entry)) (now (rec .exit)) ⌝ }
+{
+    tell_all(rec);
+    record::set_phase(rec, CLEARING);
+}
+
+// Out of it: the leavers' seats become free. Links are tested while the leavers still sit.
+fn end_clearing(rec: &mut [u8])
+    requires { ⌜ length (now rec) ≡ size ⌝ }
+    ensures { λ _. ⌜ Step same ended (now (rec .entry)) (now (rec .exit)) ⌝ }
+{
+    unlink_all(rec);
+    free_all(rec);
+    record::set_phase(rec, OPEN);
+}
+
+// What an accepted turn does.
+fn carry_out(rec: &mut [u8])
+    requires { ⌜ length (now rec) ≡ size ⌝ }
+    ensures { λ _. ⌜ Step same (λ M. accept seats width M turning) (now (rec .entry)) (now (rec .exit)) ⌝ }
+{
+    if record::phase(rec) != OPEN {
+        end_clearing(rec);
+        return;
+    }
+    if has_leaver(rec) {
+        begin_clearing(rec);
+    }
+}
+
+fn has_pending(rec: &[u8]) -> bool
+    requires { ⌜ length (now rec) ≡ size ⌝ }
+    ensures { λ r. ⌜ r ≡ somePending seats width (meaning (now (rec .entry)) .pending) ⌝ }
+{
+    !memory::zero_range(rec, PENDING, SIZE - PENDING)
+}
+
+// The refusal number of a turn, 0 if it is accepted. The pending bytes are looked at once.
+fn turn_refusal(rec: &[u8]) -> u8
+    ensures { λ r. ⌜ r ≡ callRefusal (now (rec .entry)) turning ⌝ }
+{
+    if rec.len() != SIZE {
+        return WRONG_SIZE;
+    }
+    let pending = has_pending(rec);
+    let n = soundness::sized_refusal(rec, !pending);
+    if n != 0 {
+        return n;
+    }
+    if pending {
+        return MESSAGES_LEFT;
+    }
+    0
+}
+
+// In phase open with leavers: phase clearing, and every leaver sends GOING to each of its links; without leavers nothing changes. In phase
+// clearing: the leavers' seats become free, a link to one becomes none, phase open. Refused by 1, 2, 11, in this order.
+pub fn turn(rec: &mut [u8]) -> Answer
+    ensures { λ r. ⌜ reply r (now (rec .exit)) ≡ replyOf (called (now (rec .entry)) turning) ⌝ }
+{
+    let n = turn_refusal(rec);
+    if n != 0 {
+        return record::answer_of(n);
+    }
+    carry_out(rec);
+    Answer::Done
+}

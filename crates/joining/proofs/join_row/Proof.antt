@@ -1,0 +1,108 @@
+-- `joining::join_row` meets its contract: its tests are the rows of the table, in order. Assumes nothing.
+use mathlib.Core.Path.{_≡_, refl, sym, _∙_}
+use mathlib.Core.Bool.{Bool, true, false, _||_}
+use lib.Dec.{ltb}
+use borrow.Author.Needs.{needs}
+use borrow.Author.Tests.{ltb-true, not-false}
+use Rattle.protocol.specs.Table.{rows, refusal}
+use Rattle.record.specs.Meaning.{meaning}
+use Rattle.record.specs.Layout.{seats}
+use Rattle.joining.proofs.Rows.{row-here, row-next, row-end}
+use Rattle.joining.proofs.join_row.Statement.{statement}
+use Rattle.joining.proofs.join_row.Tie as tie
+
+or-fst : (a b : Bool) → a || b ≡ false → a ≡ false
+or-fst true b e = e
+or-fst false b e = refl
+
+lacks-seat-requires : tie.Need-lacks-seat-requires
+lacks-seat-requires c κs = search needs
+
+returns : tie.Need-returns
+unfolding refusal rows
+returns c v =
+    row-here 3 _ (c .before .lacks-seat .ensures) (c .if1 .taken)
+
+is-clearing-requires : tie.Need-is-clearing-requires
+is-clearing-requires c κs = search needs
+
+returns-2 : tie.Need-returns-2
+unfolding refusal rows meaning
+returns-2 c v =
+    row-next 3 _ (c .before .before .before .lacks-seat .ensures) (c .before .before .if1 .left)
+    (row-here 7 _ (c .before .is-clearing .ensures) (c .if2 .taken))
+
+is-seated-requires : tie.Need-is-seated-requires
+is-seated-requires c κs =
+    let s = c .before .before .before .before .before .args .seat in
+    let e = sym (c .before .before .before .lacks-seat .ensures) ∙ c .before .before .if1 .left in
+    (search needs, ltb-true s seats (not-false (ltb s seats) (or-fst _ _ e)))
+
+returns-3 : tie.Need-returns-3
+unfolding refusal rows meaning
+returns-3 c v =
+    let d = c .before .before in
+    let e = d .before .before in
+    row-next 3 _ (e .before .lacks-seat .ensures) (e .if1 .left)
+    (row-next 7 _ (d .before .is-clearing .ensures) (d .if2 .left)
+    (row-here 4 _ (c .before .is-seated .ensures) (c .if3 .taken)))
+
+has-number-requires : tie.Need-has-number-requires
+has-number-requires c κs = search needs
+
+returns-4 : tie.Need-returns-4
+unfolding refusal rows meaning
+returns-4 c v =
+    let d = c .before .before in
+    let e = d .before .before in
+    let f = e .before .before in
+    row-next 3 _ (f .before .lacks-seat .ensures) (f .if1 .left)
+    (row-next 7 _ (e .before .is-clearing .ensures) (e .if2 .left)
+    (row-next 4 _ (d .before .is-seated .ensures) (d .if3 .left)
+    (row-here 5 _ (c .before .has-number .ensures) (c .if4 .taken))))
+
+lacks-contact-requires : tie.Need-lacks-contact-requires
+lacks-contact-requires c κs = search needs
+
+returns-5 : tie.Need-returns-5
+unfolding refusal rows meaning
+returns-5 c v =
+    let d = c .before .before in
+    let e = d .before .before in
+    let f = e .before .before in
+    let g = f .before .before in
+    row-next 3 _ (g .before .lacks-seat .ensures) (g .if1 .left)
+    (row-next 7 _ (f .before .is-clearing .ensures) (f .if2 .left)
+    (row-next 4 _ (e .before .is-seated .ensures) (e .if3 .left)
+    (row-next 5 _ (d .before .has-number .ensures) (d .if4 .left)
+    (row-here 6 _ (c .before .lacks-contact .ensures) (c .if5 .taken)))))
+
+returns-6 : tie.Need-returns-6
+unfolding refusal rows meaning
+returns-6 c v =
+    let d = c .before .before in
+    let e = d .before .before in
+    let f = e .before .before in
+    let g = f .before .before in
+    row-next 3 _ (g .before .lacks-seat .ensures) (g .if1 .left)
+    (row-next 7 _ (f .before .is-clearing .ensures) (f .if2 .left)
+    (row-next 4 _ (e .before .is-seated .ensures) (e .if3 .left)
+    (row-next 5 _ (d .before .has-number .ensures) (d .if4 .left)
+    (row-next 6 _ (c .before .lacks-contact .ensures) (c .if5 .left)
+    row-end))))
+
+pub join-row-spec : {M : Type 1} → statement M
+join-row-spec =
+    tie.close
+    (tie.spec
+    lacks-seat-requires
+    returns
+    is-clearing-requires
+    returns-2
+    is-seated-requires
+    returns-3
+    has-number-requires
+    returns-4
+    lacks-contact-requires
+    returns-5
+    returns-6)

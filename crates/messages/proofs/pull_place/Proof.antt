@@ -1,0 +1,46 @@
+-- `messages::pull_place` meets its contract. Assumes nothing.
+use native.Mathlib.Omega.{arith}
+use borrow.Author.Needs.{needs}
+use Rattle.protocol.specs.Numbering.{place}
+use Rattle.record.proofs.Places.{sideNumber-side}
+use Rattle.messages.proofs.Named.{bitNumber-bit}
+use Rattle.messages.proofs.pull_place.Statement.{statement}
+use Rattle.messages.proofs.pull_place.Tie as tie
+
+mul-result : tie.Need-mul-result
+mul-result c = search needs
+
+add-result : tie.Need-add-result
+add-result c = search needs
+
+mul-result-2 : tie.Need-mul-result-2
+mul-result-2 c = search needs
+
+add-result-2 : tie.Need-add-result-2
+add-result-2 c = search needs
+
+mul-result-3 : tie.Need-mul-result-3
+mul-result-3 c = search needs
+
+add-result-3 : tie.Need-add-result-3
+add-result-3 c = search needs
+
+add-result-4 : tie.Need-add-result-4
+add-result-4 c = search needs
+
+returns : tie.Need-returns
+unfolding place
+returns c = (rw (bitNumber-bit (c .args .want) (search needs), sideNumber-side (c .args .side) (search needs)) (omega arith), omega arith)
+
+pub pull-place-spec : {M : Type 1} → statement M
+pull-place-spec =
+    tie.close
+    (tie.spec
+    mul-result
+    add-result
+    mul-result-2
+    add-result-2
+    mul-result-3
+    add-result-3
+    add-result-4
+    returns)

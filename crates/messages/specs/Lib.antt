@@ -1,0 +1,2 @@
+-- The place of a message by its five numbers.
+pub mod inner

@@ -1,0 +1,147 @@
+// The place of each message in the numbering of all messages (protocol's specs/Numbering.antt): the bit of the record that it has.
+ghost use mathlib.Core.Path.{_≡_};
+ghost use mathlib.Core.Bool.{_&&_};
+ghost use Prim.Native.Nat.{_<_};
+ghost use lib.Dec.{eqb, ltb};
+ghost use Rattle.graph.specs.Vector.{width};
+ghost use Rattle.protocol.specs.Message.{name, named, meet, probe, pull, going, seek, found, none-found};
+ghost use Rattle.protocol.specs.Numbering.{place};
+ghost use Rattle.record.specs.Layout.{seats, levels, messages};
+ghost use Rattle.graph.specs.Side.{sideOfNumber};
+ghost use Rattle.messages.specs.inner.Places.{placeOf};
+use record::LEVELS;
+use record::MESSAGES;
+use record::SEATS;
+use record::WIDTH;
+
+// How many messages name two lots and a level, or a lot, a level and a side; and how many PULL there are.
+const PAIRS: usize = SEATS * SEATS * LEVELS;
+
+const SIDES: usize = SEATS * LEVELS * 2;
+
+// Where each kind begins.
+const PROBES: usize = PAIRS;
+
+const PULLS: usize = PROBES + SEATS * SEATS * WIDTH;
+
+const GOINGS: usize = PULLS + SEATS * 2 * WIDTH * 2;
+
+const SEEKS: usize = GOINGS + SIDES;
+
+const FOUNDS: usize = SEEKS + PAIRS;
+
+const NONES: usize = FOUNDS + PAIRS;
+
+pub fn meet_place(to: usize, about: usize, level: usize) -> usize
+    requires { ⌜ (to < seats) × (about < seats) × (level < levels) ⌝ }
+    ensures { λ r. ⌜ (r ≡ place seats width (meet to about level)) × (r < messages) ⌝ }
+{
+    (to * SEATS + about) * LEVELS + level
+}
+
+pub fn probe_place(to: usize, about: usize, level: usize) -> usize
+    requires { ⌜ (to < seats) × (about < seats) × (level < width) ⌝ }
+    ensures { λ r. ⌜ (r ≡ place seats width (probe to about level)) × (r < messages) ⌝ }
+{
+    PROBES + ((to * SEATS + about) * WIDTH + level)
+}
+
+pub fn pull_place(to: usize, want: usize, level: usize, side: usize) -> usize
+    requires { ⌜ (to < seats) × (want < 2) × (level < width) × (side < 2) ⌝ }
+    ensures { λ r. ⌜ (r ≡ place seats width (pull to (eqb want 1) level (sideOfNumber side))) × (r < messages) ⌝ }
+{
+    PULLS + (((to * 2 + want) * WIDTH + level) * 2 + side)
+}
+
+pub fn going_place(to: usize, level: usize, side: usize) -> usize
+    requires { ⌜ (to < seats) × (level < levels) × (side < 2) ⌝ }
+    ensures { λ r. ⌜ (r ≡ place seats width (going to level (sideOfNumber side))) × (r < messages) ⌝ }
+{
+    GOINGS + ((to * LEVELS + level) * 2 + side)
+}
+
+pub fn seek_place(to: usize, about: usize, level: usize) -> usize
+    requires { ⌜ (to < seats) × (about < seats) × (level < levels) ⌝ }
+    ensures { λ r. ⌜ (r ≡ place seats width (seek to about level)) × (r < messages) ⌝ }
+{
+    SEEKS + ((to * SEATS + about) * LEVELS + level)
+}
+
+pub fn found_place(to: usize, about: usize, level: usize) -> usize
+    requires { ⌜ (to < seats) × (about < seats) × (level < levels) ⌝ }
+    ensures { λ r. ⌜ (r ≡ place seats width (found to about level)) × (r < messages) ⌝ }
+{
+    FOUNDS + ((to * SEATS + about) * LEVELS + level)
+}
+
+pub fn none_place(to: usize, level: usize, side: usize) -> usize
+    requires { ⌜ (to < seats) × (level < levels) × (side < 2) ⌝ }
+    ensures { λ r. ⌜ (r ≡ place seats width (none-found to level (sideOfNumber side))) × (r < messages) ⌝ }
+{
+    NONES + ((to * LEVELS + level) * 2 + side)
+}
+
+// Whether the numbers fit a kind that names two lots and a level below the bound.
+fn pair_fits(to: usize, about: usize, level: usize, side: usize, bound: usize) -> bool
+    ensures { λ r. ⌜ r ≡ eqb side 0 && (ltb to seats && (ltb about seats && ltb level bound)) ⌝ }
+{
+    side == 0 && (to < SEATS && (about < SEATS && level < bound))
+}
+
+// Whether the numbers fit PULL.
+fn pull_fits(to: usize, about: usize, level: usize, side: usize) -> bool
+    ensures { λ r. ⌜ r ≡ ltb about 2 && (ltb side 2 && (ltb to seats && ltb level width)) ⌝ }
+{
+    about < 2 && (side < 2 && (to < SEATS && level < WIDTH))
+}
+
+// Whether the numbers fit a kind that names a lot, a level and a side.
+fn side_fits(to: usize, about: usize, level: usize, side: usize) -> bool
+    ensures { λ r. ⌜ r ≡ eqb about 0 && (ltb side 2 && (ltb to seats && ltb level levels)) ⌝ }
+{
+    about == 0 && (side < 2 && (to < SEATS && level < LEVELS))
+}
+
+// The place of the message that five numbers name, or MESSAGES if they name none.
+pub fn place_of(kind: u8, to: usize, about: usize, level: usize, side: usize) -> usize
+    ensures { λ r. ⌜ r ≡ placeOf (named (name kind to about level side)) ⌝ }
+{
+    match kind {
+        1 => if pair_fits(to, about, level, side, LEVELS) {
+            meet_place(to, about, level)
+        } else {
+            MESSAGES
+        },
+        2 => if pair_fits(to, about, level, side, WIDTH) {
+            probe_place(to, about, level)
+        } else {
+            MESSAGES
+        },
+        3 => if pull_fits(to, about, level, side) {
+            pull_place(to, about, level, side)
+        } else {
+            MESSAGES
+        },
+        4 => if side_fits(to, about, level, side) {
+            going_place(to, level, side)
+        } else {
+            MESSAGES
+        },
+        5 => if pair_fits(to, about, level, side, LEVELS) {
+            seek_place(to, about, level)
+        } else {
+            MESSAGES
+        },
+        6 => if pair_fits(to, about, level, side, LEVELS) {
+            found_place(to, about, level)
+        } else {
+            MESSAGES
+        },
+        7 => if side_fits(to, about, level, side) {
+            none_place(to, level, side)
+        } else {
+            MESSAGES
+        },
+        0 | 8..=255 => MESSAGES,
+    }
+}

@@ -1,2 +1,0 @@
--- The place of a message by its five numbers.
-pub mod Places

@@ -1,2 +1,0 @@
--- The test of the pending messages, place by place.
-pub mod Pending

@@ -1,0 +1,70 @@
+-- The refusal number of a changing call from its two parts, the record's and the table's; and what the call answers and leaves.
+-- Assumes nothing.
+use Prim.Native.Nat.{ℕ, zero, suc}
+use mathlib.Core.Path.{_≡_, refl, sym, _∙_}
+use mathlib.Core.Logic.{_≢_}
+use mathlib.Core.List.{List}
+use Rattle.memory.specs.Bytes.{AreBytes}
+use Rattle.graph.specs.Vector.{width}
+use Rattle.protocol.specs.Sound.{Sound}
+use Rattle.protocol.specs.Table.{Call, refusal}
+use Rattle.protocol.specs.Calls.{accept, unlessRefused}
+use Rattle.record.specs.Layout.{seats}
+use Rattle.record.specs.Meaning.{meaning, bytesOf}
+use Rattle.record.specs.Reading.{recordRefusal}
+use Rattle.record.proofs.Form.{Form}
+use Rattle.record.proofs.Sound.{sound-is}
+use Rattle.record.proofs.Refused.{rows-passed, record-passed, record-stops, record-goes}
+use Rattle.record.specs.Call.{callRefusal, called}
+use Rattle.record.specs.Answer.{reply, answerOf, replyOf}
+use Rattle.record.specs.declared.Answer.{Answer}
+use Rattle.record.specs.declared.Answer.the-variants.{Done, Refused}
+
+-- what an accepted call is made on
+pub record Accepted (l : List ℕ) (c : Call) : Type 0 where
+  pub form : Form l
+  pub fine : Sound seats width (meaning l)
+  pub row : refusal seats width (meaning l .seats) (meaning l .pending) c ≡ 0
+
+module _ (l : List ℕ) where
+  -- the record is refused
+  pub refused-early : (c : Call) {n : ℕ} → n ≡ recordRefusal l → n ≢ 0 → n ≡ callRefusal l c
+  unfolding callRefusal
+  refused-early c e h = record-stops l _ e h
+
+  -- it is not
+  pub refused-late : (c : Call) {m n : ℕ} → n ≡ recordRefusal l → n ≡ 0 → m ≡ refusal seats width (meaning l .seats) (meaning l .pending) c
+      → m ≡ callRefusal l c
+  unfolding callRefusal refusal
+  refused-late c e z h = h ∙ sym (record-goes l _ (record-passed l e z))
+
+  pub accepted : (c : Call) → AreBytes l → callRefusal l c ≡ 0 → Accepted l c
+  unfolding callRefusal refusal
+  accepted c b e =
+      let (p, r) = rows-passed l _ e in
+      let (h, k) = sound-is l (p .sized) b .0 (p .fine) in
+      record { form = h; fine = k; row = r }
+
+  -- a refused call answers its number and leaves the bytes
+  pub reply-refused : (c : Call) {n : ℕ} {a : Answer} → n ≡ callRefusal l c → n ≢ 0 → a ≡ answerOf n → reply a l ≡ replyOf (called l c)
+  unfolding called replyOf unlessRefused
+  reply-refused c {n} e h q = rw (q, ← e) (by n h)
+    where
+      by : (n : ℕ) → n ≢ 0 → reply (answerOf n) l ≡ reply (answerOf n) (unlessRefused n l (bytesOf (accept seats width (meaning l) c)))
+      by zero h = absurd (h refl)
+      by (suc n) h = refl
+
+  -- an accepted call leaves the bytes of the meaning after it
+  pub reply-done : (c : Call) {m : List ℕ} → callRefusal l c ≡ 0 → m ≡ bytesOf (accept seats width (meaning l) c)
+      → reply Done m ≡ replyOf (called l c)
+  unfolding called replyOf answerOf unlessRefused
+  reply-done c e h = rw (e, h)
+
+  -- so does a call on a record that is refused
+  pub record-refused : (c : Call) {n : ℕ} → n ≡ recordRefusal l → n ≢ 0 → reply (Refused n) l ≡ replyOf (called l c)
+  unfolding answerOf
+  record-refused c {n} e h = reply-refused c (refused-early c e h) h (refused n h)
+    where
+      refused : (n : ℕ) → n ≢ 0 → Refused n ≡ answerOf n
+      refused zero h = absurd (h refl)
+      refused (suc n) h = refl

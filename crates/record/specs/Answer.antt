@@ -1,0 +1,22 @@
+-- The answer of a changing call as the code gives it, from the refusal number. Assumes nothing.
+use Prim.Native.Nat.{ℕ, zero, suc}
+use mathlib.Core.List.{List}
+use Rattle.record.specs.Call.{Called}
+use Rattle.record.specs.declared.Answer.{Answer}
+use Rattle.record.specs.declared.Answer.the-variants.{Done, Refused}
+
+-- what a call answered, and the bytes it left
+pub record Reply : Type 0 where
+  pub answer : Answer
+  pub bytes : List ℕ
+
+abbrev pub reply : Answer → List ℕ → Reply
+reply a l = record { answer = a; bytes = l }
+
+-- 0 is done, any other number a refusal
+unfoldable pub answerOf : ℕ → Answer
+answerOf zero = Done
+answerOf (suc n) = Refused (suc n)
+
+unfoldable pub replyOf : Called → Reply
+replyOf o = reply (answerOf (o .refused)) (o .bytes)

@@ -1,0 +1,33 @@
+-- Parts of the clauses of record's specs/Sound.antt that have no name there, and the numbers of all lots in an array. Assumes nothing.
+use Prim.Native.Nat.{ℕ, _<_}
+use mathlib.Core.Path.{_≡_}
+use mathlib.Core.Bool.{Bool, true, not, _&&_, _||_}
+use mathlib.Core.List.{List}
+use lib.Dec.{eqb, ltb}
+use lib.ListN.{getD}
+use Rattle.base.specs.Loops.{all}
+use Rattle.graph.specs.Side.{left, right}
+use Rattle.protocol.specs.State.{seated}
+use Rattle.record.specs.Layout.{seats, noLink, stateAt, linkAt}
+use Rattle.record.specs.Meaning.{seatsIn}
+use Rattle.record.specs.Sound.{phaseFits, asOpened, numbersDiffer, linksFit}
+
+-- a has the number of each lot
+abbrev pub HasNumbers : (l a : List ℕ) → Type 0
+HasNumbers l a = (s : ℕ) → s < seats → seated (seatsIn l) s ≡ true → getD a s 0 ≡ seatsIn l .number s
+
+-- seat s has no link at level k
+abbrev pub unlinked : (l : List ℕ) (s k : ℕ) → Bool
+unlinked l s k = eqb (getD l (linkAt s k left) 0) noLink && eqb (getD l (linkAt s k right) 0) noLink
+
+-- x and y are not two seated lots with one number
+abbrev pub differ : (l : List ℕ) (x y : ℕ) → Bool
+differ l x y = not (seated (seatsIn l) x && (seated (seatsIn l) y && eqb (seatsIn l .number x) (seatsIn l .number y)))
+
+-- the clauses of one seat: its state, and if it is free its entry
+abbrev pub seatFits : (l : List ℕ) (s : ℕ) → Bool
+seatFits l s = ltb (getD l (stateAt s) 0) 3 && (seated (seatsIn l) s || asOpened l s)
+
+-- every clause of `sound` but that of the messages, those of the seats together
+unfoldable pub entriesFit : List ℕ → Bool
+entriesFit l = phaseFits l && (all seats (seatFits l) && (numbersDiffer l && linksFit l))

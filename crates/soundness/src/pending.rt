@@ -1,0 +1,155 @@
+// Pending messages: each names seated lots, fits its kind and stands in its kind's phase. Only the set bits are looked at.
+ghost use mathlib.Core.Path.{_≡_};
+ghost use mathlib.Core.Bool.{Bool};
+ghost use Prim.Native.Nat.{_*_, _≤_, _<_};
+ghost use lib.ListN.{length};
+ghost use Rattle.graph.specs.Side.{Side};
+ghost use Rattle.graph.specs.Vector.{width};
+ghost use Rattle.protocol.specs.Message.{meet, probe, pull, going, seek, found, none-found};
+ghost use Rattle.protocol.specs.Sound.{messageOk};
+ghost use Rattle.record.specs.Layout.{seats, messages, size};
+ghost use Rattle.record.specs.Meaning.{seatsIn};
+ghost use Rattle.record.specs.Sound.{messagesFit};
+ghost use Rattle.soundness.specs.inner.Pending.{fits, placesPass};
+use record::LEVELS;
+use record::MESSAGES;
+use record::PENDING;
+use record::SEATS;
+use record::WIDTH;
+use record::lots::is_clearing;
+use record::lots::is_seated;
+use record::lots::is_staying;
+use record::lots::pair_fits;
+
+// How many messages a kind has: MEET, SEEK and FOUND; PROBE; PULL; GOING and NONE.
+const MEETS: usize = SEATS * SEATS * LEVELS;
+
+const PROBES: usize = SEATS * SEATS * WIDTH;
+
+const PULLS: usize = SEATS * 2 * WIDTH * 2;
+
+const GOINGS: usize = SEATS * LEVELS * 2;
+
+// How many messages are looked at together: the bits of a word, and its bytes.
+const WORD: usize = 64;
+
+const WORD_BYTES: usize = WORD / 8;
+
+fn meet_fits(rec: &[u8], to: usize, about: usize, level: usize) -> bool
+    requires { ⌜ (length (now rec) ≡ size) × (to < seats) × (about < seats) ⌝ }
+    ensures { λ r. ⌜ r ≡ messageOk width (seatsIn (now (rec .entry))) (meet to about level) ⌝ }
+{
+    !is_clearing(rec) && pair_fits(rec, level, to, about)
+}
+
+fn probe_fits(rec: &[u8], to: usize, about: usize, level: usize) -> bool
+    requires { ⌜ (length (now rec) ≡ size) × (to < seats) × (about < seats) × (level < width) ⌝ }
+    ensures { λ r. ⌜ r ≡ messageOk width (seatsIn (now (rec .entry))) (probe to about level) ⌝ }
+{
+    !is_clearing(rec) && pair_fits(rec, level, to, about)
+}
+
+// Whatever the wanted bit and the side.
+fn pull_fits(rec: &[u8], to: usize, level: usize) -> bool
+    requires { ⌜ (length (now rec) ≡ size) × (to < seats) × (level < width) ⌝ }
+    ensures { λ r. ⌜ ((b : Bool) (d : Side) → r ≡ messageOk width (seatsIn (now (rec .entry))) (pull to b level d)) ⌝ }
+{
+    !is_clearing(rec) && is_seated(rec, to)
+}
+
+// Whatever the side.
+fn going_fits(rec: &[u8], to: usize, level: usize) -> bool
+    requires { ⌜ (length (now rec) ≡ size) × (to < seats) × (level ≤ width) ⌝ }
+    ensures { λ r. ⌜ ((d : Side) → r ≡ messageOk width (seatsIn (now (rec .entry))) (going to level d)) ⌝ }
+{
+    is_clearing(rec) && is_seated(rec, to)
+}
+
+fn seek_fits(rec: &[u8], to: usize, about: usize, level: usize) -> bool
+    requires { ⌜ (length (now rec) ≡ size) × (to < seats) × (about < seats) ⌝ }
+    ensures { λ r. ⌜ r ≡ messageOk width (seatsIn (now (rec .entry))) (seek to about level) ⌝ }
+{
+    is_clearing(rec) && (pair_fits(rec, level, to, about) && is_staying(rec, about))
+}
+
+fn found_fits(rec: &[u8], to: usize, about: usize, level: usize) -> bool
+    requires { ⌜ (length (now rec) ≡ size) × (to < seats) × (about < seats) ⌝ }
+    ensures { λ r. ⌜ r ≡ messageOk width (seatsIn (now (rec .entry))) (found to about level) ⌝ }
+{
+    is_clearing(rec)
+        && (pair_fits(rec, level, to, about) && (is_staying(rec, to) && is_staying(rec, about)))
+}
+
+// Whatever the side.
+fn none_fits(rec: &[u8], to: usize, level: usize) -> bool
+    requires { ⌜ (length (now rec) ≡ size) × (to < seats) × (level ≤ width) ⌝ }
+    ensures { λ r. ⌜ ((d : Side) → r ≡ messageOk width (seatsIn (now (rec .entry))) (none-found to level d)) ⌝ }
+{
+    is_clearing(rec) && is_staying(rec, to)
+}
+
+// The message at place i: its kind by the block that holds i, its numbers by the digits of its place there.
+fn message_fits(rec: &[u8], i: usize) -> bool
+    requires { ⌜ (length (now rec) ≡ size) × (i < messages) ⌝ }
+    ensures { λ r. ⌜ r ≡ fits (now (rec .entry)) i ⌝ }
+{
+    if i < MEETS {
+        return meet_fits(rec, i / LEVELS / SEATS, i / LEVELS % SEATS, i % LEVELS);
+    }
+    let p = i - MEETS;
+    if p < PROBES {
+        return probe_fits(rec, p / WIDTH / SEATS, p / WIDTH % SEATS, p % WIDTH);
+    }
+    let q = p - PROBES;
+    if q < PULLS {
+        return pull_fits(rec, q / 2 / WIDTH / 2, q / 2 % WIDTH);
+    }
+    let g = q - PULLS;
+    if g < GOINGS {
+        return going_fits(rec, g / 2 / LEVELS, g / 2 % LEVELS);
+    }
+    let s = g - GOINGS;
+    if s < MEETS {
+        return seek_fits(rec, s / LEVELS / SEATS, s / LEVELS % SEATS, s % LEVELS);
+    }
+    let f = s - MEETS;
+    if f < MEETS {
+        return found_fits(rec, f / LEVELS / SEATS, f / LEVELS % SEATS, f % LEVELS);
+    }
+    let n = f - MEETS;
+    none_fits(rec, n / 2 / LEVELS, n / 2 % LEVELS)
+}
+
+// Whether the pending messages among the 64 from place 64 * w on fit. Their bits are read once.
+fn word_fits(rec: &[u8], w: usize) -> bool
+    requires { ⌜ (length (now rec) ≡ size) × (64 * w < messages) ⌝ }
+    ensures { λ r. ⌜ r ≡ placesPass (now (rec .entry)) (64 * w) 64 ⌝ }
+{
+    let mut rest = memory::word(rec, PENDING + WORD_BYTES * w);
+    let mut i = WORD * w;
+    while rest != 0 {
+        let z = u64::trailing_zeros(rest) as usize;
+        if !message_fits(rec, i + z) {
+            return false;
+        }
+        i += z + 1;
+        rest = (rest >> z) >> 1;
+    }
+    true
+}
+
+// Whether every pending message fits. Words with none are skipped.
+pub fn messages_fit(rec: &[u8]) -> bool
+    requires { ⌜ length (now rec) ≡ size ⌝ }
+    ensures { λ r. ⌜ r ≡ messagesFit (now (rec .entry)) ⌝ }
+{
+    let mut i = memory::first_bit(rec, PENDING, 0, MESSAGES);
+    while i < MESSAGES {
+        let w = i / WORD;
+        if !word_fits(rec, w) {
+            return false;
+        }
+        i = memory::first_bit(rec, PENDING, WORD * w + WORD, MESSAGES);
+    }
+    true
+}

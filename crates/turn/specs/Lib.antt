@@ -1,2 +1,0 @@
--- What the inner steps of a turn leave.
-pub mod Steps
