@@ -14,7 +14,8 @@ use Rattle.graph.specs.Side.{sideNumber}
 use Rattle.protocol.specs.Message.{Msg, among}
 use Rattle.protocol.specs.Numbering.{somePending}
 use Rattle.protocol.specs.State.{open-phase, Meaning, isFree, seated}
-use Rattle.protocol.specs.Table.{Call, join, leave, deliver, turn, first}
+use Rattle.protocol.specs.Calls.{Call, join, leave, deliver, turn}
+use Rattle.protocol.specs.Refusals.{first}
 use Rattle.protocol.specs.Sound.{Sound, numberBits}
 use Rattle.protocol.specs.Run.{logOf, AllInRange}
 use Rattle.protocol.proofs.Numbering.{pending-none}

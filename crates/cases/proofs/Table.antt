@@ -12,9 +12,18 @@ use Rattle.base.specs.Loops.{any}
 use Rattle.protocol.specs.Numbering.{place}
 use Rattle.protocol.specs.Rules.{toLink, setting, meeting, probing, pulling, parting, passing, seeking, effect}
 use Rattle.protocol.specs.State.{nobody, opened}
-use Rattle.protocol.specs.Table.{join, deliver, first, isPending, rows, refusal}
-use Rattle.protocol.specs.Calls.{at, freed, afterTurn, seatsAfter, rule, each, farewell, farewells, turnSends, deliverySends}
-use Rattle.protocol.specs.Calls.{sends, takes, isTaken, applied, unlinked, turnLinks, deliveryLinks, linksAfter, unlessRefused}
+use Rattle.protocol.specs.Calls.{join, deliver, rows, refusal}
+use Rattle.protocol.specs.Refusals.{first}
+use Rattle.protocol.specs.State.{isPending}
+use Rattle.protocol.specs.Page.{at}
+use Rattle.protocol.specs.pages.Turn.{afterTurn, each, farewell, farewells, turnSends}
+use Rattle.protocol.specs.Calls.{seatsAfter}
+use Rattle.protocol.specs.pages.Deliver.{rule, deliverySends}
+use Rattle.protocol.specs.Calls.{sends, takes, linksAfter, unlessRefused}
+use Rattle.protocol.specs.Page.{isTaken}
+use Rattle.protocol.specs.pages.Deliver.{applied, deliveryLinks}
+use Rattle.protocol.specs.Freeing.{unlinked}
+use Rattle.protocol.specs.pages.Turn.{turnLinks}
 use Rattle.record.specs.Meaning.{bytesOf}
 use Rattle.record.specs.Reading.{openRefusal, LotAnswer, readLot}
 use Rattle.record.specs.Call.{Called, called}

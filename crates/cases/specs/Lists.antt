@@ -10,9 +10,10 @@ use Rattle.base.specs.Loops.{oneIf}
 use Rattle.graph.specs.Vector.{width}
 use Rattle.protocol.specs.Message.{Msg, Name, name, named, among}
 use Rattle.protocol.specs.Numbering.{place}
-use Rattle.protocol.specs.Table.{Call, join, leave, deliver, turn, isPending}
+use Rattle.protocol.specs.Calls.{Call, join, leave, deliver, turn}
+use Rattle.protocol.specs.State.{isPending}
 use Rattle.protocol.specs.Calls.{takes}
-use Rattle.protocol.specs.Run.{Logged, Event, logOf}
+use Rattle.protocol.specs.Run.{Logged, Past, logOf}
 use Rattle.record.specs.Layout.{seats}
 use Rattle.record.specs.Reading.{readLink, readMessage, readCounts}
 use Rattle.runs.specs.Run.{run, meant}

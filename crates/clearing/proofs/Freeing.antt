@@ -13,7 +13,7 @@ use Rattle.base.proofs.Cases.{eq-or-ne}
 use Rattle.base.proofs.Tests.{true-false}
 use Rattle.protocol.specs.Rules.{SeatState, free, staying, leaving}
 use Rattle.protocol.specs.State.{Meaning, isLeaving, leaves}
-use Rattle.protocol.specs.Calls.{at, freed}
+use Rattle.protocol.specs.Page.{at}
 use Rattle.protocol.proofs.Calls.{at-same, at-other}
 use Rattle.record.specs.Layout.{seats, stateAt, numberFrom, vectorAt}
 use Rattle.record.specs.Meaning.{seatsIn, bytesOf}

@@ -13,7 +13,8 @@ use Rattle.base.proofs.Cases.{not-not}
 use Rattle.graph.specs.Vector.{width}
 use Rattle.base.proofs.Tests.{some-inj, none-some}
 use Rattle.protocol.specs.Numbering.{somePending}
-use Rattle.protocol.specs.Table.{first, rows, turn}
+use Rattle.protocol.specs.Refusals.{first}
+use Rattle.protocol.specs.Calls.{rows, turn}
 use Rattle.record.specs.Layout.{seats, levels, linkAt, pendingFrom, pendingSize}
 use Rattle.record.specs.Meaning.{linkOf, meaning}
 use Rattle.record.proofs.Reading.{zeros-quiet}

@@ -17,7 +17,7 @@ use Rattle.protocol.specs.Message.{Msg, going}
 use Rattle.protocol.specs.Numbering.{exists, place}
 use Rattle.protocol.specs.Rules.{toLink}
 use Rattle.protocol.specs.State.{Meaning, leaves}
-use Rattle.protocol.specs.Calls.{each, farewell}
+use Rattle.protocol.specs.pages.Turn.{each, farewell}
 use Rattle.record.specs.Layout.{seats, levels, entryAt, linkAt, pendingFrom}
 use Rattle.record.specs.Meaning.{linkByte, seatsIn, bytesOf}
 use Rattle.graph.specs.Side.{sideOfNumber}

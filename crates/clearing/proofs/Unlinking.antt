@@ -16,7 +16,9 @@ use Rattle.base.proofs.Tests.{none-some}
 use Rattle.graph.specs.Side.{sideNumber}
 use Rattle.protocol.specs.Rules.{set as put}
 use Rattle.protocol.specs.State.{clearing, Seats, Meaning, leaves}
-use Rattle.protocol.specs.Calls.{applied, unlinked, turnLinks}
+use Rattle.protocol.specs.pages.Deliver.{applied}
+use Rattle.protocol.specs.Freeing.{unlinked}
+use Rattle.protocol.specs.pages.Turn.{turnLinks}
 use Rattle.protocol.proofs.Calls.{applied-at, applied-frame}
 use Rattle.protocol.proofs.Numbering.{sideNumber-lt}
 use Rattle.record.specs.Layout.{seats, levels, entryAt, linkAt, noLink}

@@ -15,8 +15,11 @@ use Rattle.protocol.specs.Numbering.{exists, place}
 use Rattle.protocol.specs.Rules.{Entry, Change, keep, set, Effect, sending, setting, meeting, effect}
 use Rattle.protocol.specs.State.{Meaning}
 use Rattle.protocol.specs.Sound.{Sound, messageOk}
-use Rattle.protocol.specs.Table.{deliver, first, rows, refusal, isPending}
-use Rattle.protocol.specs.Calls.{accept, rule}
+use Rattle.protocol.specs.Calls.{deliver, rows, refusal}
+use Rattle.protocol.specs.Refusals.{first}
+use Rattle.protocol.specs.State.{isPending}
+use Rattle.protocol.specs.Calls.{accept}
+use Rattle.protocol.specs.pages.Deliver.{rule}
 use Rattle.protocol.proofs.Message.{named-name, mem-among}
 use Rattle.protocol.proofs.SoundFacts.{pending-exists, pending-after}
 use Rattle.protocol.proofs.KeepDelivery.{deliver-sound}

@@ -17,8 +17,10 @@ use Rattle.protocol.specs.Message.{Msg, Name, nameOf, named, sameMsg, among}
 use Rattle.protocol.specs.Numbering.{exists, place}
 use Rattle.protocol.specs.Rules.{Entry}
 use Rattle.protocol.specs.State.{Meaning}
-use Rattle.protocol.specs.Table.{deliver, isPending}
-use Rattle.protocol.specs.Calls.{accept, seatsAfter, rule, unlessRefused}
+use Rattle.protocol.specs.Calls.{deliver}
+use Rattle.protocol.specs.State.{isPending}
+use Rattle.protocol.specs.Calls.{accept, seatsAfter, unlessRefused}
+use Rattle.protocol.specs.pages.Deliver.{rule}
 use Rattle.protocol.proofs.Message.{name-named}
 use Rattle.protocol.proofs.Numbering.{sideNumber-lt}
 use Rattle.protocol.proofs.Accepted.{deliver-row}

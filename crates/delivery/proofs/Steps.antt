@@ -9,7 +9,8 @@ use lib.ListN.{length, length-set}
 use Rattle.memory.specs.Bytes.{AreBytes}
 use Rattle.memory.specs.Bits.{bitSet, clearBit}
 use Rattle.protocol.specs.Message.{Name, named}
-use Rattle.protocol.specs.Table.{deliver, isPending}
+use Rattle.protocol.specs.Calls.{deliver}
+use Rattle.protocol.specs.State.{isPending}
 use Rattle.record.specs.Layout.{messages, pendingFrom, size}
 use Rattle.record.specs.Meaning.{meaning}
 use Rattle.record.specs.Reading.{recordRefusal}

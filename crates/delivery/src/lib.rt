@@ -4,7 +4,7 @@ ghost use mathlib.Core.Path.{_≡_};
 ghost use lib.Dec.{T};
 ghost use lib.ListN.{length};
 ghost use Rattle.protocol.specs.Message.{name, named};
-ghost use Rattle.protocol.specs.Table.{deliver as delivering};
+ghost use Rattle.protocol.specs.Calls.{deliver as delivering};
 ghost use Rattle.record.specs.Layout.{size};
 ghost use Rattle.record.specs.Call.{called};
 ghost use Rattle.record.specs.Answer.{reply, replyOf};

@@ -14,7 +14,7 @@ use Rattle.protocol.specs.Message.{Msg, meet}
 use Rattle.protocol.specs.Numbering.{exists, place}
 use Rattle.protocol.specs.Rules.{staying, leaving}
 use Rattle.protocol.specs.State.{isFree}
-use Rattle.protocol.specs.Table.{join, leave}
+use Rattle.protocol.specs.Calls.{join, leave}
 use Rattle.protocol.specs.Calls.{seatsAfter, linksAfter, sends, takes, accept}
 use Rattle.protocol.proofs.Accepted.{join-rows, leave-rows}
 use Rattle.record.specs.Layout.{seats, stateAt, numberFrom, vectorAt, pendingFrom}

@@ -3,7 +3,7 @@ use Prim.Native.Nat.{ℕ}
 use mathlib.Core.Path.{_≡_, refl}
 use mathlib.Core.Bool.{Bool, true, false}
 use mathlib.Core.List.{List, [], _∷_}
-use Rattle.protocol.specs.Table.{Row, row, first}
+use Rattle.protocol.specs.Refusals.{Row, row, first}
 
 -- the row applies
 pub row-here : {r b : Bool} (n : ℕ) (rs : List Row) → r ≡ b → r ≡ true → n ≡ first (row n b ∷ rs)

@@ -3,7 +3,7 @@
 // the definitions that the public calls' own contracts cite.
 ghost use mathlib.Core.Path.{_≡_};
 ghost use Rattle.protocol.specs.Message.{name};
-ghost use Rattle.protocol.specs.Table.{join as joining, leave as leaving, deliver as delivering, turn as turning};
+ghost use Rattle.protocol.specs.Calls.{join as joining, leave as leaving, deliver as delivering, turn as turning};
 ghost use Rattle.record.specs.Reading.{recordRefusal, openRefusal, openBytes, readLot, readLink, readMessage, readCounts};
 ghost use Rattle.record.specs.Call.{called};
 ghost use Rattle.find.specs.Find.{findIn};

@@ -1,11 +1,11 @@
 -- The small functions of the calls, as facts: a value at one place, the pending set after a call, the links after a change, lists made
 -- seat by seat, and rows of the table that do not apply. Assumes nothing.
 use Prim.Native.Nat.{ℕ, zero, suc, _<_}
-use mathlib.Core.Path.{_≡_, refl, sym, subst}
+use mathlib.Core.Path.{_≡_, refl, sym, _∙_, ap, subst}
 use mathlib.Core.Logic.{_⊎_, inl, inr, _≢_}
 use mathlib.Core.Option.{Option, none, some}
 use mathlib.Core.Bool.{Bool, true, false, not, cond, _&&_, _||_}
-use mathlib.Core.List.{List, _∷_, _++_, List·Memᴰ, List·Memᴰ·head, List·Memᴰ·eq-of-singleton, List·Memᴰ·not-nil}
+use mathlib.Core.List.{List, [], _∷_, _++_, List·Memᴰ, List·Memᴰ·head, List·Memᴰ·eq-of-singleton, List·Memᴰ·not-nil}
 use mathlib.Core.List.{Memᴰ·append-left, Memᴰ·append-right}
 use mathlib.Core.List.{List·Memᴰ·append-cases}
 use native.Mathlib.Omega.{arith}
@@ -16,9 +16,11 @@ use Rattle.graph.specs.Side.{Side, left, right}
 use Rattle.graph.specs.Graph.{Links}
 use Rattle.base.proofs.Tests.{dec-T, not-T-false, and-T, and-fst, and-snd, or-cases, or-left, or-right}
 use Rattle.protocol.specs.Message.{Msg, among}
+use Rattle.protocol.specs.Refusals.{order, Row, appliesIn, firstOf, first}
 use Rattle.protocol.specs.Rules.{Change, keep, set, toLink}
-use Rattle.protocol.specs.Table.{Row, row, first}
-use Rattle.protocol.specs.Calls.{at, each, isTaken, pendingAfter, sameSide, applied}
+use Rattle.protocol.specs.Page.{at, isTaken, pendingAfter}
+use Rattle.protocol.specs.pages.Turn.{each}
+use Rattle.protocol.specs.pages.Deliver.{sameSide, applied}
 
 -- a value at one place
 module _ {A : Type 0} (s : ℕ) (a : A) (f : ℕ → A) where
@@ -132,8 +134,28 @@ each-out (suc n) f {m} h = by (List·Memᴰ·append-cases (each n f) h) (λ q. e
     by (inl q) ih = let r = ih q in (r .0, omega (arith, r .1), r .2)
     by (inr q) ih = (n, omega arith, q)
 
--- an accepted call: no row applies
-pub no-row : (n : ℕ) (b : Bool) (rs : List Row) → first (row (suc n) b ∷ rs) ≡ 0 → (b ≡ false) × (first rs ≡ 0)
+-- n is in a list of refusals, and each of them is above 0
+abbrev lists : List ℕ → ℕ → Bool
+lists [] n = false
+lists (m ∷ ms) n = eqb m n || lists ms n
+
+abbrev positive : List ℕ → Bool
+positive [] = true
+positive (zero ∷ ms) = false
+positive (suc m ∷ ms) = positive ms
+
+none-applies : (ns : List ℕ) (rs : List Row) (n : ℕ) → T (positive ns) → T (lists ns n) → firstOf ns rs ≡ 0 → appliesIn rs n ≡ false
+none-applies [] rs n p t e = absurd t
+none-applies (zero ∷ ms) rs n p t e = absurd p
+none-applies (suc m ∷ ms) rs n p t e = by (appliesIn rs (suc m)) refl e (or-cases (eqb (suc m) n) (lists ms n) t) (λ u f. none-applies ms rs n p u f)
+  where
+    by : (b : Bool) → appliesIn rs (suc m) ≡ b → cond b (suc m) (firstOf ms rs) ≡ 0 → T (eqb (suc m) n) ⊎ T (lists ms n)
+        → (T (lists ms n) → firstOf ms rs ≡ 0 → appliesIn rs n ≡ false) → appliesIn rs n ≡ false
+    by true f e u ih = absurd (omega arith)
+    by false f e (inl u) ih = ap (appliesIn rs) (sym (eqb→eq (suc m) n u)) ∙ f
+    by false f e (inr u) ih = ih u e
+
+-- an accepted call: no row of the table applies
+pub no-row : (rs : List Row) (n : ℕ) → T (lists order n) → first rs ≡ 0 → appliesIn rs n ≡ false
 unfolding first
-no-row n true rs e = absurd (omega arith)
-no-row n false rs e = (refl, e)
+no-row rs n t e = none-applies order rs n tt t e

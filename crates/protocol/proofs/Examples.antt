@@ -13,11 +13,20 @@ use Rattle.protocol.specs.Numbering.{count, pairAt, pullAt, sideAt, spli
 use Rattle.protocol.specs.Rules.{Entry, staying, keep, set, toLink}
 use Rattle.protocol.specs.Rules.{setting, meeting, probing, pulling, parting, passing, seeking, effect}
 use Rattle.protocol.specs.State.{Meaning, nobody, opened}
-use Rattle.protocol.specs.Table.{Call, join, leave, deliver, turn, first, isPending, rows, refusal}
-use Rattle.protocol.specs.Calls.{at, freed, afterTurn, seatsAfter, rule, each, farewell, farewells, turnSends, deliverySends}
-use Rattle.protocol.specs.Calls.{sends, takes, isTaken, pendingAfter, applied, unlinked, turnLinks, deliveryLinks, linksAfter}
+use Rattle.protocol.specs.Calls.{Call, join, leave, deliver, turn, rows, refusal}
+use Rattle.protocol.specs.Refusals.{first}
+use Rattle.protocol.specs.State.{isPending}
+use Rattle.protocol.specs.Page.{at}
+use Rattle.protocol.specs.pages.Turn.{afterTurn, each, farewell, farewells, turnSends}
+use Rattle.protocol.specs.Calls.{seatsAfter}
+use Rattle.protocol.specs.pages.Deliver.{rule, deliverySends}
+use Rattle.protocol.specs.Calls.{sends, takes, linksAfter}
+use Rattle.protocol.specs.Page.{isTaken, pendingAfter}
+use Rattle.protocol.specs.pages.Deliver.{applied, deliveryLinks}
+use Rattle.protocol.specs.Freeing.{unlinked}
+use Rattle.protocol.specs.pages.Turn.{turnLinks}
 use Rattle.protocol.specs.Calls.{accept, unlessRefused, call}
-use Rattle.protocol.specs.Run.{Logged, logOf, step, steps, run}
+use Rattle.protocol.specs.Run.{stepsFrom, Logged, logOf, step, steps, meaningRun}
 
 -- cases (i) and (j): lots 100, 200, 300 on seats 0, 1, 2; lot 100 has no left link, and at level 0 the right link o
 number : ℕ → ℕ
@@ -55,8 +64,8 @@ calls =
     ∷ join 2 300 1 0 ∷ leave 3 ∷ deliver (name 1 0 2 1 0) ∷ deliver (name 1 0 1 0 0) ∷ deliver (name 1 0 1 0 0)
     ∷ deliver (name 8 0 1 0 0) ∷ turn ∷ leave 1 ∷ leave 1 ∷ []
 
-refused : refusals (logOf (run 3 2 calls .history)) ≡ 9 ∷ 0 ∷ 11 ∷ 10 ∷ 10 ∷ 0 ∷ 10 ∷ 3 ∷ 0 ∷ 6 ∷ 3 ∷ 3 ∷ 5 ∷ 0 ∷ 0 ∷ 6 ∷ []
-unfolding refusals calls logOf run step steps opened nobody call unlessRefused accept refusal rows first any isPending seatsAfter at sends
+refused : refusals (logOf (meaningRun 3 2 calls .history)) ≡ 9 ∷ 0 ∷ 11 ∷ 10 ∷ 10 ∷ 0 ∷ 10 ∷ 3 ∷ 0 ∷ 6 ∷ 3 ∷ 3 ∷ 5 ∷ 0 ∷ 0 ∷ 6 ∷ []
+unfolding refusals calls logOf meaningRun stepsFrom step steps opened nobody call unlessRefused accept refusal rows first any isPending seatsAfter at sends
     takes isTaken pendingAfter deliverySends linksAfter deliveryLinks applied rule effect setting meeting probing pulling parting passing
     seeking toLink onSide sideOf bit equalBits shared named ifZero ifBit sameMsg among somePending count messageAt split pairAt pullAt
     sideAt
@@ -72,11 +81,11 @@ drain : (N W : ℕ) → ℕ → Meaning → Meaning
 drain N W zero M = M
 drain N W (suc f) M =
     let i = search (λ j. M .pending (messageAt N W j)) (count N W) 0 in
-    drain N W f (call N W M (deliver (nameOf (messageAt N W i))) .meaning)
+    drain N W f (call N W M (deliver (nameOf (messageAt N W i))) .after)
 
 -- Q: lots 100, 200, 300 with vectors 00, 10, 01
 settled-Q : Meaning
-settled-Q = drain 3 2 24 (run 3 2 (join 0 100 0 255 ∷ join 1 200 2 0 ∷ join 2 300 1 0 ∷ []) .now)
+settled-Q = drain 3 2 24 (meaningRun 3 2 (join 0 100 0 255 ∷ join 1 200 2 0 ∷ join 2 300 1 0 ∷ []) .now)
 
 links : Meaning → List (Option ℕ)
 links M =
@@ -84,14 +93,14 @@ links M =
     ∷ M .link 0 1 right ∷ M .link 2 1 left ∷ M .link 1 1 left ∷ M .link 1 1 right ∷ M .link 0 2 right ∷ []
 
 Q-settled : somePending 3 2 (settled-Q .pending) ≡ false
-unfolding settled-Q drain search run step steps opened nobody call unlessRefused accept refusal rows first any isPending seatsAfter at
+unfolding settled-Q drain search meaningRun stepsFrom step steps opened nobody call unlessRefused accept refusal rows first any isPending seatsAfter at
     sends takes isTaken pendingAfter deliverySends linksAfter deliveryLinks applied rule effect setting meeting probing pulling parting
     passing seeking toLink onSide sideOf bit equalBits shared named ifZero ifBit sameMsg among somePending count messageAt split pairAt
     pullAt sideAt
 Q-settled = refl
 
 Q-links : links settled-Q ≡ some 1 ∷ some 0 ∷ some 2 ∷ some 1 ∷ some 2 ∷ some 0 ∷ none ∷ none ∷ none ∷ []
-unfolding links settled-Q drain search run step steps opened nobody call unlessRefused accept refusal rows first any isPending seatsAfter
+unfolding links settled-Q drain search meaningRun stepsFrom step steps opened nobody call unlessRefused accept refusal rows first any isPending seatsAfter
     at sends takes isTaken pendingAfter deliverySends linksAfter deliveryLinks applied rule effect setting meeting probing pulling parting
     passing seeking toLink onSide sideOf bit equalBits shared named ifZero ifBit sameMsg among somePending count messageAt split pairAt
     pullAt sideAt
@@ -99,13 +108,13 @@ Q-links = refl
 
 -- (k) leave 1, turn, deliver all, turn: 100 and 300 are linked at levels 0 and 1, and seat 1 is as opened
 after : Meaning → Call → Meaning
-after M c = call 3 2 M c .meaning
+after M c = call 3 2 M c .after
 
 left-Q : Meaning
 left-Q = after (drain 3 2 8 (after (after settled-Q (leave 1)) turn)) turn
 
 case-k : links left-Q ≡ some 2 ∷ none ∷ none ∷ some 0 ∷ some 2 ∷ some 0 ∷ none ∷ none ∷ none ∷ []
-unfolding links left-Q after settled-Q drain search freed afterTurn each farewell farewells turnSends unlinked turnLinks run step steps
+unfolding links left-Q after settled-Q drain search afterTurn each farewell farewells turnSends unlinked turnLinks meaningRun stepsFrom step steps
     opened nobody call unlessRefused accept refusal rows first any isPending seatsAfter at sends takes isTaken pendingAfter deliverySends
     linksAfter deliveryLinks applied rule effect setting meeting probing pulling parting passing seeking toLink onSide sideOf bit equalBits
     shared named ifZero ifBit sameMsg among somePending count messageAt split pairAt pullAt sideAt

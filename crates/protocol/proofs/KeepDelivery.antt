@@ -18,12 +18,15 @@ use Rattle.protocol.specs.Message.{Msg, meet, probe, pull, Name, nameOf,
 use Rattle.protocol.specs.Rules.{Change, keep, set, Effect, effect, toLink, sending, setting, meeting, probing, pulling, parting, passing}
 use Rattle.protocol.specs.Rules.{seeking}
 use Rattle.protocol.specs.State.{Phase, open-phase, clearing, Seats, Meaning, isFree, stays, entry}
-use Rattle.protocol.specs.Table.{deliver, isPending, refusal}
-use Rattle.protocol.specs.Calls.{seatsAfter, rule, deliverySends, sends, takes, pendingAfter, applied, deliveryLinks, linksAfter, accept}
+use Rattle.protocol.specs.Calls.{deliver, refusal}
+use Rattle.protocol.specs.State.{isPending}
+use Rattle.protocol.specs.Calls.{seatsAfter, sends, takes, linksAfter, accept}
+use Rattle.protocol.specs.pages.Deliver.{rule, deliverySends, applied, deliveryLinks}
+use Rattle.protocol.specs.Page.{pendingAfter}
 use Rattle.protocol.specs.Sound.{messageOk, Sound}
 use Rattle.protocol.proofs.Calls.{applied-frame, applied-at}
 use Rattle.protocol.proofs.Accepted.{deliver-row}
-use Rattle.protocol.proofs.SoundFacts.{Two, Linked, Proper, p-meet, p-probe, p-pull, p-going, p-seek, p-found, p-none, two-sym, two-via}
+use Rattle.protocol.proofs.SoundFacts.{seated-taken, Two, Linked, Proper, p-meet, p-probe, p-pull, p-going, p-seek, p-found, p-none, two-sym, two-via}
 use Rattle.protocol.proofs.SoundFacts.{two-level, link-linked, two-lt, linked-ok, proper-ok, pending-proper, pending-after}
 
 -- all messages of a list
@@ -184,7 +187,7 @@ module _ {N W : ℕ} {M : Meaning} (h : Sound N W M) where
 
       unlinked : (x k : ℕ) (d : Side) → T (isFree (r .state x)) → (o : Option ℕ) → after x k d ≡ o → o ≡ none
       unlinked x k d f none e = refl
-      unlinked x k d f (some y) e = absurd (T-not (isFree (r .state x)) (linked x k y d e .0 .one) f)
+      unlinked x k d f (some y) e = absurd (T-not (isFree (r .state x)) (seated-taken r x (linked x k y d e .0 .one)) f)
 
   pub deliver-sound : (n : Name) → refusal N W (M .seats) (M .pending) (deliver n) ≡ 0 → Sound N W (accept N W M (deliver n))
   unfolding accept seatsAfter linksAfter sends takes

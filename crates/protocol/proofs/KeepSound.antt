@@ -7,10 +7,10 @@ use lib.Pow.{pow-pos}
 use Rattle.base.proofs.Tests.{false-T, none-some}
 use Rattle.protocol.specs.Numbering.{somePending}
 use Rattle.protocol.specs.State.{Meaning, nobody, opened}
-use Rattle.protocol.specs.Table.{Call, join, leave, deliver, turn, refusal}
+use Rattle.protocol.specs.Calls.{Call, join, leave, deliver, turn, refusal}
 use Rattle.protocol.specs.Calls.{accept, unlessRefused, call}
 use Rattle.protocol.specs.Sound.{numberBits, Sound}
-use Rattle.protocol.specs.Run.{InRange}
+use Rattle.protocol.specs.Calls.{InRange}
 use Rattle.protocol.proofs.Numbering.{none-pending}
 use Rattle.protocol.proofs.SoundFacts.{pending-exists}
 use Rattle.protocol.proofs.Accepted.{turn-row}
@@ -40,7 +40,7 @@ accept-sound N W M h turn q e = turn-sound h (λ m t. false-T (none-pending N W 
     none-left : somePending N W (M .pending) ≡ false
     none-left = turn-row N W (M .seats) (M .pending) e
 
-pub call-sound : (N W : ℕ) (M : Meaning) → Sound N W M → (c : Call) → InRange N W c → Sound N W (call N W M c .meaning)
+pub call-sound : (N W : ℕ) (M : Meaning) → Sound N W M → (c : Call) → InRange N W c → Sound N W (call N W M c .after)
 unfolding call unlessRefused
 call-sound N W M h c q = by (refusal N W (M .seats) (M .pending) c) refl
   where

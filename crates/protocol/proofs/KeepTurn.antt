@@ -12,16 +12,20 @@ use Rattle.graph.specs.Graph.{Links}
 use Rattle.base.proofs.Tests.{T-true, true-T, true-false, none-some, some-inj}
 use Rattle.protocol.specs.Message.{Msg, going}
 use Rattle.base.specs.Loops.{any}
-use Rattle.protocol.specs.Rules.{SeatState, free, staying, leaving}
-use Rattle.protocol.specs.State.{Phase, open-phase, clearing, Seats, Meaning, isFree, isLeaving, seated, leaves}
-use Rattle.protocol.specs.Table.{turn}
-use Rattle.protocol.specs.Calls.{freed, afterTurn, seatsAfter, each, farewell, farewells, turnSends, sends, takes, pendingAfter, unlinked}
-use Rattle.protocol.specs.Calls.{turnLinks, linksAfter, accept}
+use Rattle.protocol.specs.Rules.{free}
+use Rattle.protocol.specs.State.{Phase, open-phase, clearing, Seats, Meaning, isFree, taken, seated, leaves}
+use Rattle.protocol.specs.Calls.{turn}
+use Rattle.protocol.specs.pages.Turn.{afterTurn, each, farewell, farewells, turnSends}
+use Rattle.protocol.specs.Calls.{seatsAfter, sends, takes}
+use Rattle.protocol.specs.Page.{pendingAfter}
+use Rattle.protocol.specs.Freeing.{unlinked}
+use Rattle.protocol.specs.pages.Turn.{turnLinks}
+use Rattle.protocol.specs.Calls.{linksAfter, accept}
 use Rattle.protocol.specs.Sound.{numberBits, messageOk, Sound}
 use Rattle.base.proofs.Any.{any-in}
 use Rattle.protocol.proofs.Calls.{link-out, each-out}
 use Rattle.protocol.proofs.SoundFacts.{Linked, p-going, linked-ok, proper-ok, two-level, link-linked, pending-after}
-use Rattle.protocol.proofs.KeepCalls.{Kept, linked-kept, link-kept, seats-kept, differ-kept}
+use Rattle.protocol.proofs.KeepCalls.{Kept, Held, linked-kept, link-kept, seats-kept, differ-kept}
 
 -- a GOING of a turn: a leaver's, to its link
 pub record Farewell (N : ℕ) (r : Seats) (L : Links) (m : Msg) : Type 0 where
@@ -52,38 +56,19 @@ farewell-out N W r L {m} h = let (y, l, q) = each-out N _ h in by y l (leaves r 
     by y l true e q = let (k, w, s) = each-out (suc W) _ q in ends y k l (true-T e) (List·Memᴰ·append-cases (farewell L y k left) s)
     by y l false e q = absurd (List·Memᴰ·not-nil q)
 
--- a seat after a turn in clearing
-freed-seated : (s : SeatState) → T (not (isFree (freed s))) → T (not (isFree s)) × (isLeaving s ≡ false)
-unfolding freed
-freed-seated free t = absurd t
-freed-seated staying t = (tt, refl)
-freed-seated leaving t = absurd t
-
-seated-freed : (s : SeatState) → T (not (isFree s)) → isLeaving s ≡ false → T (not (isFree (freed s)))
-unfolding freed
-seated-freed free t e = t
-seated-freed staying t e = tt
-seated-freed leaving t e = true-false refl e
-
-freed-free : (s : SeatState) → isLeaving s ≡ false → T (isFree (freed s)) → T (isFree s)
-unfolding freed
-freed-free free e t = tt
-freed-free staying e t = t
-freed-free leaving e t = true-false refl e
-
--- a link after it
-unlinked-none : (r : Seats) {o : Option ℕ} → o ≡ none → unlinked r o ≡ none
+-- a link after seats are freed
+unlinked-none : (freed : ℕ → Bool) {o : Option ℕ} → o ≡ none → unlinked freed o ≡ none
 unfolding unlinked
-unlinked-none r e = rw e
+unlinked-none freed e = rw e
 
-pub unlinked-some : (r : Seats) (o : Option ℕ) (y : ℕ) → unlinked r o ≡ some y → (o ≡ some y) × (leaves r y ≡ false)
+pub unlinked-some : (freed : ℕ → Bool) (o : Option ℕ) (y : ℕ) → unlinked freed o ≡ some y → (o ≡ some y) × (freed y ≡ false)
 unfolding unlinked
-unlinked-some r none y e = none-some refl e
-unlinked-some r (some z) y e = by (leaves r z) refl e
+unlinked-some freed none y e = none-some refl e
+unlinked-some freed (some z) y e = by (freed z) refl e
   where
-    by : (b : Bool) → leaves r z ≡ b → cond b none (some z) ≡ some y → (some z ≡ some y) × (leaves r y ≡ false)
+    by : (b : Bool) → freed z ≡ b → cond b none (some z) ≡ some y → (some z ≡ some y) × (freed y ≡ false)
     by true f e = none-some refl e
-    by false f e = (e, ap (leaves r) (sym (some-inj e)) ∙ f)
+    by false f e = (e, ap freed (sym (some-inj e)) ∙ f)
 
 zero-or : (b : Bool) (n m : ℕ) → 0 < m → n < m → cond b 0 n < m
 zero-or true n m p q = p
@@ -135,20 +120,24 @@ module _ {N W : ℕ} {M : Meaning} (h : Sound N W M) (still : (m : Msg) → T (M
       r′ = afterTurn N clearing r
 
       new : (x : ℕ) → T (seated r x) → leaves r x ≡ false → Kept r r′ x
-      new x t e = record { there = seated-freed (r .state x) t e; number = rw e; vector = rw e }
+      new x t e = record { there = rw e t; number = rw e; vector = rw e }
 
-      old : (x : ℕ) → T (seated r′ x) → Kept r′ r x
-      old x t = let (s, e) = freed-seated (r .state x) t in record { there = s; number = rw e; vector = rw e }
+      old : (x : ℕ) → T (taken r′ x) → Held r′ r x
+      old x t = by (leaves r x) refl t
+        where
+          by : (b : Bool) → leaves r x ≡ b → T (not (isFree (cond b free (r .state x)))) → Held r′ r x
+          by true e t = absurd t
+          by false e t = record { there = t; number = rw e }
 
       unused : (x : ℕ) (b : Bool) → leaves r x ≡ b → T (isFree (r′ .state x))
-          → (cond b 0 (r .number x) ≡ 0) × (cond b 0 (r .vector x) ≡ 0) × ((k : ℕ) (d : Side) → cond b none (unlinked r (M .link x k d)) ≡ none)
+          → (cond b 0 (r .number x) ≡ 0) × (cond b 0 (r .vector x) ≡ 0) × ((k : ℕ) (d : Side) → cond b none (unlinked (leaves r) (M .link x k d)) ≡ none)
       unused x true e t = (refl, refl, λ k d. refl)
-      unused x false e t = let (n, v, l) = h .unused x (freed-free (r .state x) e t) in (n, v, λ k d. unlinked-none r (l k d))
+      unused x false e t = let (n, v, l) = h .unused x (rw e at t) in (n, v, λ k d. unlinked-none (leaves r) (l k d))
 
-      linked : (x k y : ℕ) (d : Side) (b : Bool) → leaves r x ≡ b → cond b none (unlinked r (M .link x k d)) ≡ some y → Linked W r′ x k d y
+      linked : (x k y : ℕ) (d : Side) (b : Bool) → leaves r x ≡ b → cond b none (unlinked (leaves r) (M .link x k d)) ≡ some y → Linked W r′ x k d y
       linked x k y d true e q = none-some refl q
       linked x k y d false e q =
-          let (f, g) = unlinked-some r (M .link x k d) y q in
+          let (f, g) = unlinked-some (leaves r) (M .link x k d) y q in
           let l = link-linked h f in
           linked-kept (new x (l .0 .one) e) (new y (l .0 .two) g) l
 

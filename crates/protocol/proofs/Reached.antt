@@ -11,7 +11,7 @@ use Rattle.base.proofs.Tests.{dec-T}
 use Rattle.graph.proofs.Neighbour.{InList, Nearest, nobody, nearest, nearest-graph}
 use Rattle.protocol.specs.Message.{Msg, nameOf}
 use Rattle.protocol.specs.State.{Phase, open-phase, clearing, Seats, Meaning, isClearing, seated, stays, member, members}
-use Rattle.protocol.specs.Calls.{rule}
+use Rattle.protocol.specs.pages.Deliver.{rule}
 use Rattle.protocol.specs.Sound.{numberBits, Sound}
 use Rattle.protocol.proofs.World.{World, Quiet, Pair, pair-level}
 use Rattle.protocol.proofs.Delivery.{stateOf, delivered, delivers}
@@ -21,82 +21,78 @@ use Rattle.protocol.proofs.Exact.{Exact}
 use Rattle.protocol.proofs.Invariant.{Invariant, invariant-kept, invariant-quiet}
 use Rattle.protocol.proofs.Clearing as Clearing
 use Rattle.protocol.proofs.ClearingEffect as ClearingEffect
-use Rattle.protocol.proofs.SoundFacts.{stays-seated, pending-exists}
+use Rattle.protocol.proofs.SoundFacts.{stays-seated, pending-exists, seated-below, seated-differ}
 use Rattle.protocol.proofs.Measure.{weight, bound}
 use Rattle.protocol.proofs.Ends.{view-cost, open-less}
 use Rattle.protocol.proofs.ClearingEnds.{clearing-less}
 
--- the laws of a roster that a world needs
+-- the laws of seats that a world needs
 pub record Laws (r : Seats) : Type 0 where
   pub small : (x : ℕ) → r .number x < 2 ^ numberBits
   pub differ : (x y : ℕ) → T (seated r x) → T (seated r y) → r .number x ≡ r .number y → x ≡ y
 
 pub sound-laws : {N W : ℕ} {M : Meaning} → Sound N W M → Laws (M .seats)
-sound-laws h = record { small = h .numbers; differ = h .differ }
+sound-laws h = record { small = h .numbers; differ = seated-differ h }
 
--- the seated lots, in one component
-abbrev pub worldOf : (W : ℕ) (r : Seats) → Laws r → World
-worldOf W r l = record { W = W; Seated = λ x. T (seated r x); num = r .number; vec = r .vector; comp = λ x. 0; small = l .small; differ = l .differ }
+-- the seated lots, with the component of each
+abbrev pub worldOf : (c : ℕ → ℕ) (W : ℕ) (r : Seats) → Laws r → World
+worldOf c W r l = record { W = W; Seated = λ x. T (seated r x); num = r .number; vec = r .vector; comp = c; small = l .small; differ = l .differ }
 
 abbrev pub Stayer : Seats → ℕ → Type 0
 Stayer r x = T (stays r x)
 
 -- the invariant of the phase; for any proof of the laws, so that it depends on the data alone
-pub data Sane (W : ℕ) (M : Meaning) : Phase → Type 0 where
-  in-open : ((l : Laws (M .seats)) → Invariant (worldOf W (M .seats) l) (stateOf M)) → Sane W M open-phase
-  in-clearing : (L : Links) → ((l : Laws (M .seats)) → Clearing.AllLinks (worldOf W (M .seats) l) (Stayer (M .seats)) L)
-      → ((l : Laws (M .seats)) → Clearing.Clearing (worldOf W (M .seats) l) (Stayer (M .seats)) L (stateOf M)) → Sane W M clearing
+pub data Sane (c : ℕ → ℕ) (W : ℕ) (M : Meaning) : Phase → Type 0 where
+  in-open : ((l : Laws (M .seats)) → Invariant (worldOf c W (M .seats) l) (stateOf M)) → Sane c W M open-phase
+  in-clearing : (L : Links) → ((l : Laws (M .seats)) → Clearing.AllLinks (worldOf c W (M .seats) l) (Stayer (M .seats)) L)
+      → ((l : Laws (M .seats)) → Clearing.Clearing (worldOf c W (M .seats) l) (Stayer (M .seats)) L (stateOf M)) → Sane c W M clearing
 
-pub record Reached (N W : ℕ) (M : Meaning) : Type 0 where
+pub record Reached (c : ℕ → ℕ) (N W : ℕ) (M : Meaning) : Type 0 where
   pub sound : Sound N W M
-  pub sane : Sane W M (M .seats .phase)
+  pub sane : Sane c W M (M .seats .phase)
 
-module _ {N W : ℕ} {M : Meaning} (h : Sound N W M) where
-  abbrev here : World
-  here = worldOf W (M .seats) (sound-laws h)
-
-module _ (W : ℕ) (M : Meaning) (m : Msg) (t : T (M .pending m)) (l : Laws (M .seats)) where
+module _ (c : ℕ → ℕ) (W : ℕ) (M : Meaning) (m : Msg) (t : T (M .pending m)) (l : Laws (M .seats)) where
   -- the effect of a pending message, in each phase
-  open-effect : Invariant (worldOf W (M .seats) l) (stateOf M)
-      → OpenEffect.View (worldOf W (M .seats) l) (stateOf M) (M .seats .state (nameOf m .to)) m (rule W M m)
+  open-effect : Invariant (worldOf c W (M .seats) l) (stateOf M)
+      → OpenEffect.View (worldOf c W (M .seats) l) (stateOf M) (M .seats .state (nameOf m .to)) m (rule W M m)
   unfolding rule
-  open-effect i = OpenEffect.open-view (worldOf W (M .seats) l) (stateOf M) (M .seats .state (nameOf m .to)) (i .proper) (i .proper .pend-ok t)
+  open-effect i = OpenEffect.open-view (worldOf c W (M .seats) l) (stateOf M) (M .seats .state (nameOf m .to)) (i .proper) (i .proper .pend-ok t)
 
-  clearing-effect : {L : Links} → Clearing.Clearing (worldOf W (M .seats) l) (Stayer (M .seats)) L (stateOf M)
-      → ClearingEffect.View (worldOf W (M .seats) l) (stateOf M) (Stayer (M .seats)) m (rule W M m)
+  clearing-effect : {L : Links} → Clearing.Clearing (worldOf c W (M .seats) l) (Stayer (M .seats)) L (stateOf M)
+      → ClearingEffect.View (worldOf c W (M .seats) l) (stateOf M) (Stayer (M .seats)) m (rule W M m)
   unfolding rule
-  clearing-effect c = ClearingEffect.clearing-view (worldOf W (M .seats) l) (stateOf M) (M .seats .state) (c .ok t)
+  clearing-effect i = ClearingEffect.clearing-view (worldOf c W (M .seats) l) (stateOf M) (M .seats .state) (i .ok t)
 
-  open-delivery : Invariant (worldOf W (M .seats) l) (stateOf M) → Open.Opened (worldOf W (M .seats) l) (stateOf M) m (stateOf (delivered W M m))
-  open-delivery i = delivers W M m (OpenEffect.view-right (worldOf W (M .seats) l) (stateOf M) (M .seats .state (nameOf m .to)) (open-effect i)) t
+  open-delivery : Invariant (worldOf c W (M .seats) l) (stateOf M) → Open.Opened (worldOf c W (M .seats) l) (stateOf M) m (stateOf (delivered W M m))
+  open-delivery i = delivers W M m (OpenEffect.view-right (worldOf c W (M .seats) l) (stateOf M) (M .seats .state (nameOf m .to)) (open-effect i)) t
 
-  clearing-delivery : {L : Links} → Clearing.Clearing (worldOf W (M .seats) l) (Stayer (M .seats)) L (stateOf M)
-      → Clearing.Cleared (worldOf W (M .seats) l) (Stayer (M .seats)) (stateOf M) m (stateOf (delivered W M m))
-  clearing-delivery c = delivers W M m (ClearingEffect.view-right (clearing-effect c)) t
+  clearing-delivery : {L : Links} → Clearing.Clearing (worldOf c W (M .seats) l) (Stayer (M .seats)) L (stateOf M)
+      → Clearing.Cleared (worldOf c W (M .seats) l) (Stayer (M .seats)) (stateOf M) m (stateOf (delivered W M m))
+  clearing-delivery i = delivers W M m (ClearingEffect.view-right (clearing-effect i)) t
 
 -- a delivery keeps the invariant
-pub sane-deliver : {W : ℕ} {M : Meaning} {p : Phase} → Sane W M p → (m : Msg) → T (M .pending m) → Sane W (delivered W M m) p
-sane-deliver {W} {M} (in-open i) m t = in-open (λ l. invariant-kept (i l) (open-delivery W M m t l (i l)))
-sane-deliver {W} {M} (in-clearing L a c) m t =
-    in-clearing L a (λ l. Clearing.clearing-kept (a l) (λ z. dec-T (stays (M .seats) z)) (c l) (clearing-delivery W M m t l (c l)))
+pub sane-deliver : {c : ℕ → ℕ} {W : ℕ} {M : Meaning} {p : Phase} → Sane c W M p → (m : Msg) → T (M .pending m) → Sane c W (delivered W M m) p
+sane-deliver {c} {W} {M} (in-open i) m t = in-open (λ l. invariant-kept (i l) (open-delivery c W M m t l (i l)))
+sane-deliver {c} {W} {M} (in-clearing L a i) m t =
+    in-clearing L a (λ l. Clearing.clearing-kept (a l) (λ z. dec-T (stays (M .seats) z)) (i l) (clearing-delivery c W M m t l (i l)))
 
 -- a delivery lowers the bound
-weight-less : {N W : ℕ} {M : Meaning} {p : Phase} → Sound N W M → Sane W M p → (m : Msg) → T (M .pending m)
+weight-less : {c : ℕ → ℕ} {N W : ℕ} {M : Meaning} {p : Phase} → Sound N W M → Sane c W M p → (m : Msg) → T (M .pending m)
     → weight N W p (delivered W M m) < weight N W p M
 unfolding weight
-weight-less {N} {W} {M} h (in-open i) m t =
+weight-less {c} {N} {W} {M} h (in-open i) m t =
     let l = sound-laws h in
-    let v = open-effect W M m t l (i l) in
-    let G = worldOf W (M .seats) l in
-    open-less N W G M (delivered W M m) (i l .proper .pend-ok t) (open-delivery W M m t l (i l)) (OpenEffect.view-right G (stateOf M) _ v)
-    (view-cost G (stateOf M) _ (i l .proper) v) (pending-exists h m t) (λ x k y p. (h .seats x (p .fst), pair-level p))
-weight-less {N} {W} {M} h (in-clearing L a c) m t =
+    let v = open-effect c W M m t l (i l) in
+    let G = worldOf c W (M .seats) l in
+    open-less N W G M (delivered W M m) (i l .proper .pend-ok t) (open-delivery c W M m t l (i l)) (OpenEffect.view-right G (stateOf M) _ v)
+    (view-cost G (stateOf M) _ (i l .proper) v) (pending-exists h m t) (λ x k y p. (seated-below h x (p .fst), pair-level p))
+weight-less {c} {N} {W} {M} h (in-clearing L a i) m t =
     let l = sound-laws h in
-    let v = clearing-effect W M m t l (c l) in
-    clearing-less (worldOf W (M .seats) l) (Stayer (M .seats)) N W M (delivered W M m) (a l) (c l) (clearing-delivery W M m t l (c l))
+    let v = clearing-effect c W M m t l (i l) in
+    clearing-less (worldOf c W (M .seats) l) (Stayer (M .seats)) N W M (delivered W M m) (a l) (i l) (clearing-delivery c W M m t l (i l))
     (ClearingEffect.view-right v) v (pending-exists h m t)
 
-pub bound-less : {N W : ℕ} {M : Meaning} → Reached N W M → (m : Msg) → T (M .pending m) → bound N W (delivered W M m) < bound N W M
+pub bound-less : {c : ℕ → ℕ} {N W : ℕ} {M : Meaning} → Reached c N W M → (m : Msg) → T (M .pending m) → bound N W (delivered W M m) < bound N W M
 unfolding bound
 bound-less r m t = weight-less (r .sound) (r .sane) m t
 
@@ -118,56 +114,56 @@ member-seated r x t = by (r .phase) t
     by open-phase t = t
     by clearing t = stays-seated r x t
 
-pub members-laws : {N W : ℕ} {M : Meaning} → Sound N W M → LotLaws N (members (M .seats))
-members-laws {M = M} h = record {
-  seat = λ x t. h .seats x (member-seated (M .seats) x t);
-  differ = λ x y t u e. h .differ x y (member-seated (M .seats) x t) (member-seated (M .seats) y u) e;
+pub members-laws : (c : ℕ → ℕ) {N W : ℕ} {M : Meaning} → Sound N W M → LotLaws N (members c (M .seats))
+members-laws c {M = M} h = record {
+  seat = λ x t. seated-below h x (member-seated (M .seats) x t);
+  differ = λ x y t u e. seated-differ h x y (member-seated (M .seats) x t) (member-seated (M .seats) y u) e;
 }
 
-module _ {W : ℕ} (M : Meaning) (l : Laws (M .seats)) {x k : ℕ} {d : Side} where
+module _ (c : ℕ → ℕ) {W : ℕ} (M : Meaning) (l : Laws (M .seats)) {x k : ℕ} {d : Side} where
   -- phase open: the exact links
-  open-nearest : M .seats .phase ≡ open-phase → Exact (worldOf W (M .seats) l) (stateOf M) k → T (seated (M .seats) x) → (v : Option ℕ)
-      → M .link x k d ≡ v → Nearest W (members (M .seats)) k x d v
+  open-nearest : M .seats .phase ≡ open-phase → Exact (worldOf c W (M .seats) l) (stateOf M) k → T (seated (M .seats) x) → (v : Option ℕ)
+      → M .link x k d ≡ v → Nearest W (members c (M .seats)) k x d v
   open-nearest e h sx v f = by v f
     where
-      inn : {z : ℕ} → InList W (members (M .seats)) k x z → Pair (worldOf W (M .seats) l) k x z
-      inn {z} q = record { fst = sx; snd = rw (member-open (M .seats) z e) at (q .member); same = refl; bits = q .bits }
+      inn : {z : ℕ} → InList W (members c (M .seats)) k x z → Pair (worldOf c W (M .seats) l) k x z
+      inn {z} q = record { fst = sx; snd = rw (member-open (M .seats) z e) at (q .member); same = q .same; bits = q .bits }
 
-      out : {z : ℕ} → Pair (worldOf W (M .seats) l) k x z → InList W (members (M .seats)) k x z
-      out {z} q = record { member = rw (member-open (M .seats) z e) (q .snd); same = refl; bits = q .bits }
+      out : {z : ℕ} → Pair (worldOf c W (M .seats) l) k x z → InList W (members c (M .seats)) k x z
+      out {z} q = record { member = rw (member-open (M .seats) z e) (q .snd); same = q .same; bits = q .bits }
 
-      by : (v : Option ℕ) → M .link x k d ≡ v → Nearest W (members (M .seats)) k x d v
+      by : (v : Option ℕ) → M .link x k d ≡ v → Nearest W (members c (M .seats)) k x d v
       by none f = nobody (λ z q b. h .last f z (inn q) b)
       by (some y) f = nearest (out (h .next f .pair)) (h .next f .side) (λ z q b. h .next f .least z (inn q) b)
 
   -- phase clearing: the targets
   clearing-nearest : M .seats .phase ≡ clearing → T (stays (M .seats) x) → {v : Option ℕ}
-      → Clearing.Target (worldOf W (M .seats) l) (Stayer (M .seats)) k x d v → Nearest W (members (M .seats)) k x d v
+      → Clearing.Target (worldOf c W (M .seats) l) (Stayer (M .seats)) k x d v → Nearest W (members c (M .seats)) k x d v
   clearing-nearest e sx b = by b
     where
-      mem : (z : ℕ) → InList W (members (M .seats)) k x z → T (stays (M .seats) z)
+      mem : (z : ℕ) → InList W (members c (M .seats)) k x z → T (stays (M .seats) z)
       mem z q = rw (member-clearing (M .seats) z e) at (q .member)
 
-      inn : {z : ℕ} → InList W (members (M .seats)) k x z → Pair (worldOf W (M .seats) l) k x z
-      inn {z} q = record { fst = stays-seated (M .seats) x sx; snd = stays-seated (M .seats) z (mem z q); same = refl; bits = q .bits }
+      inn : {z : ℕ} → InList W (members c (M .seats)) k x z → Pair (worldOf c W (M .seats) l) k x z
+      inn {z} q = record { fst = stays-seated (M .seats) x sx; snd = stays-seated (M .seats) z (mem z q); same = q .same; bits = q .bits }
 
-      by : {v : Option ℕ} → Clearing.Target (worldOf W (M .seats) l) (Stayer (M .seats)) k x d v → Nearest W (members (M .seats)) k x d v
+      by : {v : Option ℕ} → Clearing.Target (worldOf c W (M .seats) l) (Stayer (M .seats)) k x d v → Nearest W (members c (M .seats)) k x d v
       by (Clearing.nobody f) = nobody (λ z q b. f z (inn q) (mem z q) b)
       by (Clearing.nearest {y = y} p s m f) =
-          nearest {y = y} (record { member = rw (member-clearing (M .seats) y e) s; same = refl; bits = p .bits }) m (λ z q b. f z (inn q) (mem z q) b)
+          nearest {y = y} (record { member = rw (member-clearing (M .seats) y e) s; same = p .same; bits = p .bits }) m (λ z q b. f z (inn q) (mem z q) b)
 
 -- nothing pending: the links are the graph of the members
-pub reached-graph : {N W : ℕ} {M : Meaning} → Reached N W M → Quiet (stateOf M) → IsGraph N W (members (M .seats)) (M .link)
-reached-graph {N} {W} {M} g q =
-    record { link = λ x k d t w. nearest-graph (members-laws (g .sound)) (near (M .seats .phase) refl (g .sane) x k d t) }
+pub reached-graph : {c : ℕ → ℕ} {N W : ℕ} {M : Meaning} → Reached c N W M → Quiet (stateOf M) → IsGraph N W (members c (M .seats)) (M .link)
+reached-graph {c} {N} {W} {M} g q =
+    record { link = λ x k d t w. nearest-graph (members-laws c (g .sound)) (near (M .seats .phase) refl (g .sane) x k d t) }
   where
     l : Laws (M .seats)
     l = sound-laws (g .sound)
 
-    near : (p : Phase) → M .seats .phase ≡ p → Sane W M p → (x k : ℕ) (d : Side) → T (member (M .seats) x)
-        → Nearest W (members (M .seats)) k x d (M .link x k d)
+    near : (p : Phase) → M .seats .phase ≡ p → Sane c W M p → (x k : ℕ) (d : Side) → T (member (M .seats) x)
+        → Nearest W (members c (M .seats)) k x d (M .link x k d)
     near open-phase e (in-open i) x k d t =
-        open-nearest M l e (invariant-quiet (i l) q k) (rw (member-open (M .seats) x e) at t) (M .link x k d) refl
-    near clearing e (in-clearing L a c) x k d t =
+        open-nearest c M l e (invariant-quiet (i l) q k) (rw (member-open (M .seats) x e) at t) (M .link x k d) refl
+    near clearing e (in-clearing L a i) x k d t =
         let s = rw (member-clearing (M .seats) x e) at t in
-        clearing-nearest M l e s (Clearing.clearing-quiet (c l) q x k d (stays-seated (M .seats) x s) s)
+        clearing-nearest c M l e s (Clearing.clearing-quiet (i l) q x k d (stays-seated (M .seats) x s) s)

@@ -3,7 +3,7 @@ use Prim.Native.Nat.{ℕ, _^_, _<_}
 use mathlib.Core.Path.{_≡_, refl, sym, _∙_, ap, subst, subst₂, fun-ext}
 use mathlib.Core.Logic.{_⊎_, inl, inr, _≢_}
 use mathlib.Core.Option.{Option, none, some}
-use mathlib.Core.Bool.{Bool, true, false, not, cond, _&&_}
+use mathlib.Core.Bool.{Bool, true, false, cond, _&&_}
 use mathlib.Core.List.{List, [], _∷_, List·Memᴰ, List·Memᴰ·head, List·Memᴰ·not-nil, List·Memᴰ·eq-of-singleton}
 use native.Mathlib.Omega.{arith}
 use native.Mathlib.Decide.{decLt, ℕ-discrete}
@@ -13,10 +13,11 @@ use Rattle.graph.specs.Side.{Side}
 use Rattle.graph.specs.Graph.{Links}
 use Rattle.base.proofs.Tests.{false-T, true-false}
 use Rattle.protocol.specs.Message.{Msg, meet, nameOf, among}
-use Rattle.protocol.specs.Rules.{SeatState, staying, leaving}
-use Rattle.protocol.specs.State.{open-phase, Seats, Meaning, isFree, seated}
-use Rattle.protocol.specs.Table.{join, leave}
-use Rattle.protocol.specs.Calls.{at, seatsAfter, sends, takes, isTaken, pendingAfter, linksAfter, accept}
+use Rattle.protocol.specs.Rules.{staying, leaving}
+use Rattle.protocol.specs.State.{open-phase, Seats, Meaning, isSeated, seated}
+use Rattle.protocol.specs.Calls.{join, leave}
+use Rattle.protocol.specs.Page.{at, isTaken, pendingAfter}
+use Rattle.protocol.specs.Calls.{seatsAfter, sends, takes, linksAfter, accept}
 use Rattle.protocol.specs.Sound.{numberBits, Sound}
 use Rattle.protocol.proofs.Message.{among-mem, mem-among}
 use Rattle.protocol.proofs.Calls.{at-same, at-other, after-came, after-kept, after-only}
@@ -24,7 +25,7 @@ use Rattle.protocol.proofs.Delivery.{stateOf}
 use Rattle.protocol.proofs.Open.{ok-to}
 use Rattle.protocol.proofs.Invariant.{Invariant, invariant-first}
 use Rattle.protocol.proofs.Join.{Grows, Meets, invariant-join}
-use Rattle.protocol.proofs.SoundFacts.{link-linked}
+use Rattle.protocol.proofs.SoundFacts.{free-empty, seated-below, link-linked}
 use Rattle.protocol.proofs.Accepted.{Joins, Leaves}
 use Rattle.protocol.proofs.Reached.{Laws, sound-laws, worldOf, Sane, in-open}
 
@@ -50,19 +51,19 @@ module _ (sent : List Msg) (p : Msg → Bool) where
   after-sent m i = after-came sent none p m (mem-among sent i)
 
 -- join
-module _ {N W : ℕ} {M : Meaning} (h : Sound N W M) (s n v c : ℕ) (ok : Joins N W (M .seats) (M .pending) s n c) where
+module _ (comp : ℕ → ℕ) {N W : ℕ} {M : Meaning} (h : Sound N W M) (s n v c : ℕ) (ok : Joins N W (M .seats) (M .pending) s n c) where
   abbrev r : Seats
   r = M .seats
 
   abbrev r′ : Seats
-  r′ = seatsAfter N (M .seats) (join s n v c)
+  r′ = seatsAfter N W (M .seats) (join s n v c)
 
   other : (x : ℕ) → T (seated r x) → x ≢ s
-  other x t q = false-T (ok .empty) (subst (λ (y : ℕ). T (seated r y)) q t)
+  other x t q = false-T (free-empty r s (ok .free)) (subst (λ (y : ℕ). T (seated r y)) q t)
 
   still : (x : ℕ) → x ≢ s → seated r′ x ≡ seated r x
   unfolding seatsAfter
-  still x q = ap (λ (a : SeatState). not (isFree a)) (at-other s staying (r .state) x q)
+  still x q = ap isSeated (at-other s staying (r .state) x q)
 
   who : (x : ℕ) → T (seated r′ x) → T (seated r x) ⊎ (x ≡ s)
   who x t = by (ℕ-discrete x s)
@@ -83,23 +84,24 @@ module _ {N W : ℕ} {M : Meaning} (h : Sound N W M) (s n v c : ℕ) (ok : Joins
       by (yes q) = rw (eq-eqb x s q) (bare (M .link x k d) refl q)
       by (no q) = rw (ne-eqb x s q)
 
-  grows : (l : Laws r) (l′ : Laws r′) → Grows (worldOf W r l) (worldOf W r′ l′) s c
+  -- the newcomer is in the component of its contact
+  grows : comp s ≡ comp c → (l : Laws r) (l′ : Laws r′) → Grows (worldOf comp W r l) (worldOf comp W r′ l′) s c
   unfolding seatsAfter
-  grows l l′ = record {
+  grows same l l′ = record {
     same-W = refl;
-    fresh = λ t. false-T (ok .empty) t;
+    fresh = λ t. false-T (free-empty r s (ok .free)) t;
     new = rw (at-same s staying (r .state) s refl) tt;
     still = λ x t. rw (still x (other x t)) t;
     from = who;
     same-num = λ x q. at-other s n (r .number) x q;
     same-vec = λ x q. at-other s v (r .vector) x q;
     same-comp = λ x q. refl;
-    contact = refl;
+    contact = same;
   }
 
-  pub sane-join : Sane W M open-phase → Sane W (accept N W M (join s n v c)) open-phase
+  pub sane-join : (c < N → comp s ≡ comp c) → Sane comp W M open-phase → Sane comp W (accept N W M (join s n v c)) open-phase
   unfolding accept linksAfter sends takes
-  sane-join (in-open i) = by (decLt c N)
+  sane-join same (in-open i) = by (decLt c N)
     where
       sent : Bool → List Msg
       sent b = cond b (meet c s 0 ∷ []) []
@@ -122,14 +124,14 @@ module _ {N W : ℕ} {M : Meaning} (h : Sound N W M) (s n v c : ℕ) (ok : Joins
       l : Laws r
       l = sound-laws h
 
-      by : Dec (c < N) → Sane W (accept N W M (join s n v c)) open-phase
-      by (yes p) = in-open (λ l′. invariant-join (grows l l′) (meets (ltb c N) (lt-ltb c N p)) (ok .contact p) (i l))
+      by : Dec (c < N) → Sane comp W (accept N W M (join s n v c)) open-phase
+      by (yes p) = in-open (λ l′. invariant-join (grows (same p) l l′) (meets (ltb c N) (lt-ltb c N p)) (ok .contact p) (i l))
       by (no p) =
-          in-open (λ l′. invariant-first (worldOf W r′ l′) _ alone (λ x k d. same-link x k d ∙ bare x k d (M .link x k d) refl)
+          in-open (λ l′. invariant-first (worldOf comp W r′ l′) _ alone (λ x k d. same-link x k d ∙ bare x k d (M .link x k d) refl)
           (λ m t. silent (ltb c N) (le-ltb c N (omega arith)) m t))
         where
           nobody-in : (x : ℕ) → T (seated r x) → ⊥
-          nobody-in x t = ok .alone (omega arith) x (h .seats x t) t
+          nobody-in x t = ok .alone (omega arith) x (seated-below h x t) t
 
           newcomer : (x : ℕ) → T (seated r x) ⊎ (x ≡ s) → x ≡ s
           newcomer x (inl t) = absurd (nobody-in x t)
@@ -151,11 +153,11 @@ module _ {N W : ℕ} {M : Meaning} (h : Sound N W M) (s n v c : ℕ) (ok : Joins
               none-in (inr u) = List·Memᴰ·not-nil u
 
 -- leave: who is seated stays the same, and so do the pending messages
-seated-leave : (N : ℕ) (r : Seats) (s : ℕ) → isFree (r .state s) ≡ false → seated (seatsAfter N r (leave s)) ≡ seated r
+seated-leave : (N W : ℕ) (r : Seats) (s : ℕ) → seated r s ≡ true → seated (seatsAfter N W r (leave s)) ≡ seated r
 unfolding seatsAfter
-seated-leave N r s f = fun-ext (λ x. by x (ℕ-discrete x s))
+seated-leave N W r s f = fun-ext (λ x. by x (ℕ-discrete x s))
   where
-    by : (x : ℕ) → Dec (x ≡ s) → not (isFree (at s leaving (r .state) x)) ≡ not (isFree (r .state x))
+    by : (x : ℕ) → Dec (x ≡ s) → isSeated (at s leaving (r .state) x) ≡ isSeated (r .state x)
     by x (yes e) = rw (at-same s leaving (r .state) x e, e, f)
     by x (no e) = rw (at-other s leaving (r .state) x e)
 
@@ -168,22 +170,22 @@ after-none p = fun-ext (λ m. by (p m))
     by false = refl
 
 -- the invariant depends on who is seated, and not on who leaves
-module _ (W : ℕ) (num vec : ℕ → ℕ) (L : Links) (small : (x : ℕ) → num x < 2 ^ numberBits) where
+module _ (comp : ℕ → ℕ) (W : ℕ) (num vec : ℕ → ℕ) (L : Links) (small : (x : ℕ) → num x < 2 ^ numberBits) where
   abbrev Differ : (ℕ → Bool) → Type 0
   Differ f = (x y : ℕ) → T (f x) → T (f y) → num x ≡ num y → x ≡ y
 
   abbrev Holds : (ℕ → Bool) → (Msg → Bool) → Type 0
   Holds f p =
-      (a : Differ f) → Invariant (record { W = W; Seated = λ x. T (f x); num = num; vec = vec; comp = λ x. 0; small = small; differ = a })
+      (a : Differ f) → Invariant (record { W = W; Seated = λ x. T (f x); num = num; vec = vec; comp = comp; small = small; differ = a })
       (record { link = L; pend = λ m. T (p m) })
 
   same-holds : {f g : ℕ → Bool} {p q : Msg → Bool} → f ≡ g → p ≡ q → Holds f p → Holds g q
   same-holds e e′ h = subst₂ Holds e e′ h
 
-module _ {N W : ℕ} (M : Meaning) (s : ℕ) (ok : Leaves N W (M .seats) (M .pending) s) where
-  pub sane-leave : Sane W M open-phase → Sane W (accept N W M (leave s)) open-phase
+module _ (comp : ℕ → ℕ) {N W : ℕ} (M : Meaning) (s : ℕ) (ok : Leaves N W (M .seats) (M .pending) s) where
+  pub sane-leave : Sane comp W M open-phase → Sane comp W (accept N W M (leave s)) open-phase
   unfolding accept linksAfter sends takes seatsAfter
   sane-leave (in-open i) =
-      in-open (λ l. same-holds W (M .seats .number) (M .seats .vector) (M .link) (l .small) (sym (seated-leave N (M .seats) s (ok .occupied)))
+      in-open (λ l. same-holds comp W (M .seats .number) (M .seats .vector) (M .link) (l .small) (sym (seated-leave N W (M .seats) s (ok .occupied)))
       (sym (after-none (M .pending)))
       (λ a. i (record { small = l .small; differ = a })) (l .differ))

@@ -14,10 +14,14 @@ use Rattle.base.proofs.Tests.{dec-T, T-true, not-T-false, false-T, true-false, 
 use Rattle.protocol.specs.Message.{Msg, going}
 use Rattle.base.specs.Loops.{any}
 use Rattle.protocol.specs.Rules.{SeatState, free, staying, leaving, isStaying}
-use Rattle.protocol.specs.State.{Phase, open-phase, clearing, Seats, Meaning, isFree, isLeaving, seated, stays, leaves}
-use Rattle.protocol.specs.Table.{turn}
-use Rattle.protocol.specs.Calls.{freed, afterTurn, seatsAfter, each, farewell, farewells, turnSends, sends, takes, pendingAfter, unlinked}
-use Rattle.protocol.specs.Calls.{turnLinks, linksAfter, accept}
+use Rattle.protocol.specs.State.{Phase, open-phase, clearing, Seats, Meaning, isSeated, isLeaving, seated, stays, leaves}
+use Rattle.protocol.specs.Calls.{turn}
+use Rattle.protocol.specs.pages.Turn.{afterTurn, each, farewell, farewells, turnSends}
+use Rattle.protocol.specs.Calls.{seatsAfter, sends, takes}
+use Rattle.protocol.specs.Page.{pendingAfter}
+use Rattle.protocol.specs.Freeing.{unlinked}
+use Rattle.protocol.specs.pages.Turn.{turnLinks}
+use Rattle.protocol.specs.Calls.{linksAfter, accept}
 use Rattle.protocol.specs.Sound.{Sound}
 use Rattle.base.proofs.Any.{any-none}
 use Rattle.protocol.proofs.Calls.{link-in, each-in}
@@ -27,7 +31,7 @@ use Rattle.protocol.proofs.Exact.{Exact}
 use Rattle.protocol.proofs.Invariant.{invariant-quiet}
 use Rattle.protocol.proofs.Clearing.{Target, nobody, nearest, clearing-quiet}
 use Rattle.protocol.proofs.Turn.{exact-links, clearing-start, Shrinks, clearing-end}
-use Rattle.protocol.proofs.SoundFacts.{stays-seated, two-level, link-linked}
+use Rattle.protocol.proofs.SoundFacts.{stays-seated, seated-below, two-level, link-linked}
 use Rattle.protocol.proofs.KeepTurn.{farewell-out, unlinked-some}
 use Rattle.protocol.proofs.Reached.{Laws, sound-laws, worldOf, Stayer, Sane, in-open, in-clearing}
 use Rattle.protocol.proofs.ReachedCalls.{after-only-sent, after-sent, after-none}
@@ -71,7 +75,7 @@ turn-idle N W M p e = λ i. record {
 seated-leaves : (r : Seats) (x : ℕ) → T (seated r x) → ¬ (T (stays r x)) → T (leaves r x)
 seated-leaves r x t n = by (r .state x) t n
   where
-    by : (s : SeatState) → T (not (isFree s)) → ¬ (T (isStaying s)) → T (isLeaving s)
+    by : (s : SeatState) → T (isSeated s) → ¬ (T (isStaying s)) → T (isLeaving s)
     by free t n = t
     by staying t n = absurd (n tt)
     by leaving t n = tt
@@ -99,8 +103,8 @@ farewell-in N W r L y k x d ly lk t e =
     by true f = each-in (suc W) (λ k. farewell L y k left ++ farewell L y k right) k (omega arith) (side d e)
     by false f = true-false f refl
 
-module _ {N W : ℕ} {M : Meaning} (h : Sound N W M) (q : Quiet (stateOf M)) where
-  sane-shut : Sane W M open-phase → Sane W (turned N W M open-phase) clearing
+module _ (comp : ℕ → ℕ) {N W : ℕ} {M : Meaning} (h : Sound N W M) (q : Quiet (stateOf M)) where
+  sane-shut : Sane comp W M open-phase → Sane comp W (turned N W M open-phase) clearing
   unfolding afterTurn turnLinks turnSends
   sane-shut (in-open i) =
       in-clearing (M .link) (λ l. exact-links (Stayer (M .seats)) (exact l))
@@ -109,7 +113,7 @@ module _ {N W : ℕ} {M : Meaning} (h : Sound N W M) (q : Quiet (stateOf M)) whe
       sent : List Msg
       sent = farewells N W (M .seats) (M .link)
 
-      exact : (l : Laws (afterTurn N open-phase (M .seats))) (k : ℕ) → Exact (worldOf W (afterTurn N open-phase (M .seats)) l) (stateOf M) k
+      exact : (l : Laws (afterTurn N open-phase (M .seats))) (k : ℕ) → Exact (worldOf comp W (afterTurn N open-phase (M .seats)) l) (stateOf M) k
       exact l k = invariant-quiet (i (record { small = l .small; differ = l .differ })) q k
 
       only : (m : Msg) → T (pendingAfter sent none (M .pending) m)
@@ -127,7 +131,7 @@ module _ {N W : ℕ} {M : Meaning} (h : Sound N W M) (q : Quiet (stateOf M)) whe
           → T (pendingAfter sent none (M .pending) (going x k d))
       told y k x d ns e =
           let p = link-linked h e .0 in
-          let m = farewell-in N W (M .seats) (M .link) y k x (opp d) (h .seats y (p .one)) (two-level p) (seated-leaves (M .seats) y (p .one) ns) e in
+          let m = farewell-in N W (M .seats) (M .link) y k x (opp d) (seated-below h y (p .one)) (two-level p) (seated-leaves (M .seats) y (p .one) ns) e in
           after-sent sent (M .pending) (going x k d) (subst (λ (c : Side). List·Memᴰ (going x k c) sent) (opp-opp d) m)
 
   -- out of clearing
@@ -135,24 +139,24 @@ module _ {N W : ℕ} {M : Meaning} (h : Sound N W M) (q : Quiet (stateOf M)) whe
   r′ = afterTurn N clearing (M .seats)
 
   freed-stays : (x : ℕ) → T (seated r′ x) → T (stays (M .seats) x)
-  unfolding afterTurn freed
+  unfolding afterTurn
   freed-stays x t = by (M .seats .state x) t
     where
-      by : (s : SeatState) → T (not (isFree (freed s))) → T (isStaying s)
+      by : (s : SeatState) → T (isSeated (cond (isLeaving s) free s)) → T (isStaying s)
       by free t = t
       by staying t = t
       by leaving t = t
 
   stays-freed : (x : ℕ) → T (stays (M .seats) x) → T (seated r′ x)
-  unfolding afterTurn freed
+  unfolding afterTurn
   stays-freed x t = by (M .seats .state x) t
     where
-      by : (s : SeatState) → T (isStaying s) → T (not (isFree (freed s)))
+      by : (s : SeatState) → T (isStaying s) → T (isSeated (cond (isLeaving s) free s))
       by free t = t
       by staying t = t
       by leaving t = t
 
-  shrinks : (l : Laws (M .seats)) (l′ : Laws r′) → Shrinks (worldOf W (M .seats) l) (Stayer (M .seats)) (worldOf W r′ l′)
+  shrinks : (l : Laws (M .seats)) (l′ : Laws r′) → Shrinks (worldOf comp W (M .seats) l) (Stayer (M .seats)) (worldOf comp W r′ l′)
   unfolding afterTurn
   shrinks l l′ = record {
     old = λ x t. let s = freed-stays x t in (stays-seated (M .seats) x s, s);
@@ -163,12 +167,12 @@ module _ {N W : ℕ} {M : Meaning} (h : Sound N W M) (q : Quiet (stateOf M)) whe
   }
 
   -- a target is no leaver
-  unlinked-target : {G : World} {k x : ℕ} {d : Side} {o : Option ℕ} → Target G (Stayer (M .seats)) k x d o → unlinked (M .seats) o ≡ o
+  unlinked-target : {G : World} {k x : ℕ} {d : Side} {o : Option ℕ} → Target G (Stayer (M .seats)) k x d o → unlinked (leaves (M .seats)) o ≡ o
   unfolding unlinked
   unlinked-target (nobody f) = refl
   unlinked-target (nearest {y = y} p s l f) = rw (leaves-off (M .seats) y s)
 
-  sane-end : Sane W M clearing → Sane W (turned N W M clearing) open-phase
+  sane-end : Sane comp W M clearing → Sane comp W (turned N W M clearing) open-phase
   unfolding turnLinks turnSends
   sane-end (in-clearing L a c) =
       in-open (λ l′. clearing-end (shrinks l l′) (stateOf (turned N W M clearing)) (stateOf M) (clearing-quiet (c l) q) keep drop still)
@@ -180,30 +184,30 @@ module _ {N W : ℕ} {M : Meaning} (h : Sound N W M) (q : Quiet (stateOf M)) whe
       still m t = q m (subst (λ (p : Msg → Bool). T (p m)) (after-none (M .pending)) t)
 
       keep : (x k : ℕ) (d : Side) → T (seated (M .seats) x) → T (stays (M .seats) x)
-          → cond (leaves (M .seats) x) none (unlinked (M .seats) (M .link x k d)) ≡ M .link x k d
+          → cond (leaves (M .seats) x) none (unlinked (leaves (M .seats)) (M .link x k d)) ≡ M .link x k d
       keep x k d sx st = rw (leaves-off (M .seats) x st) (unlinked-target (clearing-quiet (c l) q x k d sx st))
 
       got : (x k : ℕ) (d : Side) (y : ℕ) (b : Bool) → leaves (M .seats) x ≡ b → Dec (T (stays (M .seats) x))
-          → cond b none (unlinked (M .seats) (M .link x k d)) ≡ some y → T (seated (M .seats) x) × T (stays (M .seats) x)
+          → cond b none (unlinked (leaves (M .seats)) (M .link x k d)) ≡ some y → T (seated (M .seats) x) × T (stays (M .seats) x)
       got x k d y true f s e = none-some refl e
       got x k d y false f (yes s) e = (stays-seated (M .seats) x s, s)
       got x k d y false f (no s) e =
-          false-T f (seated-leaves (M .seats) x (link-linked h (unlinked-some (M .seats) (M .link x k d) y e .0) .0 .one) s)
+          false-T f (seated-leaves (M .seats) x (link-linked h (unlinked-some (leaves (M .seats)) (M .link x k d) y e .0) .0 .one) s)
 
-      drop : (x k : ℕ) (d : Side) (y : ℕ) → cond (leaves (M .seats) x) none (unlinked (M .seats) (M .link x k d)) ≡ some y
+      drop : (x k : ℕ) (d : Side) (y : ℕ) → cond (leaves (M .seats) x) none (unlinked (leaves (M .seats)) (M .link x k d)) ≡ some y
           → T (seated (M .seats) x) × T (stays (M .seats) x)
       drop x k d y e = got x k d y (leaves (M .seats) x) refl (dec-T (stays (M .seats) x)) e
 
   -- every turn with nothing pending
-  sane-turned : (p : Phase) → M .seats .phase ≡ p → Sane W M p → Sane W (turned N W M p) (turned N W M p .seats .phase)
+  sane-turned : (p : Phase) → M .seats .phase ≡ p → Sane comp W M p → Sane comp W (turned N W M p) (turned N W M p .seats .phase)
   unfolding afterTurn
   sane-turned open-phase e s = by (any N (leaves (M .seats))) refl
     where
-      by : (b : Bool) → any N (leaves (M .seats)) ≡ b → Sane W (turned N W M open-phase) (cond b clearing open-phase)
+      by : (b : Bool) → any N (leaves (M .seats)) ≡ b → Sane comp W (turned N W M open-phase) (cond b clearing open-phase)
       by true f = sane-shut s
-      by false f = subst (λ (K : Meaning). Sane W K open-phase) (sym (turn-idle N W M e f)) s
+      by false f = subst (λ (K : Meaning). Sane comp W K open-phase) (sym (turn-idle N W M e f)) s
   sane-turned clearing e s = sane-end s
 
-  pub sane-turn : Sane W M (M .seats .phase) → Sane W (accept N W M turn) (accept N W M turn .seats .phase)
+  pub sane-turn : Sane comp W M (M .seats .phase) → Sane comp W (accept N W M turn) (accept N W M turn .seats .phase)
   unfolding accept seatsAfter linksAfter sends takes
   sane-turn s = sane-turned (M .seats .phase) refl s

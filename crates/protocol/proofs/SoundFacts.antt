@@ -11,16 +11,16 @@ use lib.Dec.{T, eqb, ltb, T-not, not-T, eqb→eq, leb→le, le→leb, ltb→lt, 
 use borrow.Author.Tests.{eq-eqb}
 use Rattle.graph.specs.Side.{Side, sideOf}
 use Rattle.graph.specs.Vector.{shared}
-use Rattle.base.proofs.Tests.{and-T, and-fst, and-snd, true-T}
+use Rattle.base.proofs.Tests.{and-T, and-fst, and-snd, true-T, false-T, not-T-false}
 use Rattle.graph.specs.inner.Order.{Lt}
 use Rattle.graph.proofs.Order.{on-lt, lt-on, lt-some, side-of}
 use Rattle.graph.proofs.Shared.{shared-le, shared-sym, shared-trans}
 use Rattle.protocol.specs.Message.{Msg, meet, probe, pull, going, seek, found, none-found, among}
 use Rattle.protocol.specs.Numbering.{exists}
 use Rattle.protocol.specs.Rules.{SeatState, free, staying, leaving, isStaying}
-use Rattle.protocol.specs.State.{Phase, open-phase, clearing, Seats, Meaning, isClearing, isFree, seated, stays}
+use Rattle.protocol.specs.State.{Phase, open-phase, clearing, Seats, Meaning, isClearing, isFree, isSeated, taken, seated, stays}
 use Rattle.protocol.specs.Sound.{pairOk, linkOk, messageOk, Sound}
-use Rattle.protocol.specs.Calls.{isTaken, pendingAfter}
+use Rattle.protocol.specs.Page.{isTaken, pendingAfter}
 use Rattle.protocol.proofs.Message.{among-mem}
 use Rattle.protocol.proofs.Calls.{after-only}
 
@@ -41,10 +41,23 @@ phase-clearing clearing t = refl
 pub stays-seated : (r : Seats) (x : ℕ) → T (stays r x) → T (seated r x)
 stays-seated r x t = by (r .state x) t
   where
-    by : (s : SeatState) → T (isStaying s) → T (not (isFree s))
+    by : (s : SeatState) → T (isStaying s) → T (isSeated s)
     by free t = t
     by staying t = t
     by leaving t = tt
+
+-- a seat with a lot is taken
+pub seated-taken : (r : Seats) (x : ℕ) → T (seated r x) → T (taken r x)
+seated-taken r x t = by (r .state x) t
+  where
+    by : (s : SeatState) → T (isSeated s) → T (not (isFree s))
+    by free t = t
+    by staying t = tt
+    by leaving t = tt
+
+-- a seat that is not taken has no lot
+pub free-empty : (r : Seats) (x : ℕ) → taken r x ≡ false → seated r x ≡ false
+free-empty r x e = not-T-false (λ t. false-T e (seated-taken r x t))
 
 module _ (W : ℕ) (r : Seats) where
   -- two different seated lots that share at least k bits
@@ -171,14 +184,22 @@ module _ {N W : ℕ} {M : Meaning} (h : Sound N W M) where
   -- one lies on the side of the other that their numbers tell
   pub two-lt : {k x y : ℕ} → Two W (M .seats) k x y → Lt (M .seats .number) (sideOf (M .seats .number x) (M .seats .number y)) x y
   two-lt {x = x} {y = y} t =
-      let (d, l) = lt-some (M .seats .number) x y (λ e. t .apart (h .differ x y (t .one) (t .two) e)) in
+      let (d, l) = lt-some (M .seats .number) x y (λ e. t .apart (h .differ x y (seated-taken (M .seats) x (t .one)) (seated-taken (M .seats) y (t .two)) e)) in
       rw (side-of (M .seats .number) l) l
 
+  -- a lot sits below N
+  pub seated-below : (x : ℕ) → T (seated (M .seats) x) → x < N
+  seated-below x s = h .seats x (seated-taken (M .seats) x s)
+
+  -- the numbers of lots differ
+  pub seated-differ : (x y : ℕ) → T (seated (M .seats) x) → T (seated (M .seats) y) → M .seats .number x ≡ M .seats .number y → x ≡ y
+  seated-differ x y s t e = h .differ x y (seated-taken (M .seats) x s) (seated-taken (M .seats) y t) e
+
   seat-in : (x k L : ℕ) → T (seated (M .seats) x) → k < L → T (ltb x N && ltb k L)
-  seat-in x k L s l = and-T (ltb x N) _ (lt→ltb x N (h .seats x s)) (lt→ltb k L l)
+  seat-in x k L s l = and-T (ltb x N) _ (lt→ltb x N (seated-below x s)) (lt→ltb k L l)
 
   pair-in : {k x y : ℕ} (L : ℕ) → Two W (M .seats) k x y → k < L → T (ltb x N && (ltb y N && ltb k L))
-  pair-in {k} {x} {y} L t l = and-T (ltb x N) _ (lt→ltb x N (h .seats x (t .one))) (seat-in y k L (t .two) l)
+  pair-in {k} {x} {y} L t l = and-T (ltb x N) _ (lt→ltb x N (seated-below x (t .one))) (seat-in y k L (t .two) l)
 
   proper-exists : {p : Phase} {m : Msg} → Proper W (M .seats) p m → T (exists N W m)
   unfolding exists

@@ -11,11 +11,14 @@ use Rattle.graph.specs.Graph.{IsGraph}
 use Rattle.base.proofs.Tests.{false-T, not-T-false}
 use Rattle.protocol.specs.Message.{Msg, Name, named}
 use Rattle.protocol.specs.Numbering.{somePending}
-use Rattle.protocol.specs.State.{Seats, Meaning, members, nobody, opened}
-use Rattle.protocol.specs.Table.{Call, join, leave, deliver, turn, isPending, refusal}
-use Rattle.protocol.specs.Calls.{seatsAfter, sends, takes, pendingAfter, accept, unlessRefused, call}
+use Rattle.protocol.specs.State.{Meaning, oneComponent, nobody, opened}
+use Rattle.protocol.specs.Calls.{Call, join, leave, deliver, turn, refusal}
+use Rattle.protocol.specs.State.{isPending}
+use Rattle.protocol.specs.Calls.{seatsAfter, sends, takes, accept, unlessRefused, call}
+use Rattle.protocol.specs.Page.{pendingAfter}
 use Rattle.protocol.specs.Sound.{Sound}
-use Rattle.protocol.specs.Run.{Standing, logOf, step, steps, run, rosterOf, pendingOf, RefusedByTable, NothingPending, accepted, Demand3, InRange}
+use Rattle.protocol.specs.Run.{Roster, membersOf, rosterAfter, stepsFrom, Standing, logOf, step, steps, meaningRun, rosterOf, pendingOf, RefusedByTable, NothingPending, accepted, MeaningDemand3}
+use Rattle.protocol.specs.Calls.{InRange}
 use Rattle.protocol.specs.Run.{AllInRange}
 use Rattle.protocol.proofs.Numbering.{none-pending, pending-none}
 use Rattle.protocol.proofs.Delivery.{stateOf, accept-deliver}
@@ -44,13 +47,13 @@ deliver-taken N W M n e = by (named n) refl (deliver-row N W (M .seats) (M .pend
     by (some m) f t = record { message = m; is = f; was = t }
 
 module _ (N W : ℕ) where
-  reached-opened : Reached N W opened
+  reached-opened : Reached oneComponent N W opened
   unfolding opened nobody
   reached-opened =
       record {
         sound = opened-sound N W;
         sane = in-open
-            (λ l. invariant-first (worldOf W nobody l) (stateOf opened) (λ x y p q. absurd p) (λ x k d. refl) (λ m p. p));
+            (λ l. invariant-first (worldOf oneComponent W nobody l) (stateOf opened) (λ x y p q. absurd p) (λ x k d. refl) (λ m p. p));
       }
 
   -- nothing pending, as the table tests it and as a fact
@@ -69,96 +72,100 @@ module _ (N W : ℕ) where
   unfolding accept seatsAfter
   phase-leave M s = refl
 
-  sane-accept : {M : Meaning} → Reached N W M → (c : Call) → refusal N W (M .seats) (M .pending) c ≡ 0
-      → Sane W (accept N W M c) (accept N W M c .seats .phase)
+  sane-accept : {M : Meaning} → Reached oneComponent N W M → (c : Call) → refusal N W (M .seats) (M .pending) c ≡ 0
+      → Sane oneComponent W (accept N W M c) (accept N W M c .seats .phase)
   sane-accept {M} g (join s n v c) e =
       let ok = join-rows N W (M .seats) (M .pending) s n v c e in
-      subst (Sane W (accept N W M (join s n v c))) (sym (phase-join M s n v c ∙ ok .opens))
-      (sane-join (g .sound) s n v c ok (subst (Sane W M) (ok .opens) (g .sane)))
+      subst (Sane oneComponent W (accept N W M (join s n v c))) (sym (phase-join M s n v c ∙ ok .opens))
+      (sane-join oneComponent (g .sound) s n v c ok (λ l. refl) (subst (Sane oneComponent W M) (ok .opens) (g .sane)))
   sane-accept {M} g (leave s) e =
       let ok = leave-rows N W (M .seats) (M .pending) s e in
-      subst (Sane W (accept N W M (leave s))) (sym (phase-leave M s ∙ ok .opens)) (sane-leave M s ok (subst (Sane W M) (ok .opens) (g .sane)))
+      subst (Sane oneComponent W (accept N W M (leave s))) (sym (phase-leave M s ∙ ok .opens)) (sane-leave oneComponent M s ok (subst (Sane oneComponent W M) (ok .opens) (g .sane)))
   sane-accept {M} g (deliver n) e =
       let t = deliver-taken N W M n e in
-      subst (λ (K : Meaning). Sane W K (K .seats .phase)) (sym (accept-deliver N W M n (t .message) (t .is))) (sane-deliver (g .sane) (t .message) (t .was))
-  sane-accept {M} g turn e = sane-turn (g .sound) (quiet-none (g .sound) (turn-row N W (M .seats) (M .pending) e)) (g .sane)
+      subst (λ (K : Meaning). Sane oneComponent W K (K .seats .phase)) (sym (accept-deliver N W M n (t .message) (t .is))) (sane-deliver (g .sane) (t .message) (t .was))
+  sane-accept {M} g turn e = sane-turn oneComponent (g .sound) (quiet-none (g .sound) (turn-row N W (M .seats) (M .pending) e)) (g .sane)
 
-  reached-accept : {M : Meaning} → Reached N W M → (c : Call) → InRange N W c → refusal N W (M .seats) (M .pending) c ≡ 0
-      → Reached N W (accept N W M c)
+  reached-accept : {M : Meaning} → Reached oneComponent N W M → (c : Call) → InRange N W c → refusal N W (M .seats) (M .pending) c ≡ 0
+      → Reached oneComponent N W (accept N W M c)
   reached-accept {M} g c q e = record { sound = accept-sound N W M (g .sound) c q e; sane = sane-accept g c e }
 
-  pub reached-call : {M : Meaning} → Reached N W M → (c : Call) → InRange N W c → Reached N W (call N W M c .meaning)
+  pub reached-call : {M : Meaning} → Reached oneComponent N W M → (c : Call) → InRange N W c → Reached oneComponent N W (call N W M c .after)
   unfolding call unlessRefused
   reached-call {M} g c q = by (refusal N W (M .seats) (M .pending) c) refl
     where
-      by : (n : ℕ) → refusal N W (M .seats) (M .pending) c ≡ n → Reached N W (unlessRefused n M (accept N W M c))
+      by : (n : ℕ) → refusal N W (M .seats) (M .pending) c ≡ n → Reached oneComponent N W (unlessRefused n M (accept N W M c))
       by zero e = reached-accept g c q e
       by (suc n) e = g
 
   -- part 5: no list of deliveries has more accepted ones than the bound
-  ends-step : {M : Meaning} → Reached N W M → (n : Name) (ns : List Name) → ((K : Meaning) → Reached N W K → accepted N W K ns ≤ bound N W K)
-      → unlessRefused (call N W M (deliver n) .refused) 0 1 + accepted N W (call N W M (deliver n) .meaning) ns ≤ bound N W M
+  ends-step : {M : Meaning} → Reached oneComponent N W M → (n : Name) (ns : List Name) → ((K : Meaning) → Reached oneComponent N W K → accepted (call N W) K ns ≤ bound N W K)
+      → unlessRefused (call N W M (deliver n) .refused) 0 1 + accepted (call N W) (call N W M (deliver n) .after) ns ≤ bound N W M
   unfolding call unlessRefused
   ends-step {M} g n ns ih = by (refusal N W (M .seats) (M .pending) (deliver n)) refl
     where
       by : (a : ℕ) → refusal N W (M .seats) (M .pending) (deliver n) ≡ a
-          → unlessRefused a 0 1 + accepted N W (unlessRefused a M (accept N W M (deliver n))) ns ≤ bound N W M
+          → unlessRefused a 0 1 + accepted (call N W) (unlessRefused a M (accept N W M (deliver n))) ns ≤ bound N W M
       by zero e =
           let t = deliver-taken N W M n e in
           let f = accept-deliver N W M n (t .message) (t .is) in
           omega (arith, ih (accept N W M (deliver n)) (reached-accept g (deliver n) tt e), ap (bound N W) f, bound-less g (t .message) (t .was))
       by (suc a) e = omega (arith, ih M g)
 
-  ends : (ns : List Name) (M : Meaning) → Reached N W M → accepted N W M ns ≤ bound N W M
+  ends : (ns : List Name) (M : Meaning) → Reached oneComponent N W M → accepted (call N W) M ns ≤ bound N W M
   unfolding accepted
   ends [] M g = omega arith
   ends (n ∷ ns) M g = ends-step g n ns (λ K k. ends ns K k)
 
+  -- the roster of a meaning: all its lots are in one component
+  abbrev rosterNow : Meaning → Roster
+  rosterNow M = record { seats = M .seats; component = oneComponent }
+
   -- what goes through a list
-  pub record Track (s : Standing) : Type 0 where
-    pub reached : Reached N W (s .now)
+  pub record Track (s : Standing Meaning) : Type 0 where
+    pub reached : Reached oneComponent N W (s .now)
     pub refusals : RefusedByTable N W (s .history)
-    pub lots : s .now .seats ≡ rosterOf N W (logOf (s .history))
+    pub lots : rosterNow (s .now) ≡ rosterOf N W (logOf (s .history))
     pub pending : s .now .pending ≡ pendingOf N W (s .history)
 
-  lots-step : (M : Meaning) {r : Seats} (c : Call) (n : ℕ) → M .seats ≡ r
-      → unlessRefused n M (accept N W M c) .seats ≡ unlessRefused n r (seatsAfter N r c)
-  unfolding unlessRefused accept
-  lots-step M c zero e = ap (λ (r : Seats). seatsAfter N r c) e
+  lots-step : (M : Meaning) {o : Roster} (c : Call) (n : ℕ) → rosterNow M ≡ o
+      → rosterNow (unlessRefused n M (accept N W M c)) ≡ unlessRefused n o (rosterAfter N W o c)
+  unfolding unlessRefused accept rosterAfter
+  lots-step M c zero e = ap (λ (o : Roster). rosterAfter N W o c) e
   lots-step M c (suc n) e = e
 
   pending-step : (M : Meaning) {p : Msg → Bool} (c : Call) (n : ℕ) → M .pending ≡ p
-      → unlessRefused n M (accept N W M c) .pending ≡ (λ m. unlessRefused n (p m) (pendingAfter (sends N W M c) (takes c) p m))
+      → unlessRefused n M (accept N W M c) .pending ≡ (λ m. unlessRefused n (p m) (pendingAfter (sends N W M c) (takes N W c) p m))
   unfolding unlessRefused accept
-  pending-step M c zero e = ap {B = Msg → Bool} (λ (p : Msg → Bool) (m : Msg). pendingAfter (sends N W M c) (takes c) p m) e
+  pending-step M c zero e = ap {B = Msg → Bool} (λ (p : Msg → Bool) (m : Msg). pendingAfter (sends N W M c) (takes N W c) p m) e
   pending-step M c (suc n) e = e
 
-  track-step : {s : Standing} (c : Call) → InRange N W c → Track s → Track (step N W s c)
+  track-step : {s : Standing Meaning} (c : Call) → InRange N W c → Track s → Track (step (call N W) s c)
   unfolding step call rosterOf logOf pendingOf
   track-step {s} c q t = record {
     reached = reached-call (t .reached) c q;
-    refusals = (ap₂ (λ (r : Seats) (p : Msg → Bool). refusal N W r p c) (t .lots) (t .pending), t .refusals);
+    refusals = (ap₂ (λ (o : Roster) (p : Msg → Bool). refusal N W (o .seats) p c) (t .lots) (t .pending), t .refusals);
     lots = lots-step (s .now) c (refusal N W (s .now .seats) (s .now .pending) c) (t .lots);
     pending = pending-step (s .now) c (refusal N W (s .now .seats) (s .now .pending) c) (t .pending);
   }
 
-  track-steps : (cs : List Call) {s : Standing} → AllInRange N W cs → Track s → Track (steps N W s cs)
+  track-steps : (cs : List Call) {s : Standing Meaning} → AllInRange N W cs → Track s → Track (steps (call N W) s cs)
   unfolding steps
   track-steps [] a t = t
   track-steps (c ∷ cs) a t = track-steps cs (a .1) (track-step c (a .0) t)
 
   -- the invariant of every list
-  pub track-run : (cs : List Call) → AllInRange N W cs → Track (run N W cs)
-  unfolding run opened rosterOf logOf pendingOf
+  pub track-run : (cs : List Call) → AllInRange N W cs → Track (meaningRun N W cs)
+  unfolding meaningRun stepsFrom opened rosterOf logOf pendingOf
   track-run cs a = track-steps cs a (record { reached = reached-opened; refusals = tt; lots = refl; pending = refl })
 
-  track-demand : {s : Standing} → Track s → Demand3 N W (bound N W) s
+  track-demand : {s : Standing Meaning} → Track s → MeaningDemand3 N W (bound N W) s
   track-demand {s} t = record {
     refusals = t .refusals;
-    lots = t .lots;
+    lots = ap (λ (o : Roster). o .seats) (t .lots);
     messages = λ m. ap (λ (p : Msg → Bool). p m) (t .pending);
     none-left = ((λ e m. settled (quiet-none (t .reached .sound) e) m), λ q. none-quiet (s .now) (quiet q));
-    graph = λ q. subst (λ (r : Seats). IsGraph N W (members r) (s .now .link)) (t .lots) (reached-graph (t .reached) (quiet q));
+    graph = λ q. subst (λ (o : Roster). IsGraph N W (membersOf o) (s .now .link)) (t .lots) (reached-graph (t .reached) (quiet q));
     ends = λ ns. ends ns (s .now) (t .reached);
   }
     where
@@ -169,9 +176,9 @@ module _ (N W : ℕ) where
       quiet q m u = false-T (q m) (subst (λ (p : Msg → Bool). T (p m)) (t .pending) u)
 
   -- THE THEOREM: demand 3 after every list of calls
-  pub every-list : (cs : List Call) → AllInRange N W cs → Demand3 N W (bound N W) (run N W cs)
+  pub every-list : (cs : List Call) → AllInRange N W cs → MeaningDemand3 N W (bound N W) (meaningRun N W cs)
   every-list cs a = track-demand (track-run cs a)
 
   -- and the meaning is sound after every list, so that refusal 2 is never met
-  pub every-list-sound : (cs : List Call) → AllInRange N W cs → Sound N W (run N W cs .now)
+  pub every-list-sound : (cs : List Call) → AllInRange N W cs → Sound N W (meaningRun N W cs .now)
   every-list-sound cs a = track-run cs a .reached .sound

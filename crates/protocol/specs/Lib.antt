@@ -3,8 +3,11 @@ pub mod Message
 pub mod Numbering
 pub mod Rules
 pub mod State
-pub mod Table
-pub mod Calls
+pub mod Refusals
+pub mod Page
+pub mod Freeing
 pub mod Sound
+pub mod pages
+pub mod Calls
 pub mod Local
 pub mod Run

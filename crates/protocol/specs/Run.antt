@@ -1,91 +1,103 @@
--- Lists of calls from an opened record, the roster of document 01 ("Runs and the roster"), pending by history, and what demand 3 says
--- after every list. Assumes nothing.
-use Prim.Native.Nat.{ℕ, _+_, _^_, _≤_, _<_}
+-- Lists of calls, the roster of document 01 ("Runs and the roster"), pending by history, and what demand 3 says of the meaning after every
+-- list on an opened record. Assumes nothing.
+use Prim.Native.Nat.{ℕ, _+_, _≤_}
 use mathlib.Core.Path.{_≡_}
 use mathlib.Core.Logic.{_↔_}
 use mathlib.Core.Bool.{Bool, false}
 use mathlib.Core.List.{List, [], _∷_}
-use Rattle.graph.specs.Graph.{IsGraph}
+use Rattle.graph.specs.Graph.{Lots, IsGraph}
 use Rattle.protocol.specs.Message.{Msg, Name}
 use Rattle.protocol.specs.Numbering.{somePending}
-use Rattle.protocol.specs.State.{Seats, Meaning, members, nobody, opened}
-use Rattle.protocol.specs.Table.{Call, join, leave, deliver, turn, refusal}
-use Rattle.protocol.specs.Calls.{seatsAfter, sends, takes, pendingAfter, unlessRefused, call}
-use Rattle.protocol.specs.Sound.{numberBits}
+use Rattle.protocol.specs.State.{Seats, Meaning, oneComponent, members, nobody, opened}
+use Rattle.protocol.specs.Page.{pendingAfter}
+use Rattle.protocol.specs.Calls.{Call, deliver, Outcome, unlessRefused, InRange, refusal, seatsAfter, sends, takes, call}
 
 -- a call of a list with its refusal number, 0 if it was accepted
 pub record Logged : Type 0 where
   pub call : Call
   pub refused : ℕ
 
--- the same with the meaning before the call
-pub record Event : Type 0 where
+-- the same with what was there before the call
+pub record Past (A : Type 0) : Type 0 where
   pub logged : Logged
-  pub before : Meaning
+  pub before : A
 
-pub record Standing : Type 0 where
-  pub now : Meaning
-  pub history : List Event
+-- what is there now, and the calls that led to it, latest first
+pub record Standing (A : Type 0) : Type 0 where
+  pub now : A
+  pub history : List (Past A)
 
--- the log of a history, latest call first
-unfoldable pub logOf : List Event → List Logged
+-- the log of a history
+unfoldable pub logOf : {A : Type 0} → List (Past A) → List Logged
 logOf [] = []
 logOf (e ∷ es) = e .logged ∷ logOf es
 
-module _ (N W : ℕ) where
-  unfoldable pub step : Standing → Call → Standing
-  step s c = let o = call N W (s .now) c in
-      record { now = o .meaning; history = record { logged = record { call = c; refused = o .refused }; before = s .now } ∷ s .history }
+-- a list of calls, each made of what the one before left
+module _ {A : Type 0} (make : A → Call → Outcome A) where
+  unfoldable pub step : Standing A → Call → Standing A
+  step s c = let o = make (s .now) c in
+      record { now = o .after; history = record { logged = record { call = c; refused = o .refused }; before = s .now } ∷ s .history }
 
-  unfoldable pub steps : Standing → List Call → Standing
+  unfoldable pub steps : Standing A → List Call → Standing A
   steps s [] = s
   steps s (c ∷ cs) = steps (step s c) cs
 
-  -- a list of calls on a record that open has just written
-  unfoldable pub run : List Call → Standing
-  run cs = steps (record { now = opened; history = [] }) cs
-
-  -- the roster, kept from the log alone
-  unfoldable pub rosterOf : List Logged → Seats
-  rosterOf [] = nobody
-  rosterOf (l ∷ ls) = unlessRefused (l .refused) (rosterOf ls) (seatsAfter N (rosterOf ls) (l .call))
-
-  -- pending from the sending by an accepted call until an accepted delivery takes it away
-  unfoldable pub pendingOf : List Event → Msg → Bool
-  pendingOf [] m = false
-  pendingOf (e ∷ es) m = unlessRefused (e .logged .refused) (pendingOf es m)
-      (pendingAfter (sends N W (e .before) (e .logged .call)) (takes (e .logged .call)) (pendingOf es) m)
-
-  -- each refusal number is the table's, from the roster and the pending messages before the call
-  abbrev pub RefusedByTable : List Event → Type 0
-  RefusedByTable [] = Unit {0}
-  RefusedByTable (e ∷ es) = (e .logged .refused ≡ refusal N W (rosterOf (logOf es)) (pendingOf es) (e .logged .call)) × RefusedByTable es
-
-  -- nothing is pending
-  abbrev pub NothingPending : List Event → Type 0
-  NothingPending es = (m : Msg) → pendingOf es m ≡ false
+  unfoldable pub stepsFrom : A → List Call → Standing A
+  stepsFrom a cs = steps (record { now = a; history = [] }) cs
 
   -- how many of a list of deliveries are accepted
-  unfoldable pub accepted : Meaning → List Name → ℕ
-  accepted M [] = 0
-  accepted M (n ∷ ns) = let o = call N W M (deliver n) in unlessRefused (o .refused) 0 1 + accepted (o .meaning) ns
+  unfoldable pub accepted : A → List Name → ℕ
+  accepted a [] = 0
+  accepted a (n ∷ ns) = let o = make a (deliver n) in unlessRefused (o .refused) 0 1 + accepted (o .after) ns
 
-  -- demand 3, after a list: its five parts; the bound is a number fixed by the meaning alone
-  pub record Demand3 (bound : Meaning → ℕ) (s : Standing) : Type 0 where
+-- document 01's roster, kept from the log: what the seats hold, and the component of each lot
+pub record Roster : Type 0 where
+  pub seats : Seats
+  pub component : ℕ → ℕ
+
+-- the members of a roster
+abbrev pub membersOf : Roster → Lots
+membersOf o = members (o .component) (o .seats)
+
+module _ (N W : ℕ) where
+  -- a list of calls on a record that open has just written
+  unfoldable pub meaningRun : List Call → Standing Meaning
+  meaningRun cs = stepsFrom (call N W) opened cs
+
+  -- the roster after an accepted call: all lots stay in one component
+  unfoldable pub rosterAfter : Roster → Call → Roster
+  rosterAfter o c = record { seats = seatsAfter N W (o .seats) c; component = o .component }
+
+  -- the roster, kept from the log alone
+  unfoldable pub rosterOf : List Logged → Roster
+  rosterOf [] = record { seats = nobody; component = oneComponent }
+  rosterOf (l ∷ ls) = unlessRefused (l .refused) (rosterOf ls) (rosterAfter (rosterOf ls) (l .call))
+
+  -- pending from the sending by an accepted call until an accepted delivery takes it away
+  unfoldable pub pendingOf : List (Past Meaning) → Msg → Bool
+  pendingOf [] m = false
+  pendingOf (e ∷ es) m = unlessRefused (e .logged .refused) (pendingOf es m)
+      (pendingAfter (sends N W (e .before) (e .logged .call)) (takes N W (e .logged .call)) (pendingOf es) m)
+
+  -- each refusal number is the table's, from the roster and the pending messages before the call
+  abbrev pub RefusedByTable : List (Past Meaning) → Type 0
+  RefusedByTable [] = Unit {0}
+  RefusedByTable (e ∷ es) = (e .logged .refused ≡ refusal N W (rosterOf (logOf es) .seats) (pendingOf es) (e .logged .call)) × RefusedByTable es
+
+  -- nothing is pending
+  abbrev pub NothingPending : List (Past Meaning) → Type 0
+  NothingPending es = (m : Msg) → pendingOf es m ≡ false
+
+  -- demand 3 on the meaning, after a list: its five parts; the bound is a number fixed by the meaning alone
+  pub record MeaningDemand3 (bound : Meaning → ℕ) (s : Standing Meaning) : Type 0 where
     pub refusals : RefusedByTable (s .history)
-    pub lots : s .now .seats ≡ rosterOf (logOf (s .history))
+    pub lots : s .now .seats ≡ rosterOf (logOf (s .history)) .seats
     pub messages : (m : Msg) → s .now .pending m ≡ pendingOf (s .history) m
     pub none-left : (somePending N W (s .now .pending) ≡ false) ↔ NothingPending (s .history)
-    pub graph : NothingPending (s .history) → IsGraph N W (members (rosterOf (logOf (s .history)))) (s .now .link)
-    pub ends : (ns : List Name) → accepted (s .now) ns ≤ bound (s .now)
+    pub graph : NothingPending (s .history) → IsGraph N W (membersOf (rosterOf (logOf (s .history)))) (s .now .link)
+    pub ends : (ns : List Name) → accepted (call N W) (s .now) ns ≤ bound (s .now)
 
-  -- the arguments fit their types
-  abbrev pub InRange : Call → Type 0
-  InRange (join s n v c) = (n < 2 ^ numberBits) × (v < 2 ^ W)
-  InRange (leave s) = Unit {0}
-  InRange (deliver n) = Unit {0}
-  InRange turn = Unit {0}
-
+  -- the arguments of every call of a list fit their types
   abbrev pub AllInRange : List Call → Type 0
   AllInRange [] = Unit {0}
-  AllInRange (c ∷ cs) = InRange c × AllInRange cs
+  AllInRange (c ∷ cs) = InRange N W c × AllInRange cs

@@ -7,7 +7,7 @@ use lib.Dec.{T, eqb, ltb, leb}
 use Rattle.graph.specs.Side.{Side, onSide}
 use Rattle.graph.specs.Vector.{shared}
 use Rattle.protocol.specs.Message.{Msg, meet, probe, pull, going, seek, found, none-found}
-use Rattle.protocol.specs.State.{Seats, Meaning, isClearing, isFree, seated, stays}
+use Rattle.protocol.specs.State.{Seats, Meaning, isClearing, isFree, taken, seated, stays}
 
 -- lot numbers have 64 bits
 abbrev pub numberBits : ℕ
@@ -34,13 +34,13 @@ module _ (W : ℕ) (r : Seats) where
 
 pub record Sound (N W : ℕ) (M : Meaning) : Type 0 where
   -- lots sit on the N seats, and numbers and vectors have their bits
-  pub seats : (x : ℕ) → T (seated (M .seats) x) → x < N
+  pub seats : (x : ℕ) → T (taken (M .seats) x) → x < N
   pub numbers : (x : ℕ) → M .seats .number x < 2 ^ numberBits
   pub vectors : (x : ℕ) → M .seats .vector x < 2 ^ W
   -- a free seat's entry is as opened
   pub unused : (x : ℕ) → T (isFree (M .seats .state x))
       → (M .seats .number x ≡ 0) × (M .seats .vector x ≡ 0) × ((k : ℕ) (d : Side) → M .link x k d ≡ none)
   -- numbers differ
-  pub differ : (x y : ℕ) → T (seated (M .seats) x) → T (seated (M .seats) y) → M .seats .number x ≡ M .seats .number y → x ≡ y
+  pub differ : (x y : ℕ) → T (taken (M .seats) x) → T (taken (M .seats) y) → M .seats .number x ≡ M .seats .number y → x ≡ y
   pub links : (x k y : ℕ) (d : Side) → M .link x k d ≡ some y → T (linkOk W (M .seats) x k d y)
   pub messages : (m : Msg) → T (M .pending m) → T (messageOk W (M .seats) m)

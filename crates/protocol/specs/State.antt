@@ -1,7 +1,8 @@
--- The meaning of a record: phase, lots, links and pending messages; and the members of a roster. Assumes nothing.
+-- The meaning of a record: what its seats hold, links and pending messages; and the members of the graph. Assumes nothing.
 use Prim.Native.Nat.{ℕ}
-use mathlib.Core.Option.{none}
+use mathlib.Core.Option.{Option, none, some}
 use mathlib.Core.Bool.{Bool, true, false, not, cond}
+use lib.Dec.{ltb}
 use Rattle.graph.specs.Graph.{Lots, Links}
 use Rattle.protocol.specs.Message.{Msg}
 use Rattle.protocol.specs.Rules.{SeatState, free, staying, leaving, isStaying, Entry}
@@ -9,7 +10,7 @@ use Rattle.protocol.specs.Rules.{SeatState, free, staying, leaving, isSt
 pub data Phase : Type 0 where
   open-phase clearing : Phase
 
--- the phase, and the lots by seat (document 01, "roster")
+-- what a record holds beside links and messages: the phase, and of each seat state, number and vector
 pub record Seats : Type 0 where
   pub phase : Phase
   pub state : ℕ → SeatState
@@ -30,14 +31,27 @@ isFree free = true
 isFree staying = false
 isFree leaving = false
 
+abbrev pub isSeated : SeatState → Bool
+isSeated free = false
+isSeated staying = true
+isSeated leaving = true
+
 abbrev pub isLeaving : SeatState → Bool
 isLeaving free = false
 isLeaving staying = false
 isLeaving leaving = true
 
--- the lot on seat x: seated is staying or leaving
+-- seat x is not free: nobody else can have it
+abbrev pub taken : Seats → ℕ → Bool
+taken r x = not (isFree (r .state x))
+
+-- a lot of the graph sits on seat x: it is staying or leaving
 abbrev pub seated : Seats → ℕ → Bool
-seated r x = not (isFree (r .state x))
+seated r x = isSeated (r .state x)
+
+-- no lot of the graph sits there
+abbrev pub empty : Seats → ℕ → Bool
+empty r x = not (seated r x)
 
 abbrev pub stays : Seats → ℕ → Bool
 stays r x = isStaying (r .state x)
@@ -45,17 +59,30 @@ stays r x = isStaying (r .state x)
 abbrev pub leaves : Seats → ℕ → Bool
 leaves r x = isLeaving (r .state x)
 
+-- s is above the last of N seats
+abbrev pub noSeat : (N s : ℕ) → Bool
+noSeat N s = not (ltb s N)
+
 -- the entry of seat x
 abbrev pub entry : Meaning → ℕ → Entry
 entry M x = record { state = M .seats .state x; number = M .seats .number x; vector = M .seats .vector x; link = M .link x }
+
+-- pending, if it is a message at all
+unfoldable pub isPending : (Msg → Bool) → Option Msg → Bool
+isPending p none = false
+isPending p (some m) = p m
 
 -- all lots in phase open, the staying ones in clearing
 unfoldable pub member : Seats → ℕ → Bool
 member r x = cond (isClearing (r .phase)) (stays r x) (seated r x)
 
--- the members, in one component
-abbrev pub members : Seats → Lots
-members r = record { member = member r; number = r .number; vector = r .vector; component = λ x. 0 }
+-- the component of each lot where all are in one
+abbrev pub oneComponent : ℕ → ℕ
+oneComponent x = 0
+
+-- the members, with the component of each
+abbrev pub members : (component : ℕ → ℕ) → Seats → Lots
+members c r = record { member = member r; number = r .number; vector = r .vector; component = c }
 
 -- no lots, phase open
 unfoldable pub nobody : Seats

@@ -12,7 +12,7 @@ use Rattle.graph.specs.Vector.{width}
 use Rattle.base.proofs.Tests.{T-true, not-T-false}
 use Rattle.protocol.specs.Message.{Msg}
 use Rattle.protocol.specs.Numbering.{exists, place}
-use Rattle.protocol.specs.Table.{isPending}
+use Rattle.protocol.specs.State.{isPending}
 use Rattle.record.specs.Layout.{seats, messages, pendingFrom}
 use Rattle.record.specs.Meaning.{meaning}
 use Rattle.record.proofs.Places.{place-within}

@@ -8,7 +8,7 @@ use lib.Dec.{T, ltb}
 use borrow.Author.Tests.{lt-ltb, ltb-true, not-false}
 use Rattle.base.proofs.Tests.{true-T}
 use Rattle.protocol.specs.State.{isFree, seated}
-use Rattle.protocol.specs.Table.{Row, first}
+use Rattle.protocol.specs.Refusals.{Row, first}
 use Rattle.protocol.proofs.Calls.{no-row}
 use Rattle.record.specs.Layout.{seats, levels}
 use Rattle.record.specs.Meaning.{seatsIn}

@@ -3,7 +3,7 @@ ghost use mathlib.Core.Path.{_≡_};
 ghost use mathlib.Core.List.{[], _∷_};
 ghost use Prim.Native.Nat.{_<_};
 ghost use lib.ListN.{length};
-ghost use Rattle.protocol.specs.Table.{first};
+ghost use Rattle.protocol.specs.Refusals.{first};
 ghost use Rattle.record.specs.Layout.{seats, size};
 ghost use Rattle.record.specs.Reading.{wrongSize, unsound, noSuchSeat, noSuchLevel, emptySeat};
 use record::LEVELS;

@@ -9,10 +9,11 @@ use borrow.Author.Tests.{eq-eqb}
 use Rattle.memory.specs.Bytes.{AreBytes}
 use Rattle.graph.specs.Vector.{width}
 use Rattle.protocol.specs.State.{Meaning}
-use Rattle.protocol.specs.Table.{Call, first, refusal}
+use Rattle.protocol.specs.Calls.{Call, refusal}
+use Rattle.protocol.specs.Refusals.{first}
 use Rattle.protocol.specs.Calls.{accept, unlessRefused, call}
 use Rattle.protocol.specs.Sound.{Sound}
-use Rattle.protocol.specs.Run.{InRange}
+use Rattle.protocol.specs.Calls.{InRange}
 use Rattle.protocol.proofs.KeepSound.{call-sound}
 use Rattle.record.specs.Layout.{seats, size}
 use Rattle.record.specs.Meaning.{meaning, bytesOf}

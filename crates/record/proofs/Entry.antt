@@ -18,7 +18,8 @@ use Rattle.base.proofs.Tabulate.{length-tabulate, getD-tabulate}
 use Rattle.graph.specs.Side.{Side, left, right}
 use Rattle.protocol.specs.Rules.{SeatState, free}
 use Rattle.protocol.specs.State.{Meaning}
-use Rattle.protocol.specs.Calls.{at, sameSide, applied}
+use Rattle.protocol.specs.Page.{at}
+use Rattle.protocol.specs.pages.Deliver.{sameSide, applied}
 use Rattle.protocol.proofs.Numbering.{sideNumber-lt}
 use Rattle.protocol.proofs.Calls.{at-other}
 use Rattle.record.specs.Layout.{seats, levels, entrySize, noLink, entryAt, stateAt, numberFrom, vectorAt, linkAt}

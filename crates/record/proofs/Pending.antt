@@ -7,7 +7,7 @@ use mathlib.Core.List.{List, [], _∷_, _++_}
 use Rattle.base.proofs.Cases.{and-true, and-false}
 use Rattle.base.proofs.Tests.{T-true, not-T-false}
 use Rattle.protocol.specs.Message.{Msg, sameMsg, among}
-use Rattle.protocol.specs.Calls.{isTaken, pendingAfter}
+use Rattle.protocol.specs.Page.{isTaken, pendingAfter}
 use Rattle.protocol.proofs.Message.{same-self, same-eq}
 
 same-other : (m n : Msg) → n ≢ m → sameMsg m n ≡ false

@@ -23,7 +23,8 @@ use Rattle.graph.specs.Side.{sideNumber}
 use Rattle.protocol.specs.Message.{Msg, Name, nameOf, named}
 use Rattle.protocol.specs.Numbering.{place, messageAt, somePending}
 use Rattle.protocol.specs.State.{Meaning, isFree, seated}
-use Rattle.protocol.specs.Table.{first, isPending}
+use Rattle.protocol.specs.Refusals.{first}
+use Rattle.protocol.specs.State.{isPending}
 use Rattle.protocol.specs.Sound.{messageOk}
 use Rattle.protocol.proofs.Message.{named-name}
 use Rattle.protocol.proofs.Numbering.{sideNumber-lt, messageAt-place, none-pending, pending-none}

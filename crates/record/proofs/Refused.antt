@@ -8,7 +8,7 @@ use mathlib.Core.List.{List, [], _∷_, _++_}
 use lib.Dec.{eqb}
 use lib.ListN.{length}
 use borrow.Author.Tests.{eq-eqb, ne-eqb, eqb-true, not-false}
-use Rattle.protocol.specs.Table.{Row, row, first}
+use Rattle.protocol.specs.Refusals.{Row, row, first}
 use Rattle.protocol.proofs.Calls.{no-row}
 use Rattle.record.specs.Layout.{size}
 use Rattle.record.specs.Sound.{sound}

@@ -16,7 +16,7 @@ use Rattle.graph.specs.Vector.{width}
 use Rattle.protocol.specs.Message.{Msg}
 use Rattle.protocol.specs.Numbering.{exists, place, messageAt}
 use Rattle.protocol.specs.State.{Meaning}
-use Rattle.protocol.specs.Calls.{pendingAfter}
+use Rattle.protocol.specs.Page.{pendingAfter}
 use Rattle.protocol.proofs.Numbering.{messageAt-place}
 use Rattle.record.specs.Layout.{seats, messages, pendingFrom}
 use Rattle.record.specs.inner.Sent.{sentBits}

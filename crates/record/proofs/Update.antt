@@ -16,7 +16,8 @@ use Rattle.graph.specs.Graph.{Links}
 use Rattle.protocol.specs.Message.{Msg}
 use Rattle.protocol.specs.Rules.{SeatState, Change, keep, set as put}
 use Rattle.protocol.specs.State.{Phase, Seats, Meaning}
-use Rattle.protocol.specs.Calls.{at, pendingAfter, applied}
+use Rattle.protocol.specs.Page.{at, pendingAfter}
+use Rattle.protocol.specs.pages.Deliver.{applied}
 use Rattle.protocol.proofs.Numbering.{sideNumber-lt}
 use Rattle.protocol.proofs.Calls.{at-same, at-other, applied-at, applied-frame}
 use Rattle.record.specs.Layout.{seats, levels, phaseAt, stateAt, numberFrom, vectorAt, linkAt}

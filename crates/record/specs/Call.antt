@@ -3,7 +3,8 @@
 use Prim.Native.Nat.{ℕ}
 use mathlib.Core.List.{List, _∷_}
 use Rattle.graph.specs.Vector.{width}
-use Rattle.protocol.specs.Table.{Call, first, rows}
+use Rattle.protocol.specs.Calls.{Call, rows}
+use Rattle.protocol.specs.Refusals.{first}
 use Rattle.protocol.specs.Calls.{accept, unlessRefused}
 use Rattle.record.specs.Layout.{seats}
 use Rattle.record.specs.Meaning.{meaning, bytesOf}

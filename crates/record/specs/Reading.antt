@@ -10,7 +10,8 @@ use Rattle.memory.specs.Bits.{bitSet}
 use Rattle.graph.specs.Side.{sideOfNumber}
 use Rattle.protocol.specs.Message.{Name, named}
 use Rattle.protocol.specs.State.{opened, isFree, seated}
-use Rattle.protocol.specs.Table.{Row, row, first, isPending}
+use Rattle.protocol.specs.Refusals.{Row, row, first}
+use Rattle.protocol.specs.State.{isPending}
 use Rattle.record.specs.Layout.{seats, levels, messages, pendingFrom, size}
 use Rattle.record.specs.Meaning.{seatsIn, meaning, bytesOf, phaseByte, stateByte, linkByte}
 use Rattle.record.specs.Sound.{sound}

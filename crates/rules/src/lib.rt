@@ -10,7 +10,7 @@ ghost use Rattle.graph.specs.Vector.{width, bit as bitAt};
 ghost use Rattle.protocol.specs.Message.{meet as meetOf, probe as probeOf, pull as pullOf, going as goingOf, seek as seekOf, found as foundOf, none-found};
 ghost use Rattle.protocol.specs.Rules.{toLink, setting as settingOf};
 ghost use Rattle.protocol.specs.State.{entry as entryOf};
-ghost use Rattle.protocol.specs.Calls.{rule};
+ghost use Rattle.protocol.specs.pages.Deliver.{rule};
 ghost use Rattle.record.specs.Layout.{seats, levels, size};
 ghost use Rattle.record.specs.Meaning.{meaning, linkOf};
 ghost use Rattle.graph.specs.Side.{sideOfNumber};

@@ -12,7 +12,7 @@ use Rattle.graph.specs.Side.{sideNumber}
 use Rattle.protocol.specs.Message.{Name, named}
 use Rattle.protocol.specs.Numbering.{somePending}
 use Rattle.protocol.specs.State.{Meaning, isFree, seated}
-use Rattle.protocol.specs.Table.{isPending}
+use Rattle.protocol.specs.State.{isPending}
 use Rattle.protocol.specs.Sound.{Sound}
 use Rattle.record.specs.Layout.{seats, levels}
 use Rattle.record.specs.Meaning.{bytesOf, phaseByte, linkByte}

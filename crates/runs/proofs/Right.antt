@@ -11,7 +11,8 @@ use Rattle.graph.specs.Vector.{width}
 use Rattle.graph.specs.Graph.{IsGraph}
 use Rattle.base.proofs.Tests.{not-T-false}
 use Rattle.protocol.specs.State.{open-phase, Seats, Meaning, isFree, seated, member, members}
-use Rattle.protocol.specs.Table.{Call, first}
+use Rattle.protocol.specs.Calls.{Call}
+use Rattle.protocol.specs.Refusals.{first}
 use Rattle.protocol.specs.Sound.{Sound}
 use Rattle.protocol.specs.Run as protocol
 use Rattle.protocol.specs.Run.{AllInRange, logOf, rosterOf, NothingPending}

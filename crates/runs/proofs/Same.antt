@@ -8,11 +8,12 @@ use borrow.Author.Tests.{eq-eqb}
 use Rattle.graph.specs.Vector.{width}
 use Rattle.protocol.specs.Message.{Name}
 use Rattle.protocol.specs.State.{Meaning}
-use Rattle.protocol.specs.Table.{Call, deliver}
+use Rattle.protocol.specs.Calls.{Call, deliver}
 use Rattle.protocol.specs.Calls.{call, unlessRefused}
 use Rattle.protocol.specs.Sound.{Sound}
 use Rattle.protocol.specs.Run as protocol
-use Rattle.protocol.specs.Run.{InRange, AllInRange}
+use Rattle.protocol.specs.Calls.{InRange}
+use Rattle.protocol.specs.Run.{AllInRange}
 use Rattle.protocol.proofs.KeepSound.{opened-sound, call-sound}
 use Rattle.record.specs.Layout.{seats, size}
 use Rattle.record.specs.Meaning.{meaning, bytesOf}

@@ -17,7 +17,9 @@ use Rattle.base.proofs.Tests.{not-T-false}
 use Rattle.graph.specs.Side.{sideNumber}
 use Rattle.protocol.specs.Message.{Msg, named}
 use Rattle.protocol.specs.State.{Seats, Meaning, isFree, seated, member, members}
-use Rattle.protocol.specs.Table.{Call, first, isPending}
+use Rattle.protocol.specs.Calls.{Call}
+use Rattle.protocol.specs.Refusals.{first}
+use Rattle.protocol.specs.State.{isPending}
 use Rattle.protocol.specs.Run as protocol
 use Rattle.protocol.specs.Run.{AllInRange, logOf, rosterOf, pendingOf, RefusedByTable, NothingPending}
 use Rattle.protocol.proofs.Reached.{member-seated}

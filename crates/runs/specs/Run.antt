@@ -14,9 +14,10 @@ use Rattle.graph.specs.Graph.{graph}
 use Rattle.graph.specs.Side.{sideNumber}
 use Rattle.protocol.specs.Message.{Name, named}
 use Rattle.protocol.specs.State.{Seats, isFree, seated, member, members}
-use Rattle.protocol.specs.Table.{Call, deliver, isPending}
+use Rattle.protocol.specs.Calls.{Call, deliver}
+use Rattle.protocol.specs.State.{isPending}
 use Rattle.protocol.specs.Calls.{unlessRefused}
-use Rattle.protocol.specs.Run.{Logged, Event as MeantEvent, logOf, rosterOf, pendingOf, RefusedByTable, NothingPending}
+use Rattle.protocol.specs.Run.{Logged, Past as MeantEvent, logOf, rosterOf, pendingOf, RefusedByTable, NothingPending}
 use Rattle.record.specs.Layout.{seats, levels}
 use Rattle.record.specs.Meaning.{meaning, phaseByte, stateByte, linkByte}
 use Rattle.record.specs.Reading.{openBytes, LotAnswer, readLot, readLink, readMessage, readCounts}

@@ -8,7 +8,7 @@ use lib.ListN.{length, getD}
 use borrow.Author.Tests.{eq-eqb}
 use Rattle.base.proofs.All.{all-and}
 use Rattle.protocol.specs.State.{seated}
-use Rattle.protocol.specs.Table.{first}
+use Rattle.protocol.specs.Refusals.{first}
 use Rattle.record.specs.Layout.{seats, stateAt, size}
 use Rattle.record.specs.Meaning.{seatsIn}
 use Rattle.record.specs.Sound.{sound, messagesFit, phaseFits, statesFit, asOpened, unusedFit, numbersDiffer, linksFit}

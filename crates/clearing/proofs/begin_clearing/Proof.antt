@@ -6,7 +6,7 @@ use lib.ListN.{set}
 use borrow.Author.Needs.{needs}
 use Rattle.graph.specs.Vector.{width}
 use Rattle.protocol.specs.State.{clearing}
-use Rattle.protocol.specs.Calls.{farewells}
+use Rattle.protocol.specs.pages.Turn.{farewells}
 use Rattle.record.specs.Layout.{seats, phaseAt}
 use Rattle.record.proofs.Update.{bytes-withPhase}
 use Rattle.clearing.specs.inner.Steps.{saying}

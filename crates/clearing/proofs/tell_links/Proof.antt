@@ -5,7 +5,7 @@ use native.Mathlib.Omega.{arith}
 use lib.ListN.{length}
 use borrow.Author.Needs.{needs}
 use Rattle.graph.specs.Side.{left}
-use Rattle.protocol.specs.Calls.{each, farewell}
+use Rattle.protocol.specs.pages.Turn.{each, farewell}
 use Rattle.record.specs.Layout.{levels}
 use Rattle.record.specs.Meaning.{bytesOf}
 use Rattle.clearing.specs.inner.Steps.{Step, same, saying, levelFarewells}

@@ -3,7 +3,7 @@ use mathlib.Core.Path.{sym, _∙_}
 use native.Mathlib.Omega.{arith}
 use borrow.Author.Needs.{needs}
 use borrow.Author.Tests.{not-true}
-use Rattle.protocol.specs.Table.{turn}
+use Rattle.protocol.specs.Calls.{turn}
 use Rattle.record.proofs.Refused.{record-passed, wrong-size}
 use Rattle.record.proofs.Reading.{quiet-fit}
 use Rattle.record.proofs.Accepted.{refused-early}

@@ -10,7 +10,8 @@ use Rattle.graph.specs.Graph.{Links}
 use Rattle.graph.specs.Side.{sideNumber}
 use Rattle.protocol.specs.Message.{Msg}
 use Rattle.protocol.specs.State.{Phase, open-phase, clearing, Meaning, leaves}
-use Rattle.protocol.specs.Calls.{freed, each, farewell, farewells, pendingAfter, turnLinks}
+use Rattle.protocol.specs.pages.Turn.{each, farewell, farewells, turnLinks}
+use Rattle.protocol.specs.Page.{pendingAfter}
 use Rattle.graph.specs.Vector.{width}
 use Rattle.record.specs.Layout.{seats, levels}
 use Rattle.record.specs.Meaning.{seatsIn, bytesOf}

@@ -1,7 +1,7 @@
 -- `joining::join` meets its contract. Assumes nothing.
 use mathlib.Core.Path.{sym, _∙_}
 use borrow.Author.Needs.{needs}
-use Rattle.protocol.specs.Table.{join}
+use Rattle.protocol.specs.Calls.{join}
 use Rattle.record.proofs.Accepted.{reply-refused, reply-done}
 use Rattle.joining.proofs.join.Statement.{statement}
 use Rattle.joining.proofs.join.Tie as tie

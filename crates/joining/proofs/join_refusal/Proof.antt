@@ -1,6 +1,6 @@
 -- `joining::join_refusal` meets its contract: the record's rows, then the table's. Assumes nothing.
 use borrow.Author.Needs.{needs}
-use Rattle.protocol.specs.Table.{join}
+use Rattle.protocol.specs.Calls.{join}
 use Rattle.record.proofs.Refused.{record-passed}
 use Rattle.record.proofs.Accepted.{refused-early, refused-late}
 use Rattle.joining.proofs.join_refusal.Statement.{statement}

@@ -4,7 +4,7 @@ use mathlib.Core.Bool.{Bool, true, false, _||_}
 use lib.Dec.{ltb}
 use borrow.Author.Needs.{needs}
 use borrow.Author.Tests.{ltb-true, not-false}
-use Rattle.protocol.specs.Table.{rows, refusal}
+use Rattle.protocol.specs.Calls.{rows, refusal}
 use Rattle.record.specs.Meaning.{meaning}
 use Rattle.record.specs.Layout.{seats}
 use Rattle.joining.proofs.Rows.{row-here, row-next, row-end}

@@ -2,7 +2,7 @@
 use mathlib.Core.Path.{sym, _∙_}
 use native.Mathlib.Omega.{arith}
 use borrow.Author.Needs.{needs}
-use Rattle.protocol.specs.Table.{leave}
+use Rattle.protocol.specs.Calls.{leave}
 use Rattle.record.proofs.Accepted.{Accepted, accepted, reply-refused, reply-done}
 use Rattle.joining.proofs.After.{leave-seat, leave-bytes}
 use Rattle.joining.proofs.leave.Statement.{statement}

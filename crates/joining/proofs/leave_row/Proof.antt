@@ -4,7 +4,7 @@ use mathlib.Core.Bool.{not}
 use borrow.Author.Needs.{needs}
 use borrow.Author.Tests.{lt-ltb, le-ltb}
 use Rattle.base.proofs.Cases.{not-not}
-use Rattle.protocol.specs.Table.{rows, refusal}
+use Rattle.protocol.specs.Calls.{rows, refusal}
 use Rattle.record.specs.Meaning.{meaning}
 use Rattle.joining.proofs.Rows.{row-here, row-next, row-end}
 use Rattle.joining.proofs.leave_row.Statement.{statement}

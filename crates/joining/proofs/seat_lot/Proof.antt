@@ -2,7 +2,7 @@
 use mathlib.Core.Path.{sym, _∙_}
 use native.Mathlib.Omega.{arith}
 use borrow.Author.Needs.{needs}
-use Rattle.protocol.specs.Table.{join}
+use Rattle.protocol.specs.Calls.{join}
 use Rattle.record.proofs.Accepted.{Accepted, accepted}
 use Rattle.joining.proofs.After.{join-seat, join-alone, join-contact}
 use Rattle.joining.proofs.seat_lot.Statement.{statement}

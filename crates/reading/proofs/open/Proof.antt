@@ -2,7 +2,7 @@
 use mathlib.Core.Path.{_≡_, ap, _∙_}
 use lib.ListN.{length}
 use borrow.Author.Tests.{eq-eqb, ne-eqb}
-use Rattle.protocol.specs.Table.{first}
+use Rattle.protocol.specs.Refusals.{first}
 use Rattle.record.specs.Answer.{reply, answerOf}
 use Rattle.record.specs.declared.Answer.the-variants.{Done}
 use Rattle.record.specs.Layout.{size}

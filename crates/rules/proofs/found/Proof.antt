@@ -1,7 +1,7 @@
 -- `rules::found` meets its contract. Assumes nothing.
 use borrow.Author.Needs.{needs}
 use Rattle.protocol.specs.Rules.{effect}
-use Rattle.protocol.specs.Calls.{rule}
+use Rattle.protocol.specs.pages.Deliver.{rule}
 use Rattle.record.specs.inner.Sent.{sentBits}
 use Rattle.rules.specs.inner.Done.{changed, done}
 use Rattle.rules.proofs.found.Statement.{statement}

@@ -2,7 +2,7 @@
 use borrow.Author.Tests.{eq-eqb, ne-eqb}
 use borrow.Author.Needs.{needs}
 use Rattle.protocol.specs.Rules.{effect, meeting}
-use Rattle.protocol.specs.Calls.{rule}
+use Rattle.protocol.specs.pages.Deliver.{rule}
 use Rattle.record.specs.inner.Sent.{sentBits}
 use Rattle.rules.specs.inner.Done.{changed, done}
 use Rattle.record.proofs.Links.{linkOf-some, linkOf-none}

@@ -3,7 +3,7 @@ use native.Mathlib.Numerals.{add-one}
 use borrow.Author.Tests.{lt-ltb, le-ltb}
 use borrow.Author.Needs.{needs}
 use Rattle.protocol.specs.Rules.{effect, probing}
-use Rattle.protocol.specs.Calls.{rule}
+use Rattle.protocol.specs.pages.Deliver.{rule}
 use Rattle.record.specs.inner.Sent.{sentBits}
 use Rattle.rules.specs.inner.Done.{changed, done}
 use Rattle.record.proofs.Links.{side-opp}

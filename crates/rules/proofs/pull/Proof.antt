@@ -2,7 +2,7 @@
 use borrow.Author.Tests.{eq-eqb, ne-eqb}
 use borrow.Author.Needs.{needs}
 use Rattle.protocol.specs.Rules.{effect, pulling}
-use Rattle.protocol.specs.Calls.{rule}
+use Rattle.protocol.specs.pages.Deliver.{rule}
 use Rattle.record.proofs.Form.{meaning-vector}
 use Rattle.record.specs.inner.Sent.{sentBits}
 use Rattle.rules.specs.inner.Done.{changed, done}

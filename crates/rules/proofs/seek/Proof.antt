@@ -1,7 +1,7 @@
 -- `rules::seek` meets its contract. Assumes nothing.
 use borrow.Author.Needs.{needs}
 use Rattle.protocol.specs.Rules.{effect, seeking, passing}
-use Rattle.protocol.specs.Calls.{rule}
+use Rattle.protocol.specs.pages.Deliver.{rule}
 use Rattle.record.specs.inner.Sent.{sentBits}
 use Rattle.rules.specs.inner.Done.{changed, done}
 use Rattle.record.proofs.Links.{linkOf-some, linkOf-none}

@@ -8,7 +8,7 @@ use Rattle.graph.specs.Vector.{width}
 use Rattle.protocol.specs.Message.{Msg, nameOf}
 use Rattle.protocol.specs.Rules.{Change, keep, Effect}
 use Rattle.protocol.specs.Rules.{set as setLink}
-use Rattle.protocol.specs.Calls.{rule}
+use Rattle.protocol.specs.pages.Deliver.{rule}
 use Rattle.record.specs.Layout.{linkAt}
 use Rattle.record.specs.Meaning.{meaning, linkByte}
 use Rattle.record.specs.inner.Sent.{sentBits}

@@ -3,7 +3,7 @@ use mathlib.Core.Path.{refl}
 use borrow.Author.Needs.{needs}
 use borrow.Author.Tests.{ne-eqb}
 use Rattle.base.proofs.Tests.{true-false}
-use Rattle.protocol.specs.Table.{first}
+use Rattle.protocol.specs.Refusals.{first}
 use Rattle.record.specs.Reading.{recordRefusal}
 use Rattle.soundness.proofs.record_refusal.Statement.{statement}
 use Rattle.soundness.proofs.record_refusal.Tie as tie

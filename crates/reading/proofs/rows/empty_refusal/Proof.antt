@@ -3,7 +3,7 @@ use borrow.Author.Needs.{needs}
 use borrow.Author.Tests.{not-true, not-false}
 use mathlib.Core.Path.{sym, _∙_}
 use Rattle.protocol.specs.State.{isFree}
-use Rattle.protocol.specs.Table.{first}
+use Rattle.protocol.specs.Refusals.{first}
 use Rattle.record.specs.Meaning.{seatsIn}
 use Rattle.reading.proofs.rows.empty_refusal.Statement.{statement}
 use Rattle.reading.proofs.rows.empty_refusal.Tie as tie

@@ -1,6 +1,6 @@
 -- `reading::rows::level_refusal` meets its contract. Assumes nothing.
 use borrow.Author.Tests.{lt-ltb, le-ltb}
-use Rattle.protocol.specs.Table.{first}
+use Rattle.protocol.specs.Refusals.{first}
 use Rattle.record.specs.Layout.{levels}
 use Rattle.reading.proofs.rows.level_refusal.Statement.{statement}
 use Rattle.reading.proofs.rows.level_refusal.Tie as tie

@@ -3,7 +3,7 @@ use borrow.Author.Needs.{needs}
 use borrow.Author.Tests.{lt-ltb, le-ltb}
 use mathlib.Core.Path.{_≡_}
 use mathlib.Core.List.{[], _∷_}
-use Rattle.protocol.specs.Table.{first}
+use Rattle.protocol.specs.Refusals.{first}
 use Rattle.record.specs.Layout.{seats}
 use Rattle.record.specs.Reading.{recordRefusal, wrongSize, unsound, noSuchSeat}
 use Rattle.record.proofs.Refused.{first-stops, record-passed, record-goes}

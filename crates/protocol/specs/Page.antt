@@ -1,0 +1,34 @@
+-- What a call's page says (document 01, "Calls" and "Refused calls"): the rows of the table that it meets, what it makes of the seats and of
+-- the links, what it sends and takes, and that its arguments fit their types. Assumes nothing.
+use Prim.Native.Nat.{ℕ}
+use mathlib.Core.Option.{Option, none, some}
+use mathlib.Core.Bool.{Bool, false, not, cond, _&&_, _||_}
+use mathlib.Core.List.{List}
+use lib.Dec.{eqb}
+use Rattle.graph.specs.Graph.{Links}
+use Rattle.protocol.specs.Message.{Msg, sameMsg, among}
+use Rattle.protocol.specs.State.{Seats, Meaning}
+use Rattle.protocol.specs.Refusals.{Row}
+
+pub record Page : Type 1 where
+  -- the rows, from the seats and the pending messages before the call
+  pub rows : Seats → (Msg → Bool) → List Row
+  -- if it is accepted: the seats after it, the links after it, the messages that it sends and the one that it takes away
+  pub seats : Seats → Seats
+  pub links : Meaning → Links
+  pub sends : Meaning → List Msg
+  pub takes : Option Msg
+  -- its arguments fit their types
+  pub fits : Type 0
+
+-- f with the value a at s
+unfoldable pub at : {A : Type 0} → ℕ → A → (ℕ → A) → ℕ → A
+at s a f x = cond (eqb x s) a (f x)
+
+unfoldable pub isTaken : Option Msg → Msg → Bool
+isTaken none m = false
+isTaken (some n) m = sameMsg n m
+
+-- the pending set after one message is taken away and others are sent: one sent twice is there once
+unfoldable pub pendingAfter : List Msg → Option Msg → (Msg → Bool) → Msg → Bool
+pendingAfter sent taken p m = among sent m || (p m && not (isTaken taken m))

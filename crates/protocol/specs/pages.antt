@@ -1,0 +1,5 @@
+-- A page for each call that changes the record.
+pub mod Join
+pub mod Leave
+pub mod Deliver
+pub mod Turn
