@@ -3,7 +3,7 @@
 ghost use mathlib.Core.Path.{_≡_};
 ghost use Rattle.protocol.specs.Message.{name};
 ghost use Rattle.record.specs.Answer.{reply, answerOf};
-ghost use Rattle.record.specs.Reading.{lotRefusal, linkRefusal, openRefusal, openBytes, readLot, readLink, readMessage, readCounts};
+ghost use Rattle.record.specs.Reading.{lotRefusal, seatedRefusal, linkRefusal, openRefusal, openBytes, readLot, readLink, readMessage, readCounts};
 ghost use Rattle.reading.specs.Answer.{lotAnswered, linkAnswered, messageAnswered, countsAnswered};
 
 mod counts;
@@ -20,6 +20,7 @@ use record::PENDING;
 use record::SIZE;
 use record::refusals::WRONG_SIZE;
 use rows::empty_refusal;
+use rows::free_refusal;
 use rows::level_refusal;
 use rows::seat_refusal;
 use soundness::record_refusal;
@@ -52,6 +53,17 @@ pub enum CountsRead {
 // The lot on a seat of a lent record: 1, 2, 3, 8, or 0.
 pub fn lot_refusal(rec: &[u8], seat: u8) -> u8
     ensures { λ r. ⌜ r ≡ lotRefusal (now (rec .entry)) seat ⌝ }
+{
+    let n = seat_refusal(rec, seat);
+    if n != 0 {
+        return n;
+    }
+    free_refusal(rec, seat as usize)
+}
+
+// A seated lot on a seat of a lent record: 1, 2, 3, 8, or 0.
+pub fn seated_refusal(rec: &[u8], seat: u8) -> u8
+    ensures { λ r. ⌜ r ≡ seatedRefusal (now (rec .entry)) seat ⌝ }
 {
     let n = seat_refusal(rec, seat);
     if n != 0 {

@@ -5,10 +5,11 @@ ghost use Prim.Native.Nat.{_<_};
 ghost use lib.ListN.{length};
 ghost use Rattle.protocol.specs.Refusals.{first};
 ghost use Rattle.record.specs.Layout.{seats, size};
-ghost use Rattle.record.specs.Reading.{wrongSize, unsound, noSuchSeat, noSuchLevel, emptySeat};
+ghost use Rattle.record.specs.Reading.{sizeRow, soundRow, seatRow, levelRow, emptyRow, freeRow};
 use record::LEVELS;
 use record::SEATS;
 use record::lots::is_seated;
+use record::lots::is_taken;
 use record::refusals::EMPTY_SEAT;
 use record::refusals::NO_SUCH_LEVEL;
 use record::refusals::NO_SUCH_SEAT;
@@ -19,7 +20,7 @@ const SIDES: usize = 2;
 
 // 1 wrong size, 2 unsound, 3 no such seat.
 pub fn seat_refusal(rec: &[u8], seat: u8) -> u8
-    ensures { λ r. ⌜ r ≡ first (wrongSize (now (rec .entry)) ∷ unsound (now (rec .entry)) ∷ noSuchSeat seat ∷ []) ⌝ }
+    ensures { λ r. ⌜ r ≡ first (sizeRow (now (rec .entry)) ∷ soundRow (now (rec .entry)) ∷ seatRow seat ∷ []) ⌝ }
 {
     let n = record_refusal(rec);
     if n != 0 {
@@ -33,7 +34,7 @@ pub fn seat_refusal(rec: &[u8], seat: u8) -> u8
 
 // 12 no such level or side.
 pub fn level_refusal(level: usize, side: usize) -> u8
-    ensures { λ r. ⌜ r ≡ first (noSuchLevel level side ∷ []) ⌝ }
+    ensures { λ r. ⌜ r ≡ first (levelRow level side ∷ []) ⌝ }
 {
     if level >= LEVELS {
         return NO_SUCH_LEVEL;
@@ -44,12 +45,23 @@ pub fn level_refusal(level: usize, side: usize) -> u8
     0
 }
 
-// 8 empty seat.
+// 8 empty seat: no lot sits there.
 pub fn empty_refusal(rec: &[u8], s: usize) -> u8
     requires { ⌜ (length (now rec) ≡ size) × (s < seats) ⌝ }
-    ensures { λ r. ⌜ r ≡ first (emptySeat (now (rec .entry)) s ∷ []) ⌝ }
+    ensures { λ r. ⌜ r ≡ first (emptyRow (now (rec .entry)) s ∷ []) ⌝ }
 {
     if is_seated(rec, s) {
+        return 0;
+    }
+    EMPTY_SEAT
+}
+
+// 8 empty seat, of reading a lot: the seat is free.
+pub fn free_refusal(rec: &[u8], s: usize) -> u8
+    requires { ⌜ (length (now rec) ≡ size) × (s < seats) ⌝ }
+    ensures { λ r. ⌜ r ≡ first (freeRow (now (rec .entry)) s ∷ []) ⌝ }
+{
+    if is_taken(rec, s) {
         return 0;
     }
     EMPTY_SEAT

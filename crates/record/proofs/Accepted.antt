@@ -7,14 +7,14 @@ use mathlib.Core.List.{List}
 use Rattle.memory.specs.Bytes.{AreBytes}
 use Rattle.graph.specs.Vector.{width}
 use Rattle.protocol.specs.Sound.{Sound}
-use Rattle.protocol.specs.Calls.{Call, refusal}
+use Rattle.protocol.specs.Calls.{Call, join, leave, deliver, turn, rows, refusal}
 use Rattle.protocol.specs.Calls.{accept, unlessRefused}
 use Rattle.record.specs.Layout.{seats}
 use Rattle.record.specs.Meaning.{meaning, bytesOf}
 use Rattle.record.specs.Reading.{recordRefusal}
 use Rattle.record.proofs.Form.{Form}
 use Rattle.record.proofs.Sound.{sound-is}
-use Rattle.record.proofs.Refused.{rows-passed, record-passed, record-stops, record-goes}
+use Rattle.record.proofs.Refused.{Later, rows-passed, record-passed, record-stops, record-goes}
 use Rattle.record.specs.Call.{callRefusal, called}
 use Rattle.record.specs.Answer.{reply, answerOf, replyOf}
 use Rattle.record.specs.declared.Answer.{Answer}
@@ -27,6 +27,14 @@ pub record Accepted (l : List ℕ) (c : Call) : Type 0 where
   pub row : refusal seats width (meaning l .seats) (meaning l .pending) c ≡ 0
 
 module _ (l : List ℕ) where
+  -- no call meets 1 or 2 by its own rows
+  pub call-later : (c : Call) → Later (rows seats width (meaning l .seats) (meaning l .pending) c)
+  unfolding rows
+  call-later (join s n v c) = (refl, refl)
+  call-later (leave s) = (refl, refl)
+  call-later (deliver n) = (refl, refl)
+  call-later turn = (refl, refl)
+
   -- the record is refused
   pub refused-early : (c : Call) {n : ℕ} → n ≡ recordRefusal l → n ≢ 0 → n ≡ callRefusal l c
   unfolding callRefusal
@@ -36,12 +44,12 @@ module _ (l : List ℕ) where
   pub refused-late : (c : Call) {m n : ℕ} → n ≡ recordRefusal l → n ≡ 0 → m ≡ refusal seats width (meaning l .seats) (meaning l .pending) c
       → m ≡ callRefusal l c
   unfolding callRefusal refusal
-  refused-late c e z h = h ∙ sym (record-goes l _ (record-passed l e z))
+  refused-late c e z h = h ∙ sym (record-goes l _ (call-later c) (record-passed l e z))
 
   pub accepted : (c : Call) → AreBytes l → callRefusal l c ≡ 0 → Accepted l c
   unfolding callRefusal refusal
   accepted c b e =
-      let (p, r) = rows-passed l _ e in
+      let (p, r) = rows-passed l _ (call-later c) e in
       let (h, k) = sound-is l (p .sized) b .0 (p .fine) in
       record { form = h; fine = k; row = r }
 

@@ -5,13 +5,11 @@ use mathlib.Core.Path.{_≡_, refl, sym, ap, _∙_}
 use mathlib.Core.Bool.{true}
 use mathlib.Core.List.{List}
 use lib.ListN.{length}
-use borrow.Author.Tests.{eq-eqb}
 use Rattle.memory.specs.Bytes.{AreBytes}
 use Rattle.graph.specs.Vector.{width}
 use Rattle.protocol.specs.State.{Meaning}
 use Rattle.protocol.specs.Calls.{Call, refusal}
-use Rattle.protocol.specs.Refusals.{first}
-use Rattle.protocol.specs.Calls.{accept, unlessRefused, call}
+use Rattle.protocol.specs.Calls.{Outcome, rows, accept, unlessRefused, call}
 use Rattle.protocol.specs.Sound.{Sound}
 use Rattle.protocol.specs.Calls.{InRange}
 use Rattle.protocol.proofs.KeepSound.{call-sound}
@@ -19,15 +17,17 @@ use Rattle.record.specs.Layout.{seats, size}
 use Rattle.record.specs.Meaning.{meaning, bytesOf}
 use Rattle.record.specs.Sound.{sound}
 use Rattle.record.proofs.Places.{length-bytesOf}
+use Rattle.record.proofs.Refused.{record-goes}
+use Rattle.record.proofs.Accepted.{call-later}
 use Rattle.record.proofs.Round.{bytes-meaning, meaning-bytes}
 use Rattle.record.proofs.Sound.{sound-is, bytes-sound}
-use Rattle.record.specs.Call.{Called, callRefusal, called}
+use Rattle.record.specs.Call.{callRefusal, called}
 
 -- 1 and 2 do not apply to a record of the right size that is sound
 pub record-accepted : (l : List ℕ) → length l ≡ size → sound l ≡ true → (c : Call)
     → callRefusal l c ≡ refusal seats width (meaning l .seats) (meaning l .pending) c
-unfolding callRefusal first refusal
-record-accepted l e s c = rw (eq-eqb (length l) size e, s)
+unfolding callRefusal refusal
+record-accepted l e s c = record-goes l _ (call-later l c) (record { sized = e; fine = s })
 
 bytes-unless : (n : ℕ) (M M' : Meaning) → unlessRefused n (bytesOf M) (bytesOf M') ≡ bytesOf (unlessRefused n M M')
 unfolding unlessRefused
@@ -40,19 +40,19 @@ call-refusal M s c =
     ∙ ap (λ (X : Meaning). refusal seats width (X .seats) (X .pending) c) (meaning-bytes s)
 
 pub call-bytes : (M : Meaning) → Sound seats width M → (c : Call)
-    → called (bytesOf M) c ≡ record { refused = call seats width M c .refused; bytes = bytesOf (call seats width M c .meaning) }
+    → called (bytesOf M) c ≡ record { refused = call seats width M c .refused; after = bytesOf (call seats width M c .after) }
 unfolding called call
 call-bytes M s c =
     ap (λ (X : Meaning). record {
       refused = callRefusal (bytesOf M) c;
-      bytes = unlessRefused (callRefusal (bytesOf M) c) (bytesOf M) (bytesOf (accept seats width X c));
+      after = unlessRefused (callRefusal (bytesOf M) c) (bytesOf M) (bytesOf (accept seats width X c));
     }) (meaning-bytes s)
-    ∙ ap (λ (n : ℕ). record { refused = n; bytes = unlessRefused n (bytesOf M) (bytesOf (accept seats width M c)) }) (call-refusal M s c)
-    ∙ ap (λ (l : List ℕ). record { refused = refusal seats width (M .seats) (M .pending) c; bytes = l })
+    ∙ ap (λ (n : ℕ). record { refused = n; after = unlessRefused n (bytesOf M) (bytesOf (accept seats width M c)) }) (call-refusal M s c)
+    ∙ ap (λ (l : List ℕ). record { refused = refusal seats width (M .seats) (M .pending) c; after = l })
     (bytes-unless (refusal seats width (M .seats) (M .pending) c) M (accept seats width M c))
 
 -- refused: every byte as before
-pub refused-same : (l : List ℕ) (c : Call) (n : ℕ) → called l c .refused ≡ suc n → called l c .bytes ≡ l
+pub refused-same : (l : List ℕ) (c : Call) (n : ℕ) → called l c .refused ≡ suc n → called l c .after ≡ l
 unfolding called unlessRefused
 refused-same l c n e = rw e
 
@@ -65,13 +65,13 @@ module _ (l : List ℕ) (z : length l ≡ size) (b : AreBytes l) (s : sound l �
   same = ap called (sym (bytes-meaning (sound-is l z b .0 s .0)))
 
   pub sound-refusal : (c : Call) → called l c .refused ≡ call seats width (meaning l) c .refused
-  sound-refusal c = ap (λ (f : Call → Called). f c .refused) same ∙ ap (λ (o : Called). o .refused) (call-bytes (meaning l) fine c)
+  sound-refusal c = ap (λ (f : Call → Outcome (List ℕ)). f c .refused) same ∙ ap (λ (o : Outcome (List ℕ)). o .refused) (call-bytes (meaning l) fine c)
 
-  after : (c : Call) → called l c .bytes ≡ bytesOf (call seats width (meaning l) c .meaning)
-  after c = ap (λ (f : Call → Called). f c .bytes) same ∙ ap (λ (o : Called). o .bytes) (call-bytes (meaning l) fine c)
+  after : (c : Call) → called l c .after ≡ bytesOf (call seats width (meaning l) c .after)
+  after c = ap (λ (f : Call → Outcome (List ℕ)). f c .after) same ∙ ap (λ (o : Outcome (List ℕ)). o .after) (call-bytes (meaning l) fine c)
 
-  pub sound-meaning : (c : Call) → InRange seats width c → meaning (called l c .bytes) ≡ call seats width (meaning l) c .meaning
+  pub sound-meaning : (c : Call) → InRange seats width c → meaning (called l c .after) ≡ call seats width (meaning l) c .after
   sound-meaning c r = ap meaning (after c) ∙ meaning-bytes (call-sound seats width (meaning l) fine c r)
 
-  pub sound-kept : (c : Call) → InRange seats width c → sound (called l c .bytes) ≡ true
+  pub sound-kept : (c : Call) → InRange seats width c → sound (called l c .after) ≡ true
   sound-kept c r = ap sound (after c) ∙ bytes-sound (call-sound seats width (meaning l) fine c r)

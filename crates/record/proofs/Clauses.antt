@@ -14,7 +14,7 @@ use Rattle.graph.specs.Side.{Side, left, right}
 use Rattle.graph.specs.Vector.{width}
 use Rattle.base.proofs.Tests.{T-true, true-T, true-false}
 use Rattle.protocol.specs.Numbering.{messageAt}
-use Rattle.protocol.specs.State.{isFree, seated}
+use Rattle.protocol.specs.State.{isFree, taken}
 use Rattle.protocol.specs.Sound.{linkOk, messageOk}
 use Rattle.record.specs.Layout.{seats, levels, noLink, messages, phaseAt, stateAt, linkAt, pendingFrom}
 use Rattle.record.specs.Meaning.{seatsIn}
@@ -65,7 +65,7 @@ pub record Fits (l : List ℕ) : Type 0 where
   pub phase : getD l phaseAt 0 < 2
   pub states : (s : ℕ) → s < seats → getD l (stateAt s) 0 < 3
   pub unused : (s : ℕ) → s < seats → T (isFree (seatsIn l .state s)) → AsOpened l s
-  pub differ : (x y : ℕ) → x < seats → y < x → T (seated (seatsIn l) x) → T (seated (seatsIn l) y)
+  pub differ : (x y : ℕ) → x < seats → y < x → T (taken (seatsIn l) x) → T (taken (seatsIn l) y)
       → seatsIn l .number x ≡ seatsIn l .number y → ⊥
   pub links : (x k : ℕ) (d : Side) → x < seats → k < levels → LinkFits l x k d
   pub messages : (i : ℕ) → i < messages → T (bitSet l pendingFrom i) → T (messageOk width (seatsIn l) (messageAt seats width i))
@@ -110,18 +110,18 @@ module _ (l : List ℕ) where
   pub unusedFit-is : (unusedFit l ≡ true) ↔ ((s : ℕ) → s < seats → T (isFree (seatsIn l .state s)) → AsOpened l s)
   unfolding unusedFit
   unusedFit-is = (
-    λ e s h t. asOpened-is s .0 (or-else (seated (seatsIn l) s) _ (all-at seats s _ e h) (true-not (isFree (seatsIn l .state s)) t)),
-    λ f. all-from seats _ (λ s h. either (seated (seatsIn l) s) _ (λ e. asOpened-is s .1 (f s h (not-true-T (isFree (seatsIn l .state s)) e)))),
+    λ e s h t. asOpened-is s .0 (or-else (taken (seatsIn l) s) _ (all-at seats s _ e h) (true-not (isFree (seatsIn l .state s)) t)),
+    λ f. all-from seats _ (λ s h. either (taken (seatsIn l) s) _ (λ e. asOpened-is s .1 (f s h (not-true-T (isFree (seatsIn l .state s)) e)))),
   )
 
   abbrev sameNumber : (x y : ℕ) → Bool
-  sameNumber x y = seated (seatsIn l) x && (seated (seatsIn l) y && eqb (seatsIn l .number x) (seatsIn l .number y))
+  sameNumber x y = taken (seatsIn l) x && (taken (seatsIn l) y && eqb (seatsIn l .number x) (seatsIn l .number y))
 
   sameNumber-is : (x y : ℕ)
-      → (sameNumber x y ≡ true) ↔ (T (seated (seatsIn l) x) × T (seated (seatsIn l) y) × (seatsIn l .number x ≡ seatsIn l .number y))
-  sameNumber-is x y = two-and (seated (seatsIn l) x) (seated (seatsIn l) y) (seatsIn l .number x) (seatsIn l .number y)
+      → (sameNumber x y ≡ true) ↔ (T (taken (seatsIn l) x) × T (taken (seatsIn l) y) × (seatsIn l .number x ≡ seatsIn l .number y))
+  sameNumber-is x y = two-and (taken (seatsIn l) x) (taken (seatsIn l) y) (seatsIn l .number x) (seatsIn l .number y)
 
-  pub numbersDiffer-is : (numbersDiffer l ≡ true) ↔ ((x y : ℕ) → x < seats → y < x → T (seated (seatsIn l) x) → T (seated (seatsIn l) y)
+  pub numbersDiffer-is : (numbersDiffer l ≡ true) ↔ ((x y : ℕ) → x < seats → y < x → T (taken (seatsIn l) x) → T (taken (seatsIn l) y)
       → seatsIn l .number x ≡ seatsIn l .number y → ⊥)
   unfolding numbersDiffer
   numbersDiffer-is = (

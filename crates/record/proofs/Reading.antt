@@ -1,7 +1,7 @@
 -- What the readings of sound bytes give, in terms of their meaning: refusals 1 and 2 do not apply, a lot, a link, a message and the
 -- counts; and nothing is pending exactly if the pending count is 0. Assumes nothing.
 use Prim.Native.Nat.{ℕ, _<_}
-use mathlib.Core.Path.{_≡_, sym, ap, _∙_}
+use mathlib.Core.Path.{_≡_, refl, sym, ap, _∙_}
 use mathlib.Core.Logic.{_↔_}
 use mathlib.Core.Bool.{true, false, not, _||_}
 use mathlib.Core.List.{List, [], _∷_}
@@ -22,17 +22,18 @@ use Rattle.base.proofs.Tests.{T-true}
 use Rattle.graph.specs.Side.{sideNumber}
 use Rattle.protocol.specs.Message.{Msg, Name, nameOf, named}
 use Rattle.protocol.specs.Numbering.{place, messageAt, somePending}
-use Rattle.protocol.specs.State.{Meaning, isFree, seated}
+use Rattle.protocol.specs.State.{Meaning, isFree, taken, seated}
 use Rattle.protocol.specs.Refusals.{first}
 use Rattle.protocol.specs.State.{isPending}
 use Rattle.protocol.specs.Sound.{messageOk}
 use Rattle.protocol.proofs.Message.{named-name}
 use Rattle.protocol.proofs.Numbering.{sideNumber-lt, messageAt-place, none-pending, pending-none}
+use Rattle.protocol.proofs.SoundFacts.{seated-taken}
 use Rattle.record.specs.Layout.{seats, levels, messages, pendingFrom, pendingSize, size}
 use Rattle.record.specs.Meaning.{meaning, seatsIn, phaseByte, stateByte, linkByte}
 use Rattle.record.specs.Sound.{messagesFit, sound}
-use Rattle.record.specs.Reading.{noSuchSeat, emptySeat, noSuchLevel}
-use Rattle.record.specs.Reading.{lotRefusal, linkRefusal, recordRefusal, readLot, readLink, readMessage, readCounts}
+use Rattle.record.specs.Reading.{seatRow, emptyRow, freeRow, levelRow}
+use Rattle.record.specs.Reading.{lotRefusal, seatedRefusal, linkRefusal, recordRefusal, readLot, readLink, readMessage, readCounts}
 use Rattle.record.proofs.Places.{place-within, exists-at, side-sideNumber}
 use Rattle.record.proofs.Form.{meaning-pending, meaning-bit}
 use Rattle.record.proofs.Refused.{Passed, record-goes}
@@ -93,25 +94,37 @@ module _ (l : List ℕ) (e : length l ≡ size) (s : sound l ≡ true) where
   -- refusals 1 and 2 do not apply
   pub record-accepted : recordRefusal l ≡ 0
   unfolding recordRefusal first
-  record-accepted = record-goes l [] passed
+  record-accepted = record-goes l [] (refl, refl) passed
 
-  pub lotRefusal-is : (x : ℕ) → lotRefusal l x ≡ first (noSuchSeat x ∷ emptySeat l x ∷ [])
+  pub lotRefusal-is : (x : ℕ) → lotRefusal l x ≡ first (seatRow x ∷ freeRow l x ∷ [])
   unfolding lotRefusal
-  lotRefusal-is x = record-goes l (noSuchSeat x ∷ emptySeat l x ∷ []) passed
+  lotRefusal-is x = record-goes l (seatRow x ∷ freeRow l x ∷ []) (refl, refl) passed
 
-  pub linkRefusal-is : (x k d : ℕ) → linkRefusal l x k d ≡ first (noSuchSeat x ∷ noSuchLevel k d ∷ emptySeat l x ∷ [])
+  pub seatedRefusal-is : (x : ℕ) → seatedRefusal l x ≡ first (seatRow x ∷ emptyRow l x ∷ [])
+  unfolding seatedRefusal
+  seatedRefusal-is x = record-goes l (seatRow x ∷ emptyRow l x ∷ []) (refl, refl) passed
+
+  pub linkRefusal-is : (x k d : ℕ) → linkRefusal l x k d ≡ first (seatRow x ∷ levelRow k d ∷ emptyRow l x ∷ [])
   unfolding linkRefusal
-  linkRefusal-is x k d = record-goes l (noSuchSeat x ∷ noSuchLevel k d ∷ emptySeat l x ∷ []) passed
+  linkRefusal-is x k d = record-goes l (seatRow x ∷ levelRow k d ∷ emptyRow l x ∷ []) (refl, refl) passed
 
   -- a seated lot
   module _ (x : ℕ) (h : x < seats) (t : T (seated (meaning l .seats) x)) where
-    taken : isFree (seatsIn l .state x) ≡ false
+    here : seated (seatsIn l) x ≡ true
     unfolding meaning
-    taken = not-true (isFree (seatsIn l .state x)) (T-true t)
+    here = T-true t
+
+    held : taken (seatsIn l) x ≡ true
+    unfolding meaning
+    held = T-true (seated-taken (seatsIn l) x t)
 
     pub lot-accepted : lotRefusal l x ≡ 0
     unfolding first
-    lot-accepted = lotRefusal-is x ∙ rw (lt-ltb x seats h, taken)
+    lot-accepted = lotRefusal-is x ∙ rw (lt-ltb x seats h, held)
+
+    pub seated-accepted : seatedRefusal l x ≡ 0
+    unfolding first
+    seated-accepted = seatedRefusal-is x ∙ rw (lt-ltb x seats h, here)
 
     pub lot-read : readLot l x ≡ record {
       refused = 0;
@@ -124,7 +137,7 @@ module _ (l : List ℕ) (e : length l ≡ size) (s : sound l ≡ true) where
 
     pub link-accepted : (k d : ℕ) → k < levels → d < 2 → linkRefusal l x k d ≡ 0
     unfolding first
-    link-accepted k d g q = linkRefusal-is x k d ∙ rw (lt-ltb x seats h, lt-ltb k levels g, lt-ltb d 2 q, taken)
+    link-accepted k d g q = linkRefusal-is x k d ∙ rw (lt-ltb x seats h, lt-ltb k levels g, lt-ltb d 2 q, here)
 
     pub link-read : (k : ℕ) (d : Side) → k < levels
         → readLink l x k (sideNumber d) ≡ record { refused = 0; seat = linkByte (meaning l .link x k d) }

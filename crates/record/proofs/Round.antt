@@ -24,7 +24,7 @@ use Rattle.protocol.specs.Rules.{SeatState, free, staying, leaving}
 use Rattle.protocol.specs.State.{Meaning, isFree}
 use Rattle.protocol.specs.Sound.{Sound, numberBits}
 use Rattle.protocol.proofs.Numbering.{sideNumber-lt, messageAt-place}
-use Rattle.protocol.proofs.SoundFacts.{two-level, link-linked, pending-exists}
+use Rattle.protocol.proofs.SoundFacts.{two-level, link-linked, pending-exists, seated-below}
 use Rattle.record.specs.Layout.{seats, levels, noLink, messages, phaseAt, stateAt, numberFrom, vectorAt, linkAt}
 use Rattle.record.specs.Layout.{pendingFrom, pendingSize, size}
 use Rattle.record.specs.Meaning.{phaseOf, stateOf, linkOf, seatsIn, meaning}
@@ -119,7 +119,7 @@ module _ {M : Meaning} (h : Sound seats width M) where
       by leaving f = f tt
 
   pub link-seat : (x k y : ℕ) (d : Side) → M .link x k d ≡ some y → y < seats
-  link-seat x k y d e = h .seats y (link-linked h e .0 .two)
+  link-seat x k y d e = seated-below h y (link-linked h e .0 .two)
 
   link-fits : (x k : ℕ) (d : Side) → (linkByte (M .link x k d) ≡ noLink) ⊎ (linkByte (M .link x k d) < seats)
   link-fits x k d = linkByte-lt (M .link x k d) (λ y e. link-seat x k y d e)

@@ -1,4 +1,4 @@
--- The roster of a record by its bytes: phase, and state, number and vector of a seat that exists. Assumes nothing.
+-- The seats of a record by its bytes: phase, and state, number and vector of a seat that exists. Assumes nothing.
 use Prim.Native.Nat.{ℕ, zero, suc, _<_}
 use mathlib.Core.Path.{_≡_, refl}
 use mathlib.Core.Logic.{⊎-elim}
@@ -11,7 +11,7 @@ use borrow.Author.Tests.{lt-ltb, eq-eqb, ne-eqb}
 use Rattle.memory.specs.Bytes.{numberAt}
 use Rattle.base.proofs.Cases.{eq-or-ne}
 use Rattle.protocol.specs.Rules.{isStaying}
-use Rattle.protocol.specs.State.{isClearing, isFree, isLeaving, seated, stays, leaves}
+use Rattle.protocol.specs.State.{isClearing, isFree, isSeated, isLeaving, taken, seated, stays, leaves}
 use Rattle.record.specs.Layout.{seats, phaseAt, stateAt, numberFrom, vectorAt}
 use Rattle.record.specs.Meaning.{phaseOf, stateOf, seatsIn}
 
@@ -22,6 +22,13 @@ clearing-of b = ⊎-elim (λ e. rw (eq-eqb b 0 e)) (λ e. rw (ne-eqb b 0 e)) (eq
 free-of : (b : ℕ) → isFree (stateOf b) ≡ eqb b 0
 unfolding stateOf
 free-of b = ⊎-elim
+    (λ e. rw (eq-eqb b 0 e))
+    (λ e. ⊎-elim (λ q. rw (ne-eqb b 0 e, eq-eqb b 1 q)) (λ q. rw (ne-eqb b 0 e, ne-eqb b 1 q)) (eq-or-ne b 1))
+    (eq-or-ne b 0)
+
+seated-of : (b : ℕ) → isSeated (stateOf b) ≡ not (eqb b 0)
+unfolding stateOf
+seated-of b = ⊎-elim
     (λ e. rw (eq-eqb b 0 e))
     (λ e. ⊎-elim (λ q. rw (ne-eqb b 0 e, eq-eqb b 1 q)) (λ q. rw (ne-eqb b 0 e, ne-eqb b 1 q)) (eq-or-ne b 1))
     (eq-or-ne b 0)
@@ -49,7 +56,11 @@ module _ (l : List ℕ) where
   module _ (s : ℕ) (h : s < seats) where
     pub seated-byte : seated (seatsIn l) s ≡ not (eqb (getD l (stateAt s) 0) 0)
     unfolding seatsIn
-    seated-byte = rw (lt-ltb s seats h, free-of (getD l (stateAt s) 0))
+    seated-byte = rw (lt-ltb s seats h, seated-of (getD l (stateAt s) 0))
+
+    pub taken-byte : taken (seatsIn l) s ≡ not (eqb (getD l (stateAt s) 0) 0)
+    unfolding seatsIn
+    taken-byte = rw (lt-ltb s seats h, free-of (getD l (stateAt s) 0))
 
     pub stays-byte : stays (seatsIn l) s ≡ eqb (getD l (stateAt s) 0) 1
     unfolding seatsIn

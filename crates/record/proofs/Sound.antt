@@ -18,7 +18,7 @@ use Rattle.base.proofs.Tests.{some-inj, none-some}
 use Rattle.protocol.specs.Message.{Msg}
 use Rattle.protocol.specs.Numbering.{place, messageAt}
 use Rattle.protocol.specs.Rules.{SeatState}
-use Rattle.protocol.specs.State.{Meaning, isFree, seated}
+use Rattle.protocol.specs.State.{Meaning, isFree, taken}
 use Rattle.protocol.specs.Sound.{Sound, linkOk, messageOk, numberBits}
 use Rattle.protocol.proofs.Numbering.{messageAt-place}
 use Rattle.record.specs.Layout.{seats, levels, noLink, messages, numberFrom, vectorAt, linkAt, size}
@@ -46,7 +46,7 @@ module _ {l : List ℕ} (bytes : AreBytes l) (f : Fits l) where
     links = λ s k d h g. ⊎-elim (λ q. inl q) (λ q. inr (q .0)) (f .links s k d h g);
   }
 
-  seat-in : (x : ℕ) → T (seated (meaning l .seats) x) → x < seats
+  seat-in : (x : ℕ) → T (taken (meaning l .seats) x) → x < seats
   seat-in x t = ⊎-elim (λ p. p) (λ p. absurd (subst (λ (s : SeatState). T (not (isFree s))) (no-seat-state l x p) t)) (lt-or-ge x seats)
 
   link-in : (x k y : ℕ) (d : Side) → meaning l .link x k d ≡ some y → (x < seats) × (k < levels)
@@ -82,7 +82,7 @@ module _ {l : List ℕ} (bytes : AreBytes l) (f : Fits l) where
       (λ p. (no-seat-number l x p, no-seat-vector l x p, λ k d. no-seat-link l x k d p))
       (lt-or-ge x seats)
 
-  numbers-fit : (x y : ℕ) → T (seated (meaning l .seats) x) → T (seated (meaning l .seats) y)
+  numbers-fit : (x y : ℕ) → T (taken (meaning l .seats) x) → T (taken (meaning l .seats) y)
       → meaning l .seats .number x ≡ meaning l .seats .number y → x ≡ y
   unfolding meaning
   numbers-fit x y s t e = ⊎-elim

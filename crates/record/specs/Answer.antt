@@ -1,7 +1,7 @@
 -- The answer of a changing call as the code gives it, from the refusal number. Assumes nothing.
 use Prim.Native.Nat.{ℕ, zero, suc}
 use mathlib.Core.List.{List}
-use Rattle.record.specs.Call.{Called}
+use Rattle.protocol.specs.Calls.{Outcome}
 use Rattle.record.specs.declared.Answer.{Answer}
 use Rattle.record.specs.declared.Answer.the-variants.{Done, Refused}
 
@@ -18,5 +18,5 @@ unfoldable pub answerOf : ℕ → Answer
 answerOf zero = Done
 answerOf (suc n) = Refused (suc n)
 
-unfoldable pub replyOf : Called → Reply
-replyOf o = reply (answerOf (o .refused)) (o .bytes)
+unfoldable pub replyOf : Outcome (List ℕ) → Reply
+replyOf o = reply (answerOf (o .refused)) (o .after)

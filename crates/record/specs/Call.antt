@@ -5,17 +5,13 @@ use mathlib.Core.List.{List, _∷_}
 use Rattle.graph.specs.Vector.{width}
 use Rattle.protocol.specs.Calls.{Call, rows}
 use Rattle.protocol.specs.Refusals.{first}
-use Rattle.protocol.specs.Calls.{accept, unlessRefused}
+use Rattle.protocol.specs.Calls.{Outcome, accept, unlessRefused}
 use Rattle.record.specs.Layout.{seats}
 use Rattle.record.specs.Meaning.{meaning, bytesOf}
-use Rattle.record.specs.Reading.{wrongSize, unsound}
-
-pub record Called : Type 0 where
-  pub refused : ℕ
-  pub bytes : List ℕ
+use Rattle.record.specs.Reading.{sizeRow, soundRow}
 
 unfoldable pub callRefusal : List ℕ → Call → ℕ
-callRefusal l c = first (wrongSize l ∷ unsound l ∷ rows seats width (meaning l .seats) (meaning l .pending) c)
+callRefusal l c = first (sizeRow l ∷ soundRow l ∷ rows seats width (meaning l .seats) (meaning l .pending) c)
 
-unfoldable pub called : List ℕ → Call → Called
-called l c = let n = callRefusal l c in record { refused = n; bytes = unlessRefused n l (bytesOf (accept seats width (meaning l) c)) }
+unfoldable pub called : List ℕ → Call → Outcome (List ℕ)
+called l c = let n = callRefusal l c in record { refused = n; after = unlessRefused n l (bytesOf (accept seats width (meaning l) c)) }

@@ -9,33 +9,36 @@ use Rattle.base.specs.Loops.{oneIf, count}
 use Rattle.memory.specs.Bits.{bitSet}
 use Rattle.graph.specs.Side.{sideOfNumber}
 use Rattle.protocol.specs.Message.{Name, named}
-use Rattle.protocol.specs.State.{opened, isFree, seated}
-use Rattle.protocol.specs.Refusals.{Row, row, first}
-use Rattle.protocol.specs.State.{isPending}
+use Rattle.protocol.specs.State.{opened, taken, seated, empty, noSeat, isPending}
+use Rattle.protocol.specs.Refusals.{wrongSize, unsound, noSuchSeat, emptySeat, noSuchLevel, Row, row, first}
 use Rattle.record.specs.Layout.{seats, levels, messages, pendingFrom, size}
 use Rattle.record.specs.Meaning.{seatsIn, meaning, bytesOf, phaseByte, stateByte, linkByte}
 use Rattle.record.specs.Sound.{sound}
 
--- 1 wrong size, 2 unsound: first in every call but open, which has 1 alone
-abbrev pub wrongSize : List ℕ → Row
-wrongSize l = row 1 (not (eqb (length l) size))
+-- the rows that a record meets in every call; open meets the first alone
+abbrev pub sizeRow : List ℕ → Row
+sizeRow l = row wrongSize (not (eqb (length l) size))
 
-abbrev pub unsound : List ℕ → Row
-unsound l = row 2 (not (sound l))
+abbrev pub soundRow : List ℕ → Row
+soundRow l = row unsound (not (sound l))
 
--- 3 no such seat, 8 empty seat
-abbrev pub noSuchSeat : ℕ → Row
-noSuchSeat s = row 3 (not (ltb s seats))
+-- a seat that does not exist
+abbrev pub seatRow : ℕ → Row
+seatRow s = row noSuchSeat (noSeat seats s)
 
-abbrev pub emptySeat : List ℕ → ℕ → Row
-emptySeat l s = row 8 (isFree (seatsIn l .state s))
+-- a seat without a lot of the graph; of reading a lot: a free seat
+abbrev pub emptyRow : List ℕ → ℕ → Row
+emptyRow l s = row emptySeat (empty (seatsIn l) s)
+
+abbrev pub freeRow : List ℕ → ℕ → Row
+freeRow l s = row emptySeat (not (taken (seatsIn l) s))
 
 -- the bytes after open: the empty record, or as before
 unfoldable pub openBytes : List ℕ → List ℕ
 openBytes l = cond (eqb (length l) size) (bytesOf opened) l
 
 unfoldable pub openRefusal : List ℕ → ℕ
-openRefusal l = first (wrongSize l ∷ [])
+openRefusal l = first (sizeRow l ∷ [])
 
 -- reading a lot
 pub record LotAnswer : Type 0 where
@@ -45,7 +48,11 @@ pub record LotAnswer : Type 0 where
   pub vector : ℕ
 
 unfoldable pub lotRefusal : List ℕ → (s : ℕ) → ℕ
-lotRefusal l s = first (wrongSize l ∷ unsound l ∷ noSuchSeat s ∷ emptySeat l s ∷ [])
+lotRefusal l s = first (sizeRow l ∷ soundRow l ∷ seatRow s ∷ freeRow l s ∷ [])
+
+-- the refusal of a call that names a seated lot
+unfoldable pub seatedRefusal : List ℕ → (s : ℕ) → ℕ
+seatedRefusal l s = first (sizeRow l ∷ soundRow l ∷ seatRow s ∷ emptyRow l s ∷ [])
 
 unfoldable pub readLot : List ℕ → (s : ℕ) → LotAnswer
 readLot l s = let n = lotRefusal l s in
@@ -57,11 +64,11 @@ pub record LinkAnswer : Type 0 where
   pub refused : ℕ
   pub seat : ℕ
 
-abbrev pub noSuchLevel : (k d : ℕ) → Row
-noSuchLevel k d = row 12 (not (ltb k levels) || not (ltb d 2))
+abbrev pub levelRow : (k d : ℕ) → Row
+levelRow k d = row noSuchLevel (not (ltb k levels) || not (ltb d 2))
 
 unfoldable pub linkRefusal : List ℕ → (s k d : ℕ) → ℕ
-linkRefusal l s k d = first (wrongSize l ∷ unsound l ∷ noSuchSeat s ∷ noSuchLevel k d ∷ emptySeat l s ∷ [])
+linkRefusal l s k d = first (sizeRow l ∷ soundRow l ∷ seatRow s ∷ levelRow k d ∷ emptyRow l s ∷ [])
 
 unfoldable pub readLink : List ℕ → (s k d : ℕ) → LinkAnswer
 readLink l s k d = let n = linkRefusal l s k d in
@@ -73,7 +80,7 @@ pub record MessageAnswer : Type 0 where
   pub pending : ℕ
 
 unfoldable pub recordRefusal : List ℕ → ℕ
-recordRefusal l = first (wrongSize l ∷ unsound l ∷ [])
+recordRefusal l = first (sizeRow l ∷ soundRow l ∷ [])
 
 unfoldable pub readMessage : List ℕ → Name → MessageAnswer
 readMessage l n = let r = recordRefusal l in

@@ -10,7 +10,7 @@ use Rattle.base.specs.Loops.{all}
 use Rattle.graph.specs.Side.{Side, left, right}
 use Rattle.graph.specs.Vector.{width}
 use Rattle.protocol.specs.Numbering.{messageAt}
-use Rattle.protocol.specs.State.{seated}
+use Rattle.protocol.specs.State.{taken}
 use Rattle.protocol.specs.Sound.{linkOk, messageOk}
 use Rattle.record.specs.Layout.{seats, levels, noLink, messages, phaseAt, stateAt, linkAt, pendingFrom}
 use Rattle.record.specs.Meaning.{seatsIn}
@@ -32,11 +32,11 @@ module _ (l : List ℕ) where
       && all levels (λ k. eqb (getD l (linkAt s k left) 0) noLink && eqb (getD l (linkAt s k right) 0) noLink))
 
   unfoldable pub unusedFit : Bool
-  unusedFit = all seats (λ s. seated (seatsIn l) s || asOpened s)
+  unusedFit = all seats (λ s. taken (seatsIn l) s || asOpened s)
 
   -- numbers differ
   unfoldable pub numbersDiffer : Bool
-  numbersDiffer = all seats (λ x. all x (λ y. not (seated (seatsIn l) x && (seated (seatsIn l) y && eqb (seatsIn l .number x) (seatsIn l .number y)))))
+  numbersDiffer = all seats (λ x. all x (λ y. not (taken (seatsIn l) x && (taken (seatsIn l) y && eqb (seatsIn l .number x) (seatsIn l .number y)))))
 
   -- a link is none, or names another seated lot on its own side sharing the level's bits
   unfoldable pub linkFits : (x k : ℕ) → Side → Bool

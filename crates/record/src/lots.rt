@@ -1,10 +1,10 @@
-// The roster of a record, read from its bytes: the phase, who is seated and who stays, and pairs of lots that share bits.
+// The lots of a record, read from its bytes: the phase, which seats are taken, who is seated and who stays, and pairs of lots that share bits.
 ghost use mathlib.Core.Path.{_≡_};
 ghost use Prim.Native.Nat.{_<_};
 ghost use lib.Dec.{leb};
 ghost use lib.ListN.{length};
 ghost use Rattle.graph.specs.Vector.{width, shared};
-ghost use Rattle.protocol.specs.State.{isClearing, seated, stays, leaves};
+ghost use Rattle.protocol.specs.State.{isClearing, taken, seated, stays, leaves};
 ghost use Rattle.protocol.specs.Sound.{pairOk};
 ghost use Rattle.record.specs.Layout.{seats, size};
 ghost use Rattle.record.specs.Meaning.{seatsIn};
@@ -21,6 +21,14 @@ pub fn is_clearing(rec: &[u8]) -> bool
 pub fn is_seated(rec: &[u8], s: usize) -> bool
     requires { ⌜ (length (now rec) ≡ size) × (s < seats) ⌝ }
     ensures { λ r. ⌜ r ≡ seated (seatsIn (now (rec .entry))) s ⌝ }
+{
+    crate::state(rec, s) != crate::FREE
+}
+
+// Whether seat s is not free.
+pub fn is_taken(rec: &[u8], s: usize) -> bool
+    requires { ⌜ (length (now rec) ≡ size) × (s < seats) ⌝ }
+    ensures { λ r. ⌜ r ≡ taken (seatsIn (now (rec .entry))) s ⌝ }
 {
     crate::state(rec, s) != crate::FREE
 }

@@ -2,13 +2,11 @@
 use borrow.Author.Needs.{needs}
 use Prim.Native.Nat.{_<_}
 use mathlib.Core.Path.{sym, _∙_}
-use mathlib.Core.Bool.{not, _||_}
 use mathlib.Core.List.{[], _∷_}
-use lib.Dec.{ltb}
-use Rattle.record.specs.Layout.{seats, levels}
-use Rattle.record.specs.Reading.{linkRefusal, wrongSize, unsound, noSuchSeat, noSuchLevel, emptySeat}
-use Rattle.record.proofs.Refused.{Passed, first-stops, first-goes}
-use Rattle.reading.proofs.Refusals.{seat-passed, link-rest}
+use Rattle.record.specs.Layout.{seats}
+use Rattle.record.specs.Reading.{linkRefusal, levelRow, emptyRow}
+use Rattle.record.proofs.Refused.{Passed}
+use Rattle.reading.proofs.Refusals.{seat-stops, seat-passed, link-rest, level-stops, level-goes}
 use Rattle.reading.proofs.link_refusal.Statement.{statement}
 use Rattle.reading.proofs.link_refusal.Tie as tie
 
@@ -24,8 +22,8 @@ unfolding linkRefusal
 returns c =
     let a = c .before .before .before .args in
     let l = a .rec .now in
-    let rest = noSuchLevel (a .level) (a .side) ∷ emptySeat l (a .seat) ∷ [] in
-    first-stops (wrongSize l ∷ unsound l ∷ noSuchSeat (a .seat) ∷ []) rest (c .before .seat-refusal .ensures) (c .if1 .taken)
+    let rest = levelRow (a .level) (a .side) ∷ emptyRow l (a .seat) ∷ [] in
+    seat-stops l (a .seat) rest (c .before .seat-refusal .ensures) (c .if1 .taken)
 
 level-refusal-requires : tie.Need-level-refusal-requires
 level-refusal-requires c κs = search needs
@@ -37,16 +35,14 @@ returns-2 : tie.Need-returns-2
 returns-2 c =
     let b = c .before .before .before in
     let a = b .before .before .before .args in
-    let none = emptySeat (a .rec .now) (a .seat) ∷ [] in
-    first-stops (noSuchLevel (a .level) (a .side) ∷ []) none (c .before .before .level-refusal .ensures) (c .if2 .taken)
+    level-stops (a .rec .now) (a .seat) _ _ (c .before .before .level-refusal .ensures) (c .if2 .taken)
     ∙ sym (link-rest _ _ _ _ (passed b))
 
 returns-3 : tie.Need-returns-3
 returns-3 c =
     let b = c .before .before .before in
     let a = b .before .before .before .args in
-    let none = emptySeat (a .rec .now) (a .seat) ∷ [] in
-    let goes = first-goes 11 (not (ltb (a .level) levels) || not (ltb (a .side) 2)) none (c .before .before .level-refusal .ensures) (c .if2 .left) in
+    let goes = level-goes (a .rec .now) (a .seat) _ _ (c .before .before .level-refusal .ensures) (c .if2 .left) in
     c .before .empty-refusal .ensures ∙ sym (link-rest _ _ _ _ (passed b) ∙ goes)
 
 pub link-refusal-spec : {M : Type 1} → statement M

@@ -4,9 +4,9 @@ use Prim.Native.Nat.{_<_}
 use mathlib.Core.Path.{sym, _∙_}
 use mathlib.Core.List.{[], _∷_}
 use Rattle.record.specs.Layout.{seats}
-use Rattle.record.specs.Reading.{lotRefusal, wrongSize, unsound, noSuchSeat, emptySeat}
-use Rattle.record.proofs.Refused.{Passed, first-stops}
-use Rattle.reading.proofs.Refusals.{seat-passed, lot-rest}
+use Rattle.record.specs.Reading.{lotRefusal, freeRow}
+use Rattle.record.proofs.Refused.{Passed}
+use Rattle.reading.proofs.Refusals.{seat-stops, seat-passed, lot-rest}
 use Rattle.reading.proofs.lot_refusal.Statement.{statement}
 use Rattle.reading.proofs.lot_refusal.Tie as tie
 
@@ -22,13 +22,13 @@ unfolding lotRefusal
 returns c =
     let l = c .before .before .before .args .rec .now in
     let s = c .before .before .before .args .seat in
-    first-stops (wrongSize l ∷ unsound l ∷ noSuchSeat s ∷ []) (emptySeat l s ∷ []) (c .before .seat-refusal .ensures) (c .if1 .taken)
+    seat-stops l s (freeRow l s ∷ []) (c .before .seat-refusal .ensures) (c .if1 .taken)
 
-empty-refusal-requires : tie.Need-empty-refusal-requires
-empty-refusal-requires c κs = let p = passed c in (p .0 .sized, p .1)
+free-refusal-requires : tie.Need-free-refusal-requires
+free-refusal-requires c κs = let p = passed c in (p .0 .sized, p .1)
 
 returns-2 : tie.Need-returns-2
-returns-2 c = c .empty-refusal .ensures ∙ sym (lot-rest _ _ (passed (c .before)))
+returns-2 c = c .free-refusal .ensures ∙ sym (lot-rest _ _ (passed (c .before)))
 
 pub lot-refusal-spec : {M : Type 1} → statement M
-lot-refusal-spec = tie.close (tie.spec seat-refusal-requires returns empty-refusal-requires returns-2)
+lot-refusal-spec = tie.close (tie.spec seat-refusal-requires returns free-refusal-requires returns-2)
