@@ -4,14 +4,14 @@ use Prim.Native.Nat.{ℕ, suc, _≤_, _<_, suc-le-suc}
 use mathlib.Core.Path.{_≡_, refl, sym, subst}
 use mathlib.Core.Logic.{_⊎_, inl, inr, _≢_}
 use mathlib.Core.Option.{Option, some}
-use mathlib.Core.Bool.{Bool, false, not, _&&_}
+use mathlib.Core.Bool.{Bool, true, false, not, _&&_}
 use mathlib.Core.List.{List, List·Memᴰ}
 use native.Mathlib.Omega.{arith}
 use lib.Dec.{T, eqb, ltb, T-not, not-T, eqb→eq, leb→le, le→leb, ltb→lt, lt→ltb}
 use borrow.Author.Tests.{eq-eqb}
 use Rattle.graph.specs.Side.{Side, sideOf}
 use Rattle.graph.specs.Vector.{shared}
-use Rattle.base.proofs.Tests.{and-T, and-fst, and-snd, true-T, false-T, not-T-false}
+use Rattle.base.proofs.Tests.{and-T, and-fst, and-snd, T-true, true-T, false-T, not-T-false}
 use Rattle.graph.specs.inner.Order.{Lt}
 use Rattle.graph.proofs.Order.{on-lt, lt-on, lt-some, side-of}
 use Rattle.graph.proofs.Shared.{shared-le, shared-sym, shared-trans}
@@ -54,6 +54,18 @@ seated-taken r x t = by (r .state x) t
     by free t = t
     by staying t = tt
     by leaving t = tt
+
+pub seated-held : (r : Seats) (x : ℕ) → seated r x ≡ true → taken r x ≡ true
+seated-held r x e = T-true (seated-taken r x (true-T e))
+
+-- a seat without a lot is free, as long as nothing else takes seats
+pub empty-free : (r : Seats) (x : ℕ) → seated r x ≡ false → taken r x ≡ false
+empty-free r x e = by (r .state x) e
+  where
+    by : (s : SeatState) → isSeated s ≡ false → not (isFree s) ≡ false
+    by free e = refl
+    by staying e = e
+    by leaving e = e
 
 -- a seat that is not taken has no lot
 pub free-empty : (r : Seats) (x : ℕ) → taken r x ≡ false → seated r x ≡ false

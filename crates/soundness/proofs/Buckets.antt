@@ -11,14 +11,14 @@ use borrow.Author.Tests.{eq-eqb, ne-eqb, eqb-true}
 use Rattle.base.proofs.Cases.{eq-or-ne, and-left, and-right, and-false}
 use Rattle.base.specs.Loops.{any}
 use Rattle.base.proofs.Any.{any-start}
-use Rattle.protocol.specs.State.{seated}
+use Rattle.protocol.specs.State.{taken}
 use Rattle.record.specs.Meaning.{seatsIn}
 use Rattle.soundness.specs.inner.Buckets.{buckets, bucketOf, sameNumber, lastIn}
 
 module _ (l : List ℕ) where
   -- seat s is a lot of bucket b
   abbrev within : (b s : ℕ) → Bool
-  within b s = seated (seatsIn l) s && eqb (bucketOf l s) b
+  within b s = taken (seatsIn l) s && eqb (bucketOf l s) b
 
   pub last-le : (s b : ℕ) → lastIn l s b ≤ s
   unfolding lastIn
@@ -30,19 +30,19 @@ module _ (l : List ℕ) where
       by false h = omega (arith, h)
 
   -- one seat more: it is the last of its own bucket, and any other bucket is as before; so is each where the seat is free
-  pub last-own : (s : ℕ) → seated (seatsIn l) s ≡ true → s + 1 ≡ lastIn l (s + 1) (bucketOf l s)
+  pub last-own : (s : ℕ) → taken (seatsIn l) s ≡ true → s + 1 ≡ lastIn l (s + 1) (bucketOf l s)
   unfolding lastIn
   last-own s t = rw (add-one, t, eq-eqb (bucketOf l s) (bucketOf l s) refl)
 
   pub last-other : (s b : ℕ) → (bucketOf l s ≡ b → ⊥) → lastIn l s b ≡ lastIn l (s + 1) b
   unfolding lastIn
-  last-other s b ne = rw (add-one, ne-eqb (bucketOf l s) b ne) (by (seated (seatsIn l) s))
+  last-other s b ne = rw (add-one, ne-eqb (bucketOf l s) b ne) (by (taken (seatsIn l) s))
     where
       by : (t : Bool) → lastIn l s b ≡ cond (t && false) (suc s) (lastIn l s b)
       by true = refl
       by false = refl
 
-  pub last-free : (s b : ℕ) → seated (seatsIn l) s ≡ false → lastIn l s b ≡ lastIn l (s + 1) b
+  pub last-free : (s b : ℕ) → taken (seatsIn l) s ≡ false → lastIn l s b ≡ lastIn l (s + 1) b
   unfolding lastIn
   last-free s b f = rw (add-one, f)
 
@@ -53,7 +53,7 @@ module _ (l : List ℕ) where
   -- what is found is a lot of the bucket
   pub record LotOf (m b x : ℕ) : Type 0 where
     pub below : x < m
-    pub lot : seated (seatsIn l) x ≡ true
+    pub lot : taken (seatsIn l) x ≡ true
     pub same : bucketOf l x ≡ b
 
   pub last-lot : (m b y : ℕ) → y ≡ lastIn l m b → (y ≡ 0 → ⊥) → LotOf m b (y - 1)
@@ -69,8 +69,8 @@ module _ (l : List ℕ) where
           let at : y - 1 ≡ m = omega (arith, q) in
           record {
             below = omega arith;
-            lot = rw at (and-left (seated (seatsIn l) m) _ t);
-            same = rw at (eqb-true (bucketOf l m) b (and-right (seated (seatsIn l) m) _ t));
+            lot = rw at (and-left (taken (seatsIn l) m) _ t);
+            same = rw at (eqb-true (bucketOf l m) b (and-right (taken (seatsIn l) m) _ t));
           }
       by false f q ih = more (ih q)
 
@@ -84,7 +84,7 @@ module _ (l : List ℕ) where
       other f = ⊎-elim
           (λ e. rw (eq-eqb (seatsIn l .number x) (seatsIn l .number m) e)
           (rw (eq-eqb (bucketOf l m) (bucketOf l x) (ap (λ (n : ℕ). n % buckets) (sym e))) at f))
-          (λ ne. and-false (seated (seatsIn l) m) _ (ne-eqb (seatsIn l .number x) (seatsIn l .number m) ne))
+          (λ ne. and-false (taken (seatsIn l) m) _ (ne-eqb (seatsIn l .number x) (seatsIn l .number m) ne))
           (eq-or-ne (seatsIn l .number x) (seatsIn l .number m))
 
       by : (w : Bool) → within (bucketOf l x) m ≡ w → any m (sameNumber l x) ≡ any (lastIn l m (bucketOf l x)) (sameNumber l x)

@@ -14,7 +14,7 @@ use Rattle.graph.specs.Side.{Side, left, right, onSide}
 use Rattle.graph.specs.Vector.{width, shared}
 use Rattle.base.proofs.Tests.{true-T}
 use Rattle.graph.proofs.Order.{lt-ne, on-lt}
-use Rattle.protocol.specs.State.{Seats, seated}
+use Rattle.protocol.specs.State.{Seats, taken, seated}
 use Rattle.protocol.specs.Sound.{pairOk, linkOk}
 use Rattle.record.specs.Layout.{seats, levels, noLink, entryAt, stateAt, linkAt}
 use Rattle.record.specs.Meaning.{seatsIn}
@@ -49,7 +49,7 @@ link-ok r x k y d e = rw e (by (seated r y) (not (eqb x y)) (leb k (shared width
     by true false false o h = refl
 
 -- a free seat has no links
-pub free-links : (l : List ℕ) (x : ℕ) → all seats (seatFits l) ≡ true → x < seats → seated (seatsIn l) x ≡ false
+pub free-links : (l : List ℕ) (x : ℕ) → all seats (seatFits l) ≡ true → x < seats → taken (seatsIn l) x ≡ false
     → true ≡ all levels (λ k. linkFits l x k left && linkFits l x k right)
 unfolding asOpened linkFits
 free-links l x u h f = sym (all-from levels _ (λ k g. both k (all-at levels k free none g)))
@@ -58,7 +58,7 @@ free-links l x u h f = sym (all-from levels _ (λ k g. both k (all-at levels k f
     free k = eqb (getD l (linkAt x k left) 0) noLink && eqb (getD l (linkAt x k right) 0) noLink
 
     opened : asOpened l x ≡ true
-    opened = let t : seated (seatsIn l) x || asOpened l x ≡ true = and-right (ltb (getD l (stateAt x) 0) 3) _ (all-at seats x (seatFits l) u h) in rw f at t
+    opened = let t : taken (seatsIn l) x || asOpened l x ≡ true = and-right (ltb (getD l (stateAt x) 0) 3) _ (all-at seats x (seatFits l) u h) in rw f at t
 
     none : all levels free ≡ true
     none =

@@ -6,7 +6,7 @@ use mathlib.Core.List.{List}
 use Rattle.base.specs.Loops.{all}
 use Rattle.base.proofs.All.{all-from, all-same, all-and}
 use Rattle.base.specs.Loops.{any}
-use Rattle.protocol.specs.State.{seated}
+use Rattle.protocol.specs.State.{taken}
 use Rattle.record.specs.Layout.{seats}
 use Rattle.record.specs.Meaning.{seatsIn}
 use Rattle.record.specs.Sound.{numbersDiffer}
@@ -26,10 +26,10 @@ none-all (suc n) p = rw (none-all n p) (by (any n p) (p n))
 
 -- a lot and every seat below it, by the search for its number; a free seat
 module _ (l : List ℕ) (s : ℕ) where
-  pub all-differ : seated (seatsIn l) s ≡ true → all s (differ l s) ≡ not (any s (sameNumber l s))
+  pub all-differ : taken (seatsIn l) s ≡ true → all s (differ l s) ≡ not (any s (sameNumber l s))
   all-differ t = all-same s (differ l s) (λ y. not (sameNumber l s y)) (λ y h. rw t) ∙ none-all s (sameNumber l s)
 
-  pub free-differs : seated (seatsIn l) s ≡ false → all s (differ l s) ≡ true
+  pub free-differs : taken (seatsIn l) s ≡ false → all s (differ l s) ≡ true
   free-differs f = all-from s (differ l s) (λ y h. rw f)
 
 -- the clauses of the seats and that on numbers, seat by seat

@@ -7,7 +7,7 @@ use lib.Dec.{ltb}
 use lib.ListN.{length, getD}
 use borrow.Author.Tests.{eq-eqb}
 use Rattle.base.proofs.All.{all-and}
-use Rattle.protocol.specs.State.{seated}
+use Rattle.protocol.specs.State.{taken}
 use Rattle.protocol.specs.Refusals.{first}
 use Rattle.record.specs.Layout.{seats, stateAt, size}
 use Rattle.record.specs.Meaning.{seatsIn}
@@ -19,7 +19,7 @@ module _ (l : List ℕ) where
   sound-parts : sound l ≡ entriesFit l && messagesFit l
   unfolding sound entriesFit statesFit unusedFit
   sound-parts =
-      rw (all-and seats (λ s. ltb (getD l (stateAt s) 0) 3) (λ s. seated (seatsIn l) s || asOpened l s))
+      rw (all-and seats (λ s. ltb (getD l (stateAt s) 0) 3) (λ s. taken (seatsIn l) s || asOpened l s))
       (by (phaseFits l) (statesFit l) (unusedFit l) (numbersDiffer l) (linksFit l) (messagesFit l))
     where
       by : (p s u n k m : Bool) → p && (s && (u && (n && (k && m)))) ≡ (p && ((s && u) && (n && k))) && m

@@ -1,4 +1,4 @@
-// Phase, states, entries of free seats, and numbers: the clauses of soundness that name no link of a seated lot and no message. That numbers
+// Phase, states, entries of free seats, and numbers: the clauses of soundness that name no link of a taken lot and no message. That numbers
 // differ is found out without comparing all pairs: lots whose numbers have one remainder stand in one bucket, and each new lot is compared
 // with those of its bucket, the last one first.
 ghost use mathlib.Core.Path.{_≡_};
@@ -8,7 +8,7 @@ ghost use lib.Dec.{leb};
 ghost use lib.ListN.{length};
 ghost use Rattle.base.specs.Loops.{all};
 ghost use Rattle.base.specs.Loops.{any};
-ghost use Rattle.protocol.specs.State.{seated};
+ghost use Rattle.protocol.specs.State.{taken};
 ghost use Rattle.record.specs.Layout.{seats, levels, size};
 ghost use Rattle.record.specs.Meaning.{seatsIn};
 ghost use Rattle.record.specs.Sound.{phaseFits, asOpened, numbersDiffer};
@@ -20,7 +20,7 @@ use record::LEVELS;
 use record::LINKS_AT;
 use record::NUMBER_AT;
 use record::SEATS;
-use record::lots::is_seated;
+use record::lots::is_taken;
 
 // How many phases and states there are.
 const PHASES: u8 = 2;
@@ -94,7 +94,7 @@ fn keep(
     before: &mut [u8; SEATS],
     s: usize,
 )
-    requires { ⌜ (length (now rec) ≡ size) × (s < seats) × (seated (seatsIn (now rec)) s ≡ true)
+    requires { ⌜ (length (now rec) ≡ size) × (s < seats) × (taken (seatsIn (now rec)) s ≡ true)
         × Kept (now rec) s (now numbers) (now last) (now before) ⌝ }
     ensures { λ _. ⌜ Kept (now (rec .entry)) (s + 1) (now (numbers .exit)) (now (last .exit)) (now (before .exit)) ⌝ }
 {
@@ -113,7 +113,7 @@ fn lot_fits(
     before: &mut [u8; SEATS],
     s: usize,
 ) -> bool
-    requires { ⌜ (length (now rec) ≡ size) × (s < seats) × (seated (seatsIn (now rec)) s ≡ true)
+    requires { ⌜ (length (now rec) ≡ size) × (s < seats) × (taken (seatsIn (now rec)) s ≡ true)
         × Kept (now rec) s (now numbers) (now last) (now before) ⌝ }
     ensures { λ r. ⌜ (let l = now (rec .entry) in (r ≡ all s (differ l s))
         × (r ≡ true → Kept l (s + 1) (now (numbers .exit)) (now (last .exit)) (now (before .exit)))) ⌝ }
@@ -140,7 +140,7 @@ fn seat_fits(
     if record::state(rec, s) >= STATES {
         return false;
     }
-    if is_seated(rec, s) {
+    if is_taken(rec, s) {
         return lot_fits(rec, numbers, last, before, s);
     }
     as_opened(rec, s)
@@ -152,7 +152,7 @@ pub fn seats_fit(rec: &[u8], numbers: &mut [u64; SEATS]) -> usize
     requires { ⌜ (length (now rec) ≡ size) × (length (now numbers) ≡ seats) ⌝ }
     ensures says { λ r. ⌜ leb r seats ≡ all seats (seatFits (now (rec .entry))) && numbersDiffer (now (rec .entry)) ⌝ }
     ensures numbers { λ r. ⌜ (r ≤ seats → HasNumbers (now (rec .entry)) (now (numbers .exit))) ⌝ }
-    ensures above { λ r. ⌜ ((s : ℕ) → s < seats → r ≤ s → seated (seatsIn (now (rec .entry))) s ≡ false) ⌝ }
+    ensures above { λ r. ⌜ ((s : ℕ) → s < seats → r ≤ s → taken (seatsIn (now (rec .entry))) s ≡ false) ⌝ }
 {
     let mut last = [0u8; BUCKETS];
     let mut before = [0u8; SEATS];
@@ -161,7 +161,7 @@ pub fn seats_fit(rec: &[u8], numbers: &mut [u64; SEATS]) -> usize
         if !seat_fits(rec, numbers, &mut last, &mut before, s) {
             return NOT_FIT;
         }
-        if is_seated(rec, s) {
+        if is_taken(rec, s) {
             top = s + 1;
         }
     }

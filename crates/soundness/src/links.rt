@@ -6,7 +6,7 @@ ghost use lib.ListN.{length};
 ghost use Rattle.base.specs.Loops.{all};
 ghost use Rattle.graph.specs.Side.{left, right, onSide};
 ghost use Rattle.graph.specs.Vector.{width};
-ghost use Rattle.protocol.specs.State.{seated};
+ghost use Rattle.protocol.specs.State.{taken, seated};
 ghost use Rattle.protocol.specs.Sound.{linkOk};
 ghost use Rattle.record.specs.Layout.{seats, levels, size};
 ghost use Rattle.record.specs.Meaning.{seatsIn};
@@ -72,7 +72,7 @@ fn lot_fits(rec: &[u8], numbers: &[u64; SEATS], x: usize) -> bool
     true
 }
 
-// All links of seat x: a free seat is known to have none.
+// All links of seat x: a seat without a lot is known to have none.
 fn seat_fits(rec: &[u8], numbers: &[u64; SEATS], x: usize) -> bool
     requires { ⌜ (length (now rec) ≡ size) × HasNumbers (now rec) (now numbers) × (x < seats) × (all seats (seatFits (now rec)) ≡ true) ⌝ }
     ensures { λ r. ⌜ r ≡ all levels (λ k. linkFits (now (rec .entry)) x k left && linkFits (now (rec .entry)) x k right) ⌝ }
@@ -86,7 +86,7 @@ fn seat_fits(rec: &[u8], numbers: &[u64; SEATS], x: usize) -> bool
 // All links: those of the first `top` seats, above which no lot sits.
 pub fn links_fit(rec: &[u8], numbers: &[u64; SEATS], top: usize) -> bool
     requires { ⌜ (length (now rec) ≡ size) × HasNumbers (now rec) (now numbers) × (all seats (seatFits (now rec)) ≡ true) × (top ≤ seats)
-        × ((s : ℕ) → s < seats → top ≤ s → seated (seatsIn (now rec)) s ≡ false) ⌝ }
+        × ((s : ℕ) → s < seats → top ≤ s → taken (seatsIn (now rec)) s ≡ false) ⌝ }
     ensures { λ r. ⌜ r ≡ linksFit (now (rec .entry)) ⌝ }
 {
     for x in 0..top {

@@ -6,7 +6,7 @@ use mathlib.Core.Bool.{Bool, true, cond, _&&_}
 use mathlib.Core.List.{List}
 use lib.Dec.{eqb}
 use lib.ListN.{length, getD}
-use Rattle.protocol.specs.State.{seated}
+use Rattle.protocol.specs.State.{taken}
 use Rattle.record.specs.Layout.{seats}
 use Rattle.record.specs.Meaning.{seatsIn}
 
@@ -20,16 +20,16 @@ module _ (l : List ℕ) where
 
   -- a lot on y with the number of s
   abbrev pub sameNumber : (s y : ℕ) → Bool
-  sameNumber s y = seated (seatsIn l) y && eqb (seatsIn l .number s) (seatsIn l .number y)
+  sameNumber s y = taken (seatsIn l) y && eqb (seatsIn l .number s) (seatsIn l .number y)
 
   -- the last lot below s in bucket b
   unfoldable pub lastIn : (s b : ℕ) → ℕ
   lastIn zero b = 0
-  lastIn (suc s) b = cond (seated (seatsIn l) s && eqb (bucketOf s) b) (suc s) (lastIn s b)
+  lastIn (suc s) b = cond (taken (seatsIn l) s && eqb (bucketOf s) b) (suc s) (lastIn s b)
 
   -- the lots below s are kept: their numbers, the last of each bucket, and the one before each
   pub record Kept (s : ℕ) (numbers last before : List ℕ) : Type 0 where
     pub long : (length numbers ≡ seats) × (length last ≡ buckets) × (length before ≡ seats)
-    pub number : (y : ℕ) → y < s → seated (seatsIn l) y ≡ true → getD numbers y 0 ≡ seatsIn l .number y
+    pub number : (y : ℕ) → y < s → taken (seatsIn l) y ≡ true → getD numbers y 0 ≡ seatsIn l .number y
     pub ends : (b : ℕ) → b < buckets → getD last b 0 ≡ lastIn s b
-    pub links : (y : ℕ) → y < s → seated (seatsIn l) y ≡ true → getD before y 0 ≡ lastIn y (bucketOf y)
+    pub links : (y : ℕ) → y < s → taken (seatsIn l) y ≡ true → getD before y 0 ≡ lastIn y (bucketOf y)

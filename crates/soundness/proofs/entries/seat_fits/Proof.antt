@@ -22,20 +22,20 @@ returns c =
     let high : ltb (getD (r .args .rec .now) (stateAt (r .args .s)) 0) 3 ≡ false = rw (← c .before .state .ensures) (le-ltb _ _ (c .if1 .taken)) in
     (rw high, λ e. true-false e refl)
 
-is-seated-requires : tie.Need-is-seated-requires
-is-seated-requires c κs = search needs
+is-taken-requires : tie.Need-is-taken-requires
+is-taken-requires c κs = search needs
 
 lot-fits-requires : tie.Need-lot-fits-requires
 lot-fits-requires c κs =
     let r = c .before .before .before .before .before .before .before .before in
-    (r .pre .0, r .pre .1, sym (c .before .before .before .before .is-seated .ensures) ∙ c .before .before .before .if2 .taken, r .pre .2)
+    (r .pre .0, r .pre .1, sym (c .before .before .before .before .is-taken .ensures) ∙ c .before .before .before .if2 .taken, r .pre .2)
 
 returns-2 : tie.Need-returns-2
 returns-2 c =
     let r = c .before .before .before .before .before .before .before .before .before in
     let b = c .before .before .before .before .before .before in
     let low : ltb (getD (r .args .rec .now) (stateAt (r .args .s)) 0) 3 ≡ true = rw (← b .before .state .ensures) (lt-ltb _ _ (b .if1 .left)) in
-    let lot = sym (c .before .before .before .before .before .is-seated .ensures) ∙ c .before .before .before .before .if2 .taken in
+    let lot = sym (c .before .before .before .before .before .is-taken .ensures) ∙ c .before .before .before .before .if2 .taken in
     (rw (low, lot) (c .lot-fits .ensures .0), c .lot-fits .ensures .1)
 
 as-opened-requires : tie.Need-as-opened-requires
@@ -47,7 +47,7 @@ returns-3 c =
     let l = r .args .rec .now in
     let b = c .before .before .before in
     let low : ltb (getD l (stateAt (r .args .s)) 0) 3 ≡ true = rw (← b .before .state .ensures) (lt-ltb _ _ (b .if1 .left)) in
-    let free = sym (c .before .before .is-seated .ensures) ∙ c .before .if2 .left in
+    let free = sym (c .before .before .is-taken .ensures) ∙ c .before .if2 .left in
     (rw (low, free-differs l (r .args .s) free, free, and-true) (c .as-opened .ensures), λ e. kept-free l (r .args .s) (r .pre .2) free)
 
 pub seat-fits-spec : {M : Type 1} → statement M
@@ -56,7 +56,7 @@ seat-fits-spec =
     (tie.spec
     state-requires
     returns
-    is-seated-requires
+    is-taken-requires
     lot-fits-requires
     returns-2
     as-opened-requires

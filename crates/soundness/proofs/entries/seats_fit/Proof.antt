@@ -10,7 +10,7 @@ use native.Mathlib.Omega.{arith}
 use borrow.Author.Tests.{not-false, le-leb}
 use Rattle.base.specs.Loops.{all}
 use Rattle.base.proofs.All.{all-none}
-use Rattle.protocol.specs.State.{seated}
+use Rattle.protocol.specs.State.{taken}
 use Rattle.record.specs.Layout.{seats}
 use Rattle.record.specs.Meaning.{seatsIn}
 use Rattle.base.proofs.Stops.{all-stop, all-go, all-end}
@@ -28,7 +28,7 @@ passes l s = seatFits l s && all s (differ l s)
 abbrev Inv-loop : tie.InvT-loop
 Inv-loop rec numbers₀ last₀ before₀ top₀ s₀ numbers last before top s = (s ≤ seats) × (top ≤ s)
     × (all s (passes rec) ≡ true) × Kept rec s numbers last before
-    × ((y : ℕ) → y < s → top ≤ y → seated (seatsIn rec) y ≡ false)
+    × ((y : ℕ) → y < s → top ≤ y → taken (seatsIn rec) y ≡ false)
 
 abbrev μ-loop : tie.MeasureT-loop
 μ-loop rec numbers₀ last₀ before₀ top₀ s₀ numbers last before top s = seats - s
@@ -48,8 +48,8 @@ returns c =
       (λ h. absurd (omega (arith, h)), λ s h g. absurd (omega arith)),
     )
 
-is-seated-requires : tie.Need-is-seated-requires Inv-loop μ-loop
-is-seated-requires c κs = search needs
+is-taken-requires : tie.Need-is-taken-requires Inv-loop μ-loop
+is-taken-requires c κs = search needs
 
 add-top : tie.Need-add-top Inv-loop μ-loop
 add-top c = search needs
@@ -63,7 +63,7 @@ loop-less c = search needs
 -- where the last lot below s + 1 is
 top-next : (c : tie.Joined2 Inv-loop μ-loop) → let s = c .before .before .before .before .before .before .before .before .loop .s in
     let l = c .before .before .before .before .before .before .before .before .before .before .args .rec .now in
-    (c .if2 .top ≤ s + 1) × ((y : ℕ) → y < s + 1 → c .if2 .top ≤ y → seated (seatsIn l) y ≡ false)
+    (c .if2 .top ≤ s + 1) × ((y : ℕ) → y < s + 1 → c .if2 .top ≤ y → taken (seatsIn l) y ≡ false)
 top-next c =
     let b = c .before .before .before .before .before .before .before .before in
     let i = b .loop .inv in
@@ -72,7 +72,7 @@ top-next c =
     (λ (f, e). (
       omega (arith, e, i .1),
       λ y h g.
-          none-above _ (b .loop .s) (b .loop .top) (i .4) (sym (c .before .is-seated .ensures) ∙ f .left) y h (omega (arith, e, g)),
+          none-above _ (b .loop .s) (b .loop .top) (i .4) (sym (c .before .is-taken .ensures) ∙ f .left) y h (omega (arith, e, g)),
     ))
     (c .if2 .came)
 
@@ -103,7 +103,7 @@ seats-fit-spec =
     loop-holds
     seat-fits-requires
     returns
-    is-seated-requires
+    is-taken-requires
     add-top
     add-s
     loop-less

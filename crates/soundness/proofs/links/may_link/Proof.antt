@@ -4,6 +4,8 @@ use borrow.Author.Needs.{needs}
 use Rattle.graph.specs.Side.{onSide}
 use Rattle.graph.specs.Side.{sideOfNumber}
 use Rattle.base.proofs.Stops.{and-stop, and-go}
+use Rattle.protocol.proofs.SoundFacts.{seated-held}
+use Rattle.record.specs.Meaning.{seatsIn}
 use Rattle.soundness.proofs.LinkByte.{link-ok}
 use Rattle.soundness.proofs.links.may_link.Statement.{statement}
 use Rattle.soundness.proofs.links.may_link.Tie as tie
@@ -34,7 +36,8 @@ returns c =
     let r = c .before .before .before .before .before .before .before .before in
     let n = r .pre .1 in
     let seated = sym (c .before .before .before .before .before .before .is-seated .ensures) ∙ c .before .before .before .before .before .if1 .taken in
-    let e = ap₂ (onSide (sideOfNumber (r .args .d))) (n (r .args .x) (search needs) (r .pre .4)) (n (r .args .y) (search needs) seated) in
+    let e = ap₂ (onSide (sideOfNumber (r .args .d))) (n (r .args .x) (search needs) (seated-held (seatsIn (r .args .rec .now)) (r .args .x) (r .pre .4)))
+        (n (r .args .y) (search needs) (seated-held (seatsIn (r .args .rec .now)) (r .args .y) seated)) in
     and-go (c .before .before .before .before .before .before .is-seated .ensures) (c .before .before .before .before .before .if1 .taken)
     (and-go (c .before .before .before .before .shares .ensures) (c .before .before .before .if2 .taken) (c .on-side .ensures ∙ e))
     ∙ sym (link-ok _ _ _ _ _ (r .pre .4))
