@@ -18,7 +18,7 @@ use Rattle.graph.specs.Side.{left}
 use Rattle.graph.specs.Vector.{width, shared}
 use Rattle.graph.proofs.Leading.{shared-top}
 use Rattle.base.proofs.Tests.{T-true}
-use Rattle.protocol.specs.State.{member, members}
+use Rattle.protocol.specs.State.{oneComponent, member, members}
 use Rattle.record.specs.Layout.{seats, levels, vectorAt, entryAt}
 use Rattle.record.specs.Meaning.{seatsIn, meaning}
 use Rattle.record.proofs.SeatBytes.{vector-byte}
@@ -88,7 +88,7 @@ module _ (l : List ℕ) (b : AreBytes l) where
 
   module _ (x k i : ℕ) (m : List ℕ) (h : x < seats) (g : k < levels) (a : Marked l (x * levels + k) m) (q : i ≡ placeOf l x k) where
     -- a mark
-    end-found : EndOf l x k ≡ true → getD m i 0 ≢ 0 → false ≡ all x (apart width (members (seatsIn l)) (meaning l .link) k x)
+    end-found : EndOf l x k ≡ true → getD m i 0 ≢ 0 → false ≡ all x (apart width (members oneComponent (seatsIn l)) (meaning l .link) k x)
     unfolding apart
     end-found e ne =
         let (y, j, f, p, t, r) = a .from i ne in
@@ -97,10 +97,10 @@ module _ (l : List ℕ) (b : AreBytes l) where
         let u : EndOf l y k ≡ true = T-true (rw c at t) in
         let v : placeOf l x k ≡ placeOf l y k = sym q ∙ sym r ∙ rw c in
         let s = le-leb k (shared width (seatsIn l .vector x) (seatsIn l .vector y)) (same-list x y k h (omega arith) g .1 v) in
-        let w : false ≡ apart width (members (seatsIn l)) (meaning l .link) k x y = rw (e, u, s) in
-        every-stop x y (apart width (members (seatsIn l)) (meaning l .link) k x) n w refl
+        let w : false ≡ apart width (members oneComponent (seatsIn l)) (meaning l .link) k x y = rw (e, u, s) in
+        every-stop x y (apart width (members oneComponent (seatsIn l)) (meaning l .link) k x) n w refl
 
-    free-apart : getD m i 0 ≡ 0 → (y : ℕ) → y < x → T (apart width (members (seatsIn l)) (meaning l .link) k x y)
+    free-apart : getD m i 0 ≡ 0 → (y : ℕ) → y < x → T (apart width (members oneComponent (seatsIn l)) (meaning l .link) k x y)
     unfolding apart
     free-apart z y p = go (EndOf l x k) (EndOf l y k) (leb k (shared width (seatsIn l .vector x) (seatsIn l .vector y))) (λ t s.
         let r = same-list x y k h (omega arith) g .0 (leb→le k (shared width (seatsIn l .vector x) (seatsIn l .vector y)) s) in
@@ -113,9 +113,9 @@ module _ (l : List ℕ) (b : AreBytes l) where
         go true true true f = f tt tt
 
     -- so the mark tells
-    end-free : EndOf l x k ≡ true → eqb (getD m i 0) 0 ≡ all x (apart width (members (seatsIn l)) (meaning l .link) k x)
+    end-free : EndOf l x k ≡ true → eqb (getD m i 0) 0 ≡ all x (apart width (members oneComponent (seatsIn l)) (meaning l .link) k x)
     end-free e = ⊎-elim
-        (λ z. rw (eq-eqb (getD m i 0) 0 z) (sym (T-true (passes-all x (apart width (members (seatsIn l)) (meaning l .link) k x) (free-apart z)))))
+        (λ z. rw (eq-eqb (getD m i 0) 0 z) (sym (T-true (passes-all x (apart width (members oneComponent (seatsIn l)) (meaning l .link) k x) (free-apart z)))))
         (λ ne. rw (ne-eqb (getD m i 0) 0 ne) (end-found e ne))
         (eq-or-ne (getD m i 0) 0)
 
@@ -130,13 +130,13 @@ module _ (l : List ℕ) (b : AreBytes l) where
           λ z. rw (w, q) (marked-more l x k g m a end (rw q at f)),
         )
 
-    pub left-some : {r : Bool} → y < seats → r ≡ backOf (members (seatsIn l)) (meaning l .link) x k (meaning l .link x k left)
+    pub left-some : {r : Bool} → y < seats → r ≡ backOf (members oneComponent (seatsIn l)) (meaning l .link) x k (meaning l .link x k left)
         → (r ≡ leftOk l x k) × (r ≡ true → Marked l (x * levels + k + 1) m)
     unfolding apart
     left-some n u =
         let end : EndOf l x k ≡ false = rw (ends-byte l x k h g, ← e, lt-leb seats y n) in
-        let none : all x (apart width (members (seatsIn l)) (meaning l .link) k x) ≡ true =
-        T-true (passes-all x (apart width (members (seatsIn l)) (meaning l .link) k x) (λ y i. rw end tt)) in
+        let none : all x (apart width (members oneComponent (seatsIn l)) (meaning l .link) k x) ≡ true =
+        T-true (passes-all x (apart width (members oneComponent (seatsIn l)) (meaning l .link) k x) (λ y i. rw end tt)) in
         (and-last u none, λ z. marked-skip l x k g m a end)
 
 -- no left end where there is no member

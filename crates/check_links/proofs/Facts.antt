@@ -15,7 +15,7 @@ use Rattle.graph.specs.Vector.{width}
 use Rattle.graph.specs.Graph.{IsGraph}
 use Rattle.graph.specs.Constraints.{Constraints, OneList}
 use Rattle.base.proofs.Tests.{T-true, not-T-false}
-use Rattle.protocol.specs.State.{Meaning, nobody, opened, member, members}
+use Rattle.protocol.specs.State.{oneComponent, Meaning, nobody, opened, member, members}
 use Rattle.record.specs.Layout.{seats, size}
 use Rattle.record.specs.Meaning.{seatsIn, meaning, bytesOf}
 use Rattle.record.specs.Sound.{sound}
@@ -31,18 +31,18 @@ use Rattle.check_links.proofs.Whole.{lots-laws}
 
 module _ (l : List ℕ) (e : length l ≡ size) (b : AreBytes l) (s : sound l ≡ true) where
   -- not refused, and the check of search
-  pub check-says : checkIn l ≡ record { refused = 0; yes = check seats width (members (seatsIn l)) (meaning l .link) }
+  pub check-says : checkIn l ≡ record { refused = 0; yes = check seats width (members oneComponent (seatsIn l)) (meaning l .link) }
   unfolding checkIn
   check-says = rw (record-accepted l e s)
 
-  yes-says : checkIn l .yes ≡ check seats width (members (seatsIn l)) (meaning l .link)
+  yes-says : checkIn l .yes ≡ check seats width (members oneComponent (seatsIn l)) (meaning l .link)
   yes-says = ap (λ (a : CheckAnswer). a .yes) check-says
 
-  pub yes-graph : (checkIn l .yes ≡ true) ↔ IsGraph seats width (members (seatsIn l)) (meaning l .link)
+  pub yes-graph : (checkIn l .yes ≡ true) ↔ IsGraph seats width (members oneComponent (seatsIn l)) (meaning l .link)
   yes-graph = rw yes-says (check-graph (lots-laws l e b s .seat))
 
   pub yes-constraints : (checkIn l .yes ≡ true)
-      ↔ (Constraints width (members (seatsIn l)) (meaning l .link) × OneList width (members (seatsIn l)) (meaning l .link))
+      ↔ (Constraints width (members oneComponent (seatsIn l)) (meaning l .link) × OneList width (members oneComponent (seatsIn l)) (meaning l .link))
   yes-constraints = rw yes-says (check-constraints (lots-laws l e b s))
 
   -- a member's link to a lot that is none, as to a leaver while clearing

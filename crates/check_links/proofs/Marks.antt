@@ -11,7 +11,7 @@ use lib.ListN.{getD, set, replicate, length-set, length-replicate}
 use lib.Seq.{getD-set-same, getD-set-other}
 use Rattle.memory.proofs.Zeros.{replicate-zero}
 use Rattle.base.proofs.Tests.{true-T, false-T}
-use Rattle.protocol.specs.State.{members}
+use Rattle.protocol.specs.State.{oneComponent, members}
 use Rattle.record.specs.Layout.{levels}
 use Rattle.record.specs.Meaning.{seatsIn, meaning}
 use Rattle.search.proofs.LocalCheck.{endsAt}
@@ -20,7 +20,7 @@ use Rattle.check_links.specs.inner.Marks.{places, placeOf, Marked}
 module _ (l : List ℕ) where
   -- y is a left end of level j
   abbrev pub EndOf : (y j : ℕ) → Bool
-  EndOf y j = endsAt (members (seatsIn l)) (meaning l .link) j y
+  EndOf y j = endsAt (members oneComponent (seatsIn l)) (meaning l .link) j y
 
   pub marked-none : Marked l 0 (replicate places 0)
   marked-none = record {

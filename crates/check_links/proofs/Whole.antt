@@ -14,7 +14,7 @@ use Rattle.base.proofs.Cases.{lt-or-ge}
 use Rattle.graph.specs.Side.{right}
 use Rattle.graph.specs.Vector.{width}
 use Rattle.graph.specs.Graph.{Laws}
-use Rattle.protocol.specs.State.{seated, members}
+use Rattle.protocol.specs.State.{oneComponent, seated, members}
 use Rattle.protocol.specs.Sound.{Sound}
 use Rattle.protocol.proofs.SoundFacts.{link-linked}
 use Rattle.protocol.proofs.Reached.{members-laws}
@@ -38,11 +38,11 @@ module _ (l : List ℕ) (e : length l ≡ size) (b : AreBytes l) (s : sound l �
   pub bytes-sound : Sound seats width (meaning l)
   bytes-sound = sound-is l e b .0 s .1
 
-  pub lots-laws : Laws seats (members (seatsIn l))
+  pub lots-laws : Laws seats (members oneComponent (seatsIn l))
   unfolding meaning
   lots-laws = members-laws bytes-sound
 
-  links-sided : Sided width (members (seatsIn l)) (meaning l .link)
+  links-sided : Sided width (members oneComponent (seatsIn l)) (meaning l .link)
   unfolding meaning
   links-sided x k y d m h f = let k = link-linked bytes-sound {x = x} {k = k} {d = d} f in (k .1, k .0 .bits)
 
@@ -54,14 +54,14 @@ module _ (l : List ℕ) (e : length l ≡ size) (b : AreBytes l) (s : sound l �
       link-linked bytes-sound {x = x} {k = k} {d = sideOfNumber d} e .0 .two
 
   -- in phase open a right link names a member
-  pub known-open : (x k : ℕ) → x < seats → k < levels → getD l phaseAt 0 ≡ 0 → true ≡ knownOf (members (seatsIn l)) (meaning l .link x k right)
+  pub known-open : (x k : ℕ) → x < seats → k < levels → getD l phaseAt 0 ≡ 0 → true ≡ knownOf (members oneComponent (seatsIn l)) (meaning l .link x k right)
   known-open x k h g z = let y = getD l (entryAt x + 10 + 2 * k + 1) 0 in ⊎-elim
       (λ q. rw (known-some l x k y h g refl q, seated-member l y q (link-seated x k 1 y h g (omega arith) refl q), eq-eqb (getD l phaseAt 0) 0 z))
       (λ q. known-none l x k y h g refl q)
       (lt-or-ge y seats)
 
   -- looking only at neighbours and ends is enough
-  pub local-right : localCheck seats width (members (seatsIn l)) (meaning l .link) ≡ check seats width (members (seatsIn l)) (meaning l .link)
+  pub local-right : localCheck seats width (members oneComponent (seatsIn l)) (meaning l .link) ≡ check seats width (members oneComponent (seatsIn l)) (meaning l .link)
   local-right = local-check lots-laws links-sided (λ x y m n. refl)
 
 -- the answers
@@ -75,11 +75,11 @@ module _ (l : List ℕ) (n : ℕ) (e : n ≡ recordRefusal l) where
   unfolding checkIn answerOf
   refused-answer h = rw (← e, ne-eqb n 0 h) (refused-is n _ h)
 
-  check-answer : n ≡ 0 → answerOf (checkIn l) ≡ verdictOf 0 (check seats width (members (seatsIn l)) (meaning l .link))
+  check-answer : n ≡ 0 → answerOf (checkIn l) ≡ verdictOf 0 (check seats width (members oneComponent (seatsIn l)) (meaning l .link))
   unfolding checkIn answerOf
   check-answer z = rw (← e, eq-eqb n 0 z)
 
   -- from what the test of the links answered
-  pub answer : AreBytes l → n ≡ 0 → {r : Bool} → r ≡ localCheck seats width (members (seatsIn l)) (meaning l .link)
+  pub answer : AreBytes l → n ≡ 0 → {r : Bool} → r ≡ localCheck seats width (members oneComponent (seatsIn l)) (meaning l .link)
       → verdictOf 0 r ≡ answerOf (checkIn l)
   answer b z q = let p = record-passed l e z in ap (verdictOf 0) (q ∙ local-right l (p .sized) b (p .fine)) ∙ sym (check-answer z)

@@ -5,7 +5,7 @@ use mathlib.Core.Bool.{Bool, false, cond}
 use mathlib.Core.List.{List}
 use lib.Dec.{eqb}
 use Rattle.graph.specs.Vector.{width}
-use Rattle.protocol.specs.State.{members}
+use Rattle.protocol.specs.State.{oneComponent, members}
 use Rattle.record.specs.Layout.{seats}
 use Rattle.record.specs.Meaning.{seatsIn, meaning}
 use Rattle.record.specs.Reading.{recordRefusal}
@@ -17,4 +17,4 @@ pub record CheckAnswer : Type 0 where
 
 unfoldable pub checkIn : List ℕ → CheckAnswer
 checkIn l = let n = recordRefusal l in
-    cond (eqb n 0) (record { refused = 0; yes = check seats width (members (seatsIn l)) (meaning l .link) }) (record { refused = n; yes = false })
+    cond (eqb n 0) (record { refused = 0; yes = check seats width (members oneComponent (seatsIn l)) (meaning l .link) }) (record { refused = n; yes = false })

@@ -9,7 +9,7 @@ ghost use lib.Dec.{T, eqb};
 ghost use lib.ListN.{length, getD, set};
 ghost use Rattle.graph.specs.Side.{left, right};
 ghost use Rattle.graph.specs.Vector.{width};
-ghost use Rattle.protocol.specs.State.{seated, member, members};
+ghost use Rattle.protocol.specs.State.{oneComponent, seated, member, members};
 ghost use Rattle.record.specs.Layout.{seats, levels, size};
 ghost use Rattle.record.specs.Meaning.{seatsIn, meaning};
 ghost use Rattle.record.specs.Sound.{sound};
@@ -57,7 +57,7 @@ fn seated_is_member(rec: &[u8], s: usize) -> bool
 // Whether the left link of x at level k is none, or a member whose right link is x. On a sound record it names a seated lot.
 fn back_fits(rec: &[u8], x: usize, k: usize) -> bool
     requires { ⌜ (length (now rec) ≡ size) × (sound (now rec) ≡ true) × (x < seats) × (k < levels) ⌝ }
-    ensures { λ r. ⌜ (let l = now (rec .entry) in r ≡ backOf (members (seatsIn l)) (meaning l .link) x k (meaning l .link x k left)) ⌝ }
+    ensures { λ r. ⌜ (let l = now (rec .entry) in r ≡ backOf (members oneComponent (seatsIn l)) (meaning l .link) x k (meaning l .link x k left)) ⌝ }
 {
     let y = record::link(rec, x, k, LEFT) as usize;
     if y >= SEATS {
@@ -69,7 +69,7 @@ fn back_fits(rec: &[u8], x: usize, k: usize) -> bool
 // Whether the right link of x at level k is none or a member. In phase open that is known of a sound record.
 fn right_fits(rec: &[u8], x: usize, k: usize) -> bool
     requires { ⌜ (length (now rec) ≡ size) × (sound (now rec) ≡ true) × (x < seats) × (k < levels) ⌝ }
-    ensures { λ r. ⌜ (let l = now (rec .entry) in r ≡ knownOf (members (seatsIn l)) (meaning l .link x k right)) ⌝ }
+    ensures { λ r. ⌜ (let l = now (rec .entry) in r ≡ knownOf (members oneComponent (seatsIn l)) (meaning l .link x k right)) ⌝ }
 {
     if record::phase(rec) == 0 {
         return true;
@@ -112,7 +112,7 @@ fn left_fits(rec: &[u8], marks: &mut [u8; PLACES], x: usize, k: usize) -> bool
 fn level_fits(rec: &[u8], marks: &mut [u8; PLACES], x: usize, k: usize) -> bool
     requires { ⌜ (length (now rec) ≡ size) × (sound (now rec) ≡ true) × (x < seats) × (k < levels) × (member (seatsIn (now rec)) x ≡ true)
         × Marked (now rec) (x * levels + k) (now marks) ⌝ }
-    ensures { λ r. ⌜ (let l = now (rec .entry) in (r ≡ levelOk width (members (seatsIn l)) (meaning l .link) x k)
+    ensures { λ r. ⌜ (let l = now (rec .entry) in (r ≡ levelOk width (members oneComponent (seatsIn l)) (meaning l .link) x k)
         × (r ≡ true → Marked l (x * levels + k + 1) (now (marks .exit)))) ⌝ }
 {
     left_fits(rec, marks, x, k) && right_fits(rec, x, k)
@@ -122,7 +122,7 @@ fn level_fits(rec: &[u8], marks: &mut [u8; PLACES], x: usize, k: usize) -> bool
 fn lot_fits(rec: &[u8], marks: &mut [u8; PLACES], x: usize) -> bool
     requires { ⌜ (length (now rec) ≡ size) × (sound (now rec) ≡ true) × (x < seats) × Marked (now rec) (x * levels) (now marks) ⌝ }
     ensures { λ r. ⌜ (let l = now (rec .entry) in
-        (r ≡ not (member (seatsIn l) x) || all levels (levelOk width (members (seatsIn l)) (meaning l .link) x))
+        (r ≡ not (member (seatsIn l) x) || all levels (levelOk width (members oneComponent (seatsIn l)) (meaning l .link) x))
         × (r ≡ true → Marked l ((x + 1) * levels) (now (marks .exit)))) ⌝ }
 {
     if !is_member(rec, x) {
@@ -139,7 +139,7 @@ fn lot_fits(rec: &[u8], marks: &mut [u8; PLACES], x: usize) -> bool
 // The whole test of the links.
 fn links_fit(rec: &[u8]) -> bool
     requires { ⌜ (length (now rec) ≡ size) × (sound (now rec) ≡ true) ⌝ }
-    ensures { λ r. ⌜ (let l = now (rec .entry) in r ≡ localCheck seats width (members (seatsIn l)) (meaning l .link)) ⌝ }
+    ensures { λ r. ⌜ (let l = now (rec .entry) in r ≡ localCheck seats width (members oneComponent (seatsIn l)) (meaning l .link)) ⌝ }
 {
     let mut marks = [0u8; PLACES];
     for x in 0..SEATS {

@@ -1,4 +1,4 @@
--- Find on the bytes (document 01, "Find"): the refusal number, which is that of reading the lot on the start seat (1, 2, 3, 8), or 0; the
+-- Find on the bytes (document 01, "Find"): the refusal number, 1, 2, 3, 8, or 0; the
 -- holder and the hops of the search on the meaning. A refused answer has none and 0. Assumes nothing.
 use Prim.Native.Nat.{ℕ}
 use mathlib.Core.Bool.{cond}
@@ -8,7 +8,7 @@ use lib.Dec.{eqb}
 use Rattle.graph.specs.Vector.{width}
 use Rattle.record.specs.Layout.{seats}
 use Rattle.record.specs.Meaning.{seatsIn, meaning}
-use Rattle.record.specs.Reading.{lotRefusal}
+use Rattle.record.specs.Reading.{seatedRefusal}
 use Rattle.search.specs.Walk.{find}
 
 pub record FindAnswer : Type 0 where
@@ -19,6 +19,6 @@ pub record FindAnswer : Type 0 where
 -- the search for x from the lot on seat s
 unfoldable pub findIn : List ℕ → (s x : ℕ) → FindAnswer
 findIn l s x =
-    let n = lotRefusal l s in
+    let n = seatedRefusal l s in
     let f = find (seatsIn l .number) (meaning l .link) x seats width s in
     cond (eqb n 0) (record { refused = 0; holder = f .holder; hops = f .hops }) (record { refused = n; holder = none; hops = 0 })

@@ -152,7 +152,7 @@ fn search(rec: &[u8], s: usize, x: u64) -> Found
 pub fn find(rec: &[u8], seat: u8, number: u64) -> Found
     ensures { λ r. ⌜ r ≡ answerOf (findIn (now (rec .entry)) seat number) ⌝ }
 {
-    let n = reading::lot_refusal(rec, seat);
+    let n = reading::seated_refusal(rec, seat);
     if n != 0 {
         return Found::Refused(n);
     }

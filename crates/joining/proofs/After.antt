@@ -42,7 +42,7 @@ module _ {l : List ℕ} {s n v c : ℕ} (a : Accepted l (join s n v c)) where
     where
       free : T (isFree (meaning l .seats .state s))
       free =
-          true-T (not-false (isFree (meaning l .seats .state s)) (join-rows seats width (meaning l .seats) (meaning l .pending) s n v c (a .row) .empty))
+          true-T (not-false (isFree (meaning l .seats .state s)) (join-rows seats width (meaning l .seats) (meaning l .pending) s n v c (a .row) .free))
 
   pub join-alone : seats ≤ c → bytesOf (accept seats width (meaning l) (join s n v c)) ≡ withLotBytes l s n v
   unfolding accept seatsAfter linksAfter sends takes

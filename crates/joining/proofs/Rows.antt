@@ -1,21 +1,12 @@
 -- Rows of the table, one by one: r is what a test answered, b what its row asks. Assumes nothing.
 use Prim.Native.Nat.{ℕ}
-use mathlib.Core.Path.{_≡_, refl}
-use mathlib.Core.Bool.{Bool, true, false}
-use mathlib.Core.List.{List, [], _∷_}
-use Rattle.protocol.specs.Refusals.{Row, row, first}
+use mathlib.Core.Path.{_≡_}
+use mathlib.Core.Bool.{Bool, true, false, cond}
 
 -- the row applies
-pub row-here : {r b : Bool} (n : ℕ) (rs : List Row) → r ≡ b → r ≡ true → n ≡ first (row n b ∷ rs)
-unfolding first
-row-here n rs e t = rw (← e, t)
+pub row-here : {r b : Bool} (n rest : ℕ) → r ≡ b → r ≡ true → n ≡ cond b n rest
+row-here n rest e t = rw (← e, t)
 
 -- it does not, and the rows after it give m
-pub row-next : {r b : Bool} {m : ℕ} (n : ℕ) (rs : List Row) → r ≡ b → r ≡ false → m ≡ first rs → m ≡ first (row n b ∷ rs)
-unfolding first
-row-next n rs e f h = rw (← e, f) h
-
--- no row is left
-pub row-end : 0 ≡ first []
-unfolding first
-row-end = refl
+pub row-next : {r b : Bool} {m rest : ℕ} (n : ℕ) → r ≡ b → r ≡ false → m ≡ rest → m ≡ cond b n rest
+row-next n e f h = rw (← e, f) h

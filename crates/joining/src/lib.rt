@@ -11,7 +11,7 @@ ghost use Rattle.graph.specs.Vector.{width};
 ghost use Rattle.protocol.specs.Message.{meet};
 ghost use Rattle.base.specs.Loops.{any};
 ghost use Rattle.protocol.specs.Numbering.{place};
-ghost use Rattle.protocol.specs.State.{isFree, seated};
+ghost use Rattle.protocol.specs.State.{taken, seated, empty};
 ghost use Rattle.protocol.specs.Calls.{join as joining, leave as leaving, refusal};
 ghost use Rattle.protocol.specs.pages.Join.{nobodyToContact};
 ghost use Rattle.protocol.specs.Calls.{accept};
@@ -28,6 +28,7 @@ use record::STAYING;
 use record::lots::is_clearing;
 use record::lots::is_leaving;
 use record::lots::is_seated;
+use record::lots::is_taken;
 use record::refusals::ALREADY_LEAVING;
 use record::refusals::CLEARING;
 use record::refusals::EMPTY_SEAT;
@@ -50,18 +51,18 @@ fn any_seated(rec: &[u8]) -> bool
     false
 }
 
-// Whether a lot with the number n sits on seat s.
+// Whether seat s is taken, with the number n.
 fn is_numbered(rec: &[u8], s: usize, n: u64) -> bool
     requires { ⌜ (length (now rec) ≡ size) × (s < seats) ⌝ }
-    ensures { λ r. ⌜ r ≡ seated (seatsIn (now (rec .entry))) s && eqb (seatsIn (now (rec .entry)) .number s) n ⌝ }
+    ensures { λ r. ⌜ r ≡ taken (seatsIn (now (rec .entry))) s && eqb (seatsIn (now (rec .entry)) .number s) n ⌝ }
 {
-    is_seated(rec, s) && record::number(rec, s) == n
+    is_taken(rec, s) && record::number(rec, s) == n
 }
 
-// Whether some seated lot has the number n.
+// Whether some taken seat has the number n.
 fn has_number(rec: &[u8], n: u64) -> bool
     requires { ⌜ length (now rec) ≡ size ⌝ }
-    ensures { λ r. ⌜ r ≡ any seats (λ x. seated (seatsIn (now (rec .entry))) x && eqb (seatsIn (now (rec .entry)) .number x) n) ⌝ }
+    ensures { λ r. ⌜ r ≡ any seats (λ x. taken (seatsIn (now (rec .entry))) x && eqb (seatsIn (now (rec .entry)) .number x) n) ⌝ }
 {
     for s in 0..SEATS {
         if is_numbered(rec, s, n) {
@@ -71,11 +72,11 @@ fn has_number(rec: &[u8], n: u64) -> bool
     false
 }
 
-// Whether a contact is a free seat, or none while lots are seated.
+// Whether a contact is a seat without a lot, or none while lots are seated.
 fn lacks_contact(rec: &[u8], contact: usize) -> bool
     requires { ⌜ length (now rec) ≡ size ⌝ }
     ensures { λ r. ⌜ r ≡ cond (not (ltb contact seats)) (any seats (seated (seatsIn (now (rec .entry)))))
-        (isFree (seatsIn (now (rec .entry)) .state contact)) ⌝ }
+        (empty (seatsIn (now (rec .entry))) contact) ⌝ }
 {
     if contact < SEATS {
         return !is_seated(rec, contact);
@@ -85,7 +86,7 @@ fn lacks_contact(rec: &[u8], contact: usize) -> bool
 
 // Whether a join names a seat or a contact that does not exist.
 fn lacks_seat(seat: usize, contact: usize) -> bool
-    ensures { λ r. ⌜ r ≡ not (ltb seat seats) || (not (ltb contact seats) && not (eqb contact noContact)) ⌝ }
+    ensures { λ r. ⌜ r ≡ not (ltb seat seats) || (not (ltb contact seats) && not (eqb contact nobodyToContact)) ⌝ }
 {
     seat >= SEATS || (contact >= SEATS && contact != NONE as usize)
 }
@@ -102,7 +103,7 @@ fn join_row(rec: &[u8], seat: usize, number: u64, contact: usize) -> u8
     if is_clearing(rec) {
         return CLEARING;
     }
-    if is_seated(rec, seat) {
+    if is_taken(rec, seat) {
         return SEAT_TAKEN;
     }
     if has_number(rec, number) {

@@ -11,14 +11,14 @@ use borrow.Author.Tests.{ne-eqb}
 use Rattle.base.specs.Loops.{oneIf}
 use Rattle.protocol.specs.Message.{Name, named}
 use Rattle.protocol.specs.State.{isPending}
-use Rattle.protocol.specs.State.{members}
+use Rattle.protocol.specs.State.{oneComponent, members}
 use Rattle.graph.specs.Vector.{width}
 use Rattle.search.specs.Check.{check}
 use Rattle.record.specs.Layout.{seats, noLink}
 use Rattle.record.specs.Meaning.{linkByte, seatsIn, meaning}
 use Rattle.record.specs.Reading.{LotAnswer, LinkAnswer, MessageAnswer, CountAnswer}
 use Rattle.record.specs.Reading.{readLot, readLink, readMessage, readCounts, lotRefusal, linkRefusal, recordRefusal, openRefusal, openBytes}
-use Rattle.record.specs.Call.{Called}
+use Rattle.protocol.specs.Calls.{Outcome}
 use Rattle.record.specs.Answer.{Reply, reply, answerOf, replyOf}
 use Rattle.reading.specs.Answer.{lotOf, lotAnswered, linkOf, linkAnswered, messageOf, messageAnswered, countsOf, countsAnswered}
 use Rattle.reading.specs.declared.LotRead.{LotRead}
@@ -51,8 +51,8 @@ number-answer zero = refl
 number-answer (suc n) = refl
 
 -- n is the number of what was told
-pub outcome-number : {t : Reply} {n : ℕ} (o : Called) → t ≡ replyOf o → n ≡ answerNumber (t .answer)
-    → record { refused = n; bytes = t .bytes } ≡ o
+pub outcome-number : {t : Reply} {n : ℕ} (o : Outcome (List ℕ)) → t ≡ replyOf o → n ≡ answerNumber (t .answer)
+    → record { refused = n; after = t .bytes } ≡ o
 unfolding replyOf
 outcome-number o e q = rw (q, e, number-answer (o .refused))
 
@@ -154,5 +154,5 @@ unfolding check_links.answerOf verdictOf checkIn checkNumbers
 verdict-numbers l e = ap verdictNumbers e ∙ by (recordRefusal l) refl
   where
     by : (n : ℕ) → recordRefusal l ≡ n → verdictNumbers (check_links.answerOf (checkIn l)) ≡ checkNumbers (checkIn l)
-    by zero q = rw q (verdict-of (check seats width (members (seatsIn l)) (meaning l .link)))
+    by zero q = rw q (verdict-of (check seats width (members oneComponent (seatsIn l)) (meaning l .link)))
     by (suc n) q = rw (q, not-zero n)

@@ -39,7 +39,7 @@ pub extern "C" fn lots_open(rec: &mut [u8]) -> u8
 // Seats a lot. Refused: 1, 2, 3, 7, 4, 5, 6.
 #[no_mangle]
 pub extern "C" fn lots_join(rec: &mut [u8], seat: u8, number: u64, vector: u8, contact: u8) -> u8
-    ensures { λ r. ⌜ record { refused = r; bytes = now (rec .exit) } ≡ called (now (rec .entry)) (joining seat number vector contact) ⌝ }
+    ensures { λ r. ⌜ record { refused = r; after = now (rec .exit) } ≡ called (now (rec .entry)) (joining seat number vector contact) ⌝ }
 {
     number_of(joining::join(rec, seat, number, vector, contact))
 }
@@ -47,7 +47,7 @@ pub extern "C" fn lots_join(rec: &mut [u8], seat: u8, number: u64, vector: u8, c
 // Marks a lot as leaving. Refused: 1, 2, 3, 7, 8, 9.
 #[no_mangle]
 pub extern "C" fn lots_leave(rec: &mut [u8], seat: u8) -> u8
-    ensures { λ r. ⌜ record { refused = r; bytes = now (rec .exit) } ≡ called (now (rec .entry)) (leaving seat) ⌝ }
+    ensures { λ r. ⌜ record { refused = r; after = now (rec .exit) } ≡ called (now (rec .entry)) (leaving seat) ⌝ }
 {
     number_of(joining::leave(rec, seat))
 }
@@ -62,7 +62,7 @@ pub extern "C" fn lots_deliver(
     level: u8,
     side: u8,
 ) -> u8
-    ensures { λ r. ⌜ record { refused = r; bytes = now (rec .exit) } ≡ called (now (rec .entry)) (delivering (name kind to about level side)) ⌝ }
+    ensures { λ r. ⌜ record { refused = r; after = now (rec .exit) } ≡ called (now (rec .entry)) (delivering (name kind to about level side)) ⌝ }
 {
     number_of(delivery::deliver(rec, kind, to, about, level, side))
 }
@@ -70,7 +70,7 @@ pub extern "C" fn lots_deliver(
 // Goes on from open with leavers to clearing, and from clearing to open. Refused: 1, 2, 11.
 #[no_mangle]
 pub extern "C" fn lots_turn(rec: &mut [u8]) -> u8
-    ensures { λ r. ⌜ record { refused = r; bytes = now (rec .exit) } ≡ called (now (rec .entry)) turning ⌝ }
+    ensures { λ r. ⌜ record { refused = r; after = now (rec .exit) } ≡ called (now (rec .entry)) turning ⌝ }
 {
     number_of(clearing::turn(rec))
 }

@@ -10,7 +10,7 @@ use borrow.Author.Tests.{lt-ltb, eq-eqb}
 use Rattle.graph.specs.Vector.{width}
 use Rattle.graph.specs.Graph.{IsGraph}
 use Rattle.base.proofs.Tests.{not-T-false}
-use Rattle.protocol.specs.State.{open-phase, Seats, Meaning, isFree, seated, member, members}
+use Rattle.protocol.specs.State.{oneComponent, open-phase, Seats, Meaning, isFree, seated, member, members}
 use Rattle.protocol.specs.Calls.{Call}
 use Rattle.protocol.specs.Refusals.{first}
 use Rattle.protocol.specs.Sound.{Sound}
@@ -42,7 +42,7 @@ module _ (M : Meaning) (h : Sound seats width M) where
   seats-bytes : seatsIn (bytesOf M) ≡ M .seats
   seats-bytes = sym (meaning-seats (bytesOf M)) ∙ ap (λ (X : Meaning). X .seats) (meaning-bytes h)
 
-  check-bytes : checkIn (bytesOf M) ≡ record { refused = 0; yes = check seats width (members (M .seats)) (M .link) }
+  check-bytes : checkIn (bytesOf M) ≡ record { refused = 0; yes = check seats width (members oneComponent (M .seats)) (M .link) }
   unfolding checkIn recordRefusal first
   check-bytes = rw (eq-eqb (length (bytesOf M)) size (length-bytesOf M), bytes-sound h, seats-bytes, meaning-bytes h)
 
@@ -63,7 +63,7 @@ module _ (l : List ℕ) (e : openRefusal l ≡ 0) (cs : List Call) (r : AllInRan
   D : protocol.Demand3 seats width (measure.bound seats width) (protocol.run seats width cs)
   D = protocol-theorem.every-list seats width cs r
 
-  right : IsGraph seats width (members (M .seats)) (M .link)
+  right : IsGraph seats width (members oneComponent (M .seats)) (M .link)
   right = rw (D .lots) (D .graph (subst (NothingPending seats width) (both .history) q))
 
   pub checked : checkIn (run l cs .now) ≡ record { refused = 0; yes = true }

@@ -16,7 +16,7 @@ use Rattle.graph.specs.Graph.{graph, IsGraph}
 use Rattle.base.proofs.Tests.{not-T-false}
 use Rattle.graph.specs.Side.{sideNumber}
 use Rattle.protocol.specs.Message.{Msg, named}
-use Rattle.protocol.specs.State.{Seats, Meaning, isFree, seated, member, members}
+use Rattle.protocol.specs.State.{oneComponent, Seats, Meaning, isFree, seated, member, members}
 use Rattle.protocol.specs.Calls.{Call}
 use Rattle.protocol.specs.Refusals.{first}
 use Rattle.protocol.specs.State.{isPending}
@@ -86,9 +86,9 @@ carried s t h D = record {
 
     linked : NothingPending seats width (meant (s .history)) → (x k : ℕ) (d : Side) → T (member (rosterOf seats width (logOf (meant (s .history)))) x)
         → k < levels
-        → t .now .link x k d ≡ graph seats width (members (rosterOf seats width (logOf (meant (s .history))))) x k d
+        → t .now .link x k d ≡ graph seats width (members oneComponent (rosterOf seats width (logOf (meant (s .history))))) x k d
     linked q x k d m p =
-        subst (λ (es : List protocol.Event). NothingPending seats width es → IsGraph seats width (members (rosterOf seats width (logOf es))) (t .now .link))
+        subst (λ (es : List protocol.Event). NothingPending seats width es → IsGraph seats width (members oneComponent (rosterOf seats width (logOf es))) (t .now .link))
         (sym (h .history)) (D .graph) q
         .link x k d m (omega arith)
 

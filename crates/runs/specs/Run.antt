@@ -13,7 +13,7 @@ use Rattle.graph.specs.Vector.{width}
 use Rattle.graph.specs.Graph.{graph}
 use Rattle.graph.specs.Side.{sideNumber}
 use Rattle.protocol.specs.Message.{Name, named}
-use Rattle.protocol.specs.State.{Seats, isFree, seated, member, members}
+use Rattle.protocol.specs.State.{oneComponent, Seats, isFree, seated, member, members}
 use Rattle.protocol.specs.Calls.{Call, deliver}
 use Rattle.protocol.specs.State.{isPending}
 use Rattle.protocol.specs.Calls.{unlessRefused}
@@ -78,6 +78,6 @@ pub record Demand3 (bound : List ℕ → ℕ) (s : Standing) : Type 0 where
   pub none-left : (readCounts (s .now) .pending ≡ 0) ↔ NothingPending seats width (meant (s .history))
   -- with none pending, each link of each member reads as in the graph of the members
   pub links : NothingPending seats width (meant (s .history)) → (x k : ℕ) (d : Side) → T (member (roster (s .history)) x) → k < levels
-      → readLink (s .now) x k (sideNumber d) ≡ record { refused = 0; seat = linkByte (graph seats width (members (roster (s .history))) x k d) }
+      → readLink (s .now) x k (sideNumber d) ≡ record { refused = 0; seat = linkByte (graph seats width (members oneComponent (roster (s .history))) x k d) }
   -- no list of deliveries from here has more accepted ones
   pub ends : (ns : List Name) → accepted (s .now) ns ≤ bound (s .now)

@@ -3,7 +3,7 @@ use Prim.Native.Nat.{_*_, _≤_, _-_}
 use mathlib.Core.Path.{_≡_}
 use mathlib.Core.Bool.{true, not, _||_}
 use Rattle.graph.specs.Vector.{width}
-use Rattle.protocol.specs.State.{member, members}
+use Rattle.protocol.specs.State.{oneComponent, member, members}
 use Rattle.record.specs.Layout.{seats, levels}
 use Rattle.record.specs.Meaning.{seatsIn, meaning}
 use Rattle.base.specs.Loops.{all}
@@ -17,7 +17,7 @@ use Rattle.check_links.proofs.links_fit.Tie as tie
 
 abbrev Inv-loop : tie.InvT-loop
 Inv-loop rec marks₀ x₀ marks x = (x ≤ seats)
-    × (all x (λ i. not (member (seatsIn rec) i) || all levels (levelOk width (members (seatsIn rec)) (meaning rec .link) i)) ≡ true)
+    × (all x (λ i. not (member (seatsIn rec) i) || all levels (levelOk width (members oneComponent (seatsIn rec)) (meaning rec .link) i)) ≡ true)
     × Marked rec (x * levels) marks
 
 abbrev μ-loop : tie.MeasureT-loop

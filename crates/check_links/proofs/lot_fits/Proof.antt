@@ -5,7 +5,7 @@ use mathlib.Core.Bool.{true}
 use native.Mathlib.Omega.{arith}
 use Rattle.graph.specs.Vector.{width}
 use Rattle.base.proofs.Tests.{true-false}
-use Rattle.protocol.specs.State.{members}
+use Rattle.protocol.specs.State.{oneComponent, members}
 use Rattle.record.specs.Layout.{levels}
 use Rattle.record.specs.Meaning.{seatsIn, meaning}
 use Rattle.base.specs.Loops.{all}
@@ -20,7 +20,7 @@ use Rattle.check_links.proofs.lot_fits.Tie as tie
 
 abbrev Inv-loop : tie.InvT-loop
 Inv-loop rec marks₀ x k₀ marks k =
-    (k ≤ levels) × (all k (levelOk width (members (seatsIn rec)) (meaning rec .link) x) ≡ true) × Marked rec (x * levels + k) marks
+    (k ≤ levels) × (all k (levelOk width (members oneComponent (seatsIn rec)) (meaning rec .link) x) ≡ true) × Marked rec (x * levels + k) marks
 
 abbrev μ-loop : tie.MeasureT-loop
 μ-loop rec marks₀ x k₀ marks k = levels - k

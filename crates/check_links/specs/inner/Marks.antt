@@ -8,7 +8,7 @@ use lib.Dec.{T}
 use lib.ListN.{length, getD}
 use Rattle.graph.specs.Side.{left}
 use Rattle.graph.specs.Vector.{width}
-use Rattle.protocol.specs.State.{members}
+use Rattle.protocol.specs.State.{oneComponent, members}
 use Rattle.record.specs.Layout.{levels}
 use Rattle.record.specs.Meaning.{seatsIn, meaning}
 use Rattle.base.specs.Loops.{all}
@@ -25,12 +25,12 @@ module _ (l : List ℕ) where
 
   -- the test of x at level k on the left
   abbrev pub leftOk : (x k : ℕ) → Bool
-  leftOk x k = backOf (members (seatsIn l)) (meaning l .link) x k (meaning l .link x k left)
-      && all x (apart width (members (seatsIn l)) (meaning l .link) k x)
+  leftOk x k = backOf (members oneComponent (seatsIn l)) (meaning l .link) x k (meaning l .link x k left)
+      && all x (apart width (members oneComponent (seatsIn l)) (meaning l .link) k x)
 
   -- m marks the lists of the first n lots and levels, lot by lot, and no others
   pub record Marked (n : ℕ) (m : List ℕ) : Type 0 where
     pub sized : length m ≡ places
-    pub put : (y j : ℕ) → j < levels → y * levels + j < n → T (endsAt (members (seatsIn l)) (meaning l .link) j y) → getD m (placeOf y j) 0 ≢ 0
+    pub put : (y j : ℕ) → j < levels → y * levels + j < n → T (endsAt (members oneComponent (seatsIn l)) (meaning l .link) j y) → getD m (placeOf y j) 0 ≢ 0
     pub from : (i : ℕ) → getD m i 0 ≢ 0
-        → (y : ℕ) × (j : ℕ) × (j < levels) × (y * levels + j < n) × T (endsAt (members (seatsIn l)) (meaning l .link) j y) × (placeOf y j ≡ i)
+        → (y : ℕ) × (j : ℕ) × (j < levels) × (y * levels + j < n) × T (endsAt (members oneComponent (seatsIn l)) (meaning l .link) j y) × (placeOf y j ≡ i)

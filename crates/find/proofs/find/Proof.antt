@@ -9,9 +9,9 @@ use borrow.Author.Tests.{ne-eqb}
 use Rattle.graph.specs.Vector.{width}
 use Rattle.record.specs.Layout.{seats}
 use Rattle.record.specs.Meaning.{seatsIn, meaning}
-use Rattle.record.specs.Reading.{lotRefusal}
+use Rattle.record.specs.Reading.{seatedRefusal}
 use Rattle.search.specs.Walk.{find}
-use Rattle.reading.proofs.Refusals.{lot-passed}
+use Rattle.reading.proofs.Refusals.{seated-passed}
 use Rattle.find.specs.declared.Found.the-variants.{Refused}
 use Rattle.find.specs.Find.{findIn}
 use Rattle.find.specs.Answer.{heldOf, foundOf, answerOf}
@@ -21,36 +21,36 @@ use Rattle.find.proofs.find.Tie as tie
 use Rattle.find.proofs.find.Reads as reads
 use Rattle.find.proofs.find.Lts as lts
 use Rattle.find.proofs.search.Reads as search-reads
-use Rattle.reading.proofs.lot_refusal.Reads as lot-refusal-reads
+use Rattle.reading.proofs.seated_refusal.Reads as seated-refusal-reads
 
-refusing : (l : List ℕ) (s x n : ℕ) → lotRefusal l s ≡ n → n ≢ 0 → Refused n ≡ answerOf (findIn l s x)
+refusing : (l : List ℕ) (s x n : ℕ) → seatedRefusal l s ≡ n → n ≢ 0 → Refused n ≡ answerOf (findIn l s x)
 unfolding findIn answerOf foundOf
 refusing l s x zero e h = absurd (h refl)
 refusing l s x (suc n) e h = rw (e, ne-eqb (suc n) 0 h)
 
-accepting : (l : List ℕ) (s x : ℕ) → lotRefusal l s ≡ 0
+accepting : (l : List ℕ) (s x : ℕ) → seatedRefusal l s ≡ 0
     → heldOf (find (seatsIn l .number) (meaning l .link) x seats width s) ≡ answerOf (findIn l s x)
 unfolding findIn answerOf foundOf
 accepting l s x e = rw e
 
-lot-refusal-requires : tie.Need-lot-refusal-requires
-lot-refusal-requires c κs = search needs
+seated-refusal-requires : tie.Need-seated-refusal-requires
+seated-refusal-requires c κs = search needs
 
 returns : tie.Need-returns
 returns c = let b = c .before .before .before in
-    let e = c .before .lot-refusal .ensures in
-    refusing (b .args .rec .now) (b .args .seat) (b .args .number) (c .before .lot-refusal .result) (sym e) (c .if1 .taken)
+    let e = c .before .seated-refusal .ensures in
+    refusing (b .args .rec .now) (b .args .seat) (b .args .number) (c .before .seated-refusal .result) (sym e) (c .if1 .taken)
 
 search-requires : tie.Need-search-requires
 search-requires c κs = let b = c .before .before .before in
     let l = b .args .rec .now in
-    let p = lot-passed l (b .args .seat) (c .before .lot-refusal .ensures) (c .if1 .left) in
+    let p = seated-passed l (b .args .seat) (c .before .seated-refusal .ensures) (c .if1 .left) in
     (sound-fit l (p .accepted .sized) (λ j. omega (arith, c .before .before .shared-slice-known .given j)) (p .accepted .fine), p .lot)
 
 returns-2 : tie.Need-returns-2
 returns-2 c = let b = c .before .before .before .before in
-    let e = sym (c .before .before .lot-refusal .ensures) ∙ c .before .if1 .left in
+    let e = sym (c .before .before .seated-refusal .ensures) ∙ c .before .if1 .left in
     c .search .ensures ∙ accepting (b .args .rec .now) (b .args .seat) (b .args .number) e
 
 pub find-spec : {M : Type 1} → statement M
-find-spec = tie.close (tie.spec lot-refusal-requires returns search-requires returns-2)
+find-spec = tie.close (tie.spec seated-refusal-requires returns search-requires returns-2)

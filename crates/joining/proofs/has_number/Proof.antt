@@ -7,16 +7,16 @@ use mathlib.Core.List.{List}
 use lib.Dec.{eqb}
 use borrow.Author.Needs.{needs}
 use Rattle.base.specs.Loops.{any}
-use Rattle.protocol.specs.State.{seated}
+use Rattle.protocol.specs.State.{taken}
 use Rattle.record.specs.Layout.{seats}
 use Rattle.record.specs.Meaning.{seatsIn}
 use Rattle.base.proofs.Any.{any-start, any-more, any-here}
 use Rattle.joining.proofs.has_number.Statement.{statement}
 use Rattle.joining.proofs.has_number.Tie as tie
 
--- a lot with the number n sits on seat x
+-- seat x is taken, with the number n
 abbrev numbered : (l : List ℕ) (n x : ℕ) → Bool
-numbered l n x = seated (seatsIn l) x && eqb (seatsIn l .number x) n
+numbered l n x = taken (seatsIn l) x && eqb (seatsIn l .number x) n
 
 abbrev Inv-loop : tie.InvT-loop
 Inv-loop rec n s₀ s = (s ≤ seats) × (any s (numbered rec n) ≡ false)

@@ -1,7 +1,6 @@
 -- `joining::lacks_contact` meets its contract. Assumes nothing.
 use borrow.Author.Needs.{needs}
 use borrow.Author.Tests.{lt-ltb, le-ltb}
-use Rattle.base.proofs.Cases.{not-not}
 use Rattle.joining.proofs.lacks_contact.Statement.{statement}
 use Rattle.joining.proofs.lacks_contact.Tie as tie
 
@@ -9,7 +8,7 @@ is-seated-requires : tie.Need-is-seated-requires
 is-seated-requires c κs = search needs
 
 returns : tie.Need-returns
-returns c = rw (lt-ltb _ _ (c .before .if1 .taken), c .is-seated .ensures, not-not)
+returns c = rw (lt-ltb _ _ (c .before .if1 .taken), c .is-seated .ensures)
 
 any-seated-requires : tie.Need-any-seated-requires
 any-seated-requires c κs = search needs

@@ -3,6 +3,7 @@ use mathlib.Core.Path.{sym, _∙_}
 use borrow.Author.Needs.{needs}
 use borrow.Author.Tests.{not-true, not-false}
 use Rattle.protocol.proofs.SoundFacts.{empty-free}
+use Rattle.record.specs.Meaning.{seatsIn}
 use Rattle.soundness.proofs.LinkByte.{free-links}
 use Rattle.soundness.proofs.links.seat_fits.Statement.{statement}
 use Rattle.soundness.proofs.links.seat_fits.Tie as tie
@@ -13,7 +14,7 @@ is-seated-requires c κs = search needs
 returns : tie.Need-returns
 returns c =
     let r = c .before .before .before in
-    free-links _ _ (r .pre .3) (r .pre .2) (empty-free _ _ (sym (c .before .is-seated .ensures) ∙ not-true _ (c .if1 .taken)))
+    free-links _ _ (r .pre .3) (r .pre .2) (empty-free (seatsIn (r .args .rec .now)) (r .args .x) (sym (c .before .is-seated .ensures) ∙ not-true _ (c .if1 .taken)))
 
 lot-fits-requires : tie.Need-lot-fits-requires
 lot-fits-requires c κs =
