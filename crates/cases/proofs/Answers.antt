@@ -3,34 +3,35 @@ use Prim.Native.Nat.{ℕ, suc, _^_}
 use mathlib.Core.Path.{_≡_, sym, ap, _∙_, subst}
 use mathlib.Core.Bool.{Bool, true, false, _&&_}
 use mathlib.Core.List.{List, [], _∷_}
-use lib.Dec.{T, ltb, ltb→lt, T-not}
+use lib.Dec.{T, ltb, ltb→lt}
 use lib.ListN.{length}
 use borrow.Author.Tests.{eq-eqb, lt-ltb}
 use Rattle.base.specs.Loops.{count}
 use Rattle.graph.specs.Side.{Side, left, right}
 use Rattle.graph.specs.Vector.{width}
-use Rattle.base.proofs.Tests.{and-fst, and-snd, not-T-false}
+use Rattle.base.proofs.Tests.{T-true, and-fst, and-snd}
 use Rattle.graph.specs.Side.{sideNumber}
 use Rattle.protocol.specs.Message.{Msg, among}
 use Rattle.protocol.specs.Numbering.{somePending}
-use Rattle.protocol.specs.State.{open-phase, Meaning, isFree, seated}
-use Rattle.protocol.specs.Calls.{Call, join, leave, deliver, turn}
+use Rattle.protocol.specs.State.{open-phase, Meaning, seated}
+use Rattle.protocol.specs.Calls.{Call, join, leave, deliver, turn, Outcome}
 use Rattle.protocol.specs.Refusals.{first}
 use Rattle.protocol.specs.Sound.{Sound, numberBits}
 use Rattle.protocol.specs.Run.{logOf, AllInRange}
+use Rattle.protocol.proofs.SoundFacts.{seated-below}
 use Rattle.protocol.proofs.Numbering.{pending-none}
 use Rattle.record.specs.Layout.{seats, levels, size}
 use Rattle.record.specs.Meaning.{seatsIn, bytesOf, phaseByte, linkByte}
-use Rattle.record.specs.Reading.{lotRefusal, openRefusal, readLot, readLink, readMessage, readCounts}
+use Rattle.record.specs.Reading.{seatedRefusal, openRefusal, readLot, readLink, readMessage, readCounts}
 use Rattle.record.proofs.Places.{length-bytesOf}
 use Rattle.record.proofs.Form.{meaning-seats}
 use Rattle.record.proofs.Round.{meaning-bytes}
 use Rattle.record.proofs.Sound.{bytes-sound}
-use Rattle.record.specs.Call.{Called, called}
+use Rattle.record.specs.Call.{called}
 use Rattle.record.proofs.Call.{call-bytes, refused-same}
 use Rattle.search.specs.Walk.{find}
 use Rattle.find.specs.Find.{findIn}
-use Rattle.runs.specs.Run.{run, lotOf}
+use Rattle.runs.specs.Run.{bytesRun, lotOf}
 use Rattle.runs.specs.Run as runs
 use Rattle.runs.proofs.Readings.{countsOf, read-lot, read-link, read-message, read-counts, count-none}
 use Rattle.cases.proofs.View.{View, meant, viewRefusal, viewCall, view-call}
@@ -64,10 +65,10 @@ module _ (M : Meaning) (h : Sound seats width M) where
 
   find-bytes : (s x : ℕ) → T (seated (M .seats) s)
       → findIn (bytesOf M) s x ≡ (let f = find (M .seats .number) (M .link) x seats width s in record { refused = 0; holder = f .holder; hops = f .hops })
-  unfolding findIn lotRefusal first
+  unfolding findIn seatedRefusal first
   find-bytes s x m =
-      let f : isFree (M .seats .state s) ≡ false = not-T-false (T-not (isFree (M .seats .state s)) m) in
-      rw (eq-eqb (length (bytesOf M)) size (length-bytesOf M), bytes-sound h, lt-ltb s seats (h .seats s m), seats-bytes, f, meaning-bytes h)
+      let f : seated (M .seats) s ≡ true = T-true m in
+      rw (eq-eqb (length (bytesOf M)) size (length-bytesOf M), bytes-sound h, lt-ltb s seats (seated-below h s m), seats-bytes, f, meaning-bytes h)
 
 module _ (l : List ℕ) (e : openRefusal l ≡ 0) (cs : List Call) (t : T (fits cs)) where
   abbrev v : View
@@ -76,51 +77,51 @@ module _ (l : List ℕ) (e : openRefusal l ≡ 0) (cs : List Call) (t : T (fits 
   h : Sound seats width (meant (seen cs .view))
   h = seen-sound l e cs (fits-in cs t)
 
-  at : {A : Type 0} (f : List ℕ → A) → f (run l cs .now) ≡ f (bytesOf (meant (seen cs .view)))
+  at : {A : Type 0} (f : List ℕ → A) → f (bytesRun l cs .now) ≡ f (bytesOf (meant (seen cs .view)))
   at f = ap f (seen-bytes l e cs (fits-in cs t))
 
-  made-seen : (c : Call) → called (run l cs .now) c ≡ record { refused = viewRefusal v c; bytes = bytesOf (meant (viewCall v c)) }
-  made-seen c =
+  call-seen : (c : Call) → called (bytesRun l cs .now) c ≡ record { refused = viewRefusal v c; after = bytesOf (meant (viewCall v c)) }
+  call-seen c =
       at (λ b. called b c) ∙ call-bytes (meant v) h c
-      ∙ λ i. record { refused = view-call v h c i .refused; bytes = bytesOf (view-call v h c i .meaning) }
+      ∙ λ i. record { refused = view-call v h c i .refused; after = bytesOf (view-call v h c i .after) }
 
   -- a refused call leaves every byte
-  pub refused-seen : (c : Call) (n : ℕ) → viewRefusal v c ≡ suc n → called (run l cs .now) c ≡ record { refused = suc n; bytes = run l cs .now }
+  pub refused-seen : (c : Call) (n : ℕ) → viewRefusal v c ≡ suc n → called (bytesRun l cs .now) c ≡ record { refused = suc n; after = bytesRun l cs .now }
   refused-seen c n q =
-      let no : called (run l cs .now) c .refused ≡ suc n = ap (λ (o : Called). o .refused) (made-seen c) ∙ q in
-      λ i. record { refused = no i; bytes = refused-same (run l cs .now) c n no i }
+      let no : called (bytesRun l cs .now) c .refused ≡ suc n = ap (λ (o : Outcome (List ℕ)). o .refused) (call-seen c) ∙ q in
+      λ i. record { refused = no i; after = refused-same (bytesRun l cs .now) c n no i }
 
   pub find-seen : (s x : ℕ) → T (seated (v .seats) s)
-      → findIn (run l cs .now) s x
+      → findIn (bytesRun l cs .now) s x
       ≡ (let f = find (v .seats .number) (v .link) x seats width s in record { refused = 0; holder = f .holder; hops = f .hops })
   find-seen s x m = at (λ b. findIn b s x) ∙ find-bytes (meant v) h s x m
 
-  pub lot-seen : (x : ℕ) → T (ltb x seats) → readLot (run l cs .now) x ≡ lotOf (v .seats) x
+  pub lot-seen : (x : ℕ) → T (ltb x seats) → readLot (bytesRun l cs .now) x ≡ lotOf (v .seats) x
   lot-seen x p = at (λ b. readLot b x) ∙ read-lot (meant v) h x (ltb→lt x seats p)
 
   link-seen : (x k : ℕ) (d : Side) → T (seated (v .seats) x) → T (ltb k levels)
-      → readLink (run l cs .now) x k (sideNumber d) ≡ record { refused = 0; seat = linkByte (v .link x k d) }
+      → readLink (bytesRun l cs .now) x k (sideNumber d) ≡ record { refused = 0; seat = linkByte (v .link x k d) }
   link-seen x k d m p =
       at (λ b. readLink b x k (sideNumber d))
-      ∙ read-link (meant v) h x k d (h .seats x m) (ltb→lt k levels p) (not-T-false (T-not (isFree (v .seats .state x)) m))
+      ∙ read-link (meant v) h x k d (seated-below h x m) (ltb→lt k levels p) m
 
   -- both links of a lot
   pub links-seen : (x k : ℕ) → T (seated (v .seats) x) → T (ltb k levels)
-      → LinksOf (run l cs .now) x k (linkByte (v .link x k left)) (linkByte (v .link x k right))
+      → LinksOf (bytesRun l cs .now) x k (linkByte (v .link x k left)) (linkByte (v .link x k right))
   links-seen x k m p = (link-seen x k left m p, link-seen x k right m p)
 
-  pending-seen : Pending (run l cs .now) (v .pending)
+  pending-seen : Pending (bytesRun l cs .now) (v .pending)
   pending-seen n = at (λ b. readMessage b n) ∙ read-message (meant v) h n
 
-  log-seen : accepted (seen cs .log) ≡ true → accepted (logOf (runs.meant (run l cs .history))) ≡ true
+  log-seen : accepted (seen cs .log) ≡ true → accepted (logOf (runs.meant (bytesRun l cs .history))) ≡ true
   log-seen a = ap accepted (seen-log l e cs (fits-in cs t)) ∙ a
 
   pub lot100-seen : (right-link : ℕ) (ms : List Msg) → accepted (seen cs .log) ≡ true → T (seated (v .seats) 0)
       → linkByte (v .link 0 0 left) ≡ 255 → linkByte (v .link 0 0 right) ≡ right-link → v .pending ≡ ms → Lot100 l cs right-link ms
   lot100-seen y ms a m p q w = record {
     log = log-seen a;
-    links = subst (λ (x : ℕ). LinksOf (run l cs .now) 0 0 x y) p (subst (LinksOf (run l cs .now) 0 0 (linkByte (v .link 0 0 left))) q (links-seen 0 0 m tt));
-    pending = subst (Pending (run l cs .now)) w pending-seen;
+    links = subst (λ (x : ℕ). LinksOf (bytesRun l cs .now) 0 0 x y) p (subst (LinksOf (bytesRun l cs .now) 0 0 (linkByte (v .link 0 0 left))) q (links-seen 0 0 m tt));
+    pending = subst (Pending (bytesRun l cs .now)) w pending-seen;
   }
 
   pub settles-seen : (n : ℕ) → accepted (seen cs .log) ≡ true → T (seen cs .ordered) → v .pending ≡ [] → v .seats .phase ≡ open-phase

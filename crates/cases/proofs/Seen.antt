@@ -15,15 +15,14 @@ use Rattle.protocol.specs.State.{Meaning, nobody, opened}
 use Rattle.protocol.specs.Calls.{Call}
 use Rattle.protocol.specs.Calls.{takes, Outcome, call}
 use Rattle.protocol.specs.Sound.{Sound}
-use Rattle.protocol.specs.Run as protocol
-use Rattle.protocol.specs.Run.{Logged, logOf, AllInRange}
+use Rattle.protocol.specs.Run.{Logged, Standing, logOf, step, steps, stepsFrom, meaningRun, AllInRange}
 use Rattle.protocol.proofs.Message.{same-eq}
 use Rattle.protocol.proofs.KeepSound.{opened-sound, call-sound}
 use Rattle.record.specs.Layout.{seats}
 use Rattle.record.specs.Meaning.{bytesOf}
 use Rattle.record.specs.Reading.{openRefusal}
 use Rattle.runs.specs.Run as runs
-use Rattle.runs.specs.Run.{run}
+use Rattle.runs.specs.Run.{bytesRun}
 use Rattle.runs.proofs.Same.{run-same}
 use Rattle.runs.proofs.Theorem.{open-sized}
 use Rattle.cases.specs.Lists.{Smallest, InOrder}
@@ -62,7 +61,7 @@ look s [] = s
 look s (c ∷ cs) = look (record {
   view = viewCall (s .view) c;
   log = record { call = c; refused = viewRefusal (s .view) c } ∷ s .log;
-  ordered = least (s .view .pending) (takes c) && s .ordered;
+  ordered = least (s .view .pending) (takes seats width c) && s .ordered;
 }) cs
 
 -- a list of calls on the view of an opened record
@@ -70,43 +69,43 @@ unfoldable pub seen : List Call → Seen
 seen cs = look (record { view = record { seats = nobody; link = λ x k d. none; pending = [] }; log = []; ordered = true }) cs
 
 -- what is seen of a standing
-record Shows (t : protocol.Standing) (s : Seen) : Type 0 where
+record Shows (t : Standing Meaning) (s : Seen) : Type 0 where
   sound : Sound seats width (t .now)
   now : t .now ≡ meant (s .view)
   log : logOf (t .history) ≡ s .log
   order : T (s .ordered) → InOrder (t .history)
 
-shows-steps : (cs : List Call) (t : protocol.Standing) (s : Seen) → AllInRange seats width cs → Shows t s
-    → Shows (protocol.steps seats width t cs) (look s cs)
-unfolding look protocol.steps protocol.step logOf
+shows-steps : (cs : List Call) (t : Standing Meaning) (s : Seen) → AllInRange seats width cs → Shows t s
+    → Shows (steps (call seats width) t cs) (look s cs)
+unfolding look steps step logOf
 shows-steps [] t s r h = h
 shows-steps (c ∷ cs) t s r h = shows-steps cs _ _ (r .1) (record {
   sound = call-sound seats width (t .now) (h .sound) c (r .0);
-  now = ap (λ (o : Outcome). o .meaning) both;
+  now = ap (λ (o : Outcome Meaning). o .after) both;
   log = λ i. record { call = c; refused = both i .refused } ∷ h .log i;
   order = λ u. (
-    subst (λ (M : Meaning). Smallest (M .pending) (takes c)) (sym (h .now))
-        (least-smallest (s .view .pending) (takes c) (and-fst (least (s .view .pending) (takes c)) _ u)),
-    h .order (and-snd (least (s .view .pending) (takes c)) _ u),
+    subst (λ (M : Meaning). Smallest (M .pending) (takes seats width c)) (sym (h .now))
+        (least-smallest (s .view .pending) (takes seats width c) (and-fst (least (s .view .pending) (takes seats width c)) _ u)),
+    h .order (and-snd (least (s .view .pending) (takes seats width c)) _ u),
   );
 })
   where
-    both : call seats width (t .now) c ≡ record { refused = viewRefusal (s .view) c; meaning = meant (viewCall (s .view) c) }
+    both : call seats width (t .now) c ≡ record { refused = viewRefusal (s .view) c; after = meant (viewCall (s .view) c) }
     both = ap (λ (M : Meaning). call seats width M c) (h .now) ∙ view-call (s .view) (subst (Sound seats width) (h .now) (h .sound)) c
 
-shows-run : (cs : List Call) → AllInRange seats width cs → Shows (protocol.run seats width cs) (seen cs)
-unfolding seen protocol.run opened logOf among
+shows-run : (cs : List Call) → AllInRange seats width cs → Shows (meaningRun seats width cs) (seen cs)
+unfolding seen meaningRun stepsFrom opened logOf among
 shows-run cs r = shows-steps cs _ _ r (record { sound = opened-sound seats width; now = refl; log = refl; order = λ u. tt })
 
 module _ (l : List ℕ) (e : openRefusal l ≡ 0) (cs : List Call) (r : AllInRange seats width cs) where
   pub seen-sound : Sound seats width (meant (seen cs .view))
   seen-sound = subst (Sound seats width) (shows-run cs r .now) (shows-run cs r .sound)
 
-  pub seen-bytes : run l cs .now ≡ bytesOf (meant (seen cs .view))
+  pub seen-bytes : bytesRun l cs .now ≡ bytesOf (meant (seen cs .view))
   seen-bytes = run-same l (open-sized l e) cs r .now ∙ ap bytesOf (shows-run cs r .now)
 
-  pub seen-log : logOf (runs.meant (run l cs .history)) ≡ seen cs .log
+  pub seen-log : logOf (runs.meant (bytesRun l cs .history)) ≡ seen cs .log
   seen-log = ap logOf (run-same l (open-sized l e) cs r .history) ∙ shows-run cs r .log
 
-  pub seen-order : T (seen cs .ordered) → InOrder (runs.meant (run l cs .history))
+  pub seen-order : T (seen cs .ordered) → InOrder (runs.meant (bytesRun l cs .history))
   seen-order u = subst InOrder (sym (run-same l (open-sized l e) cs r .history)) (shows-run cs r .order u)

@@ -8,7 +8,7 @@ use lib.Dec.{eqb}
 use Rattle.protocol.specs.Message.{among}
 use Rattle.base.specs.Loops.{any}
 use Rattle.protocol.specs.Rules.{SeatState, free, staying, leaving, toLink}
-use Rattle.protocol.specs.State.{open-phase, Seats, nobody, opened, isLeaving}
+use Rattle.protocol.specs.State.{open-phase, nobody, opened, isLeaving, leaves}
 use Rattle.protocol.specs.Calls.{join, leave, turn, rows, refusal}
 use Rattle.protocol.specs.Refusals.{first}
 use Rattle.protocol.specs.Page.{at}
@@ -26,8 +26,7 @@ use Rattle.cases.proofs.Seen.{look, seen}
 abbrev before : (own : Bool) → SeatState
 before b = cond b leaving (cond b staying free)
 
-gone-state : (own : Bool) → freed (before own) ≡ free
-unfolding freed
+gone-state : (own : Bool) → cond (isLeaving (before own)) free (before own) ≡ free
 gone-state true = refl
 gone-state false = refl
 
@@ -35,13 +34,13 @@ gone-number : (own : Bool) (n : ℕ) → cond (isLeaving (before own)) 0 (cond o
 gone-number true n = refl
 gone-number false n = refl
 
-gone-link : (own : Bool) (r : Seats) → cond (isLeaving (before own)) none (unlinked r (cond own none none)) ≡ none
+gone-link : (own : Bool) (gone : ℕ → Bool) → cond (isLeaving (before own)) none (unlinked gone (cond own none none)) ≡ none
 unfolding unlinked
-gone-link true r = refl
-gone-link false r = refl
+gone-link true gone = refl
+gone-link false gone = refl
 
 pub sole-gone : meant (seen lCalls .view) ≡ opened
-unfolding lCalls seen look without viewRefusal viewAfter viewCall nobody opened refusal rows first any seatsAfter afterTurn freed at
+unfolding lCalls seen look without viewRefusal viewAfter viewCall nobody opened refusal rows first any seatsAfter afterTurn at
     sends turnSends farewells farewell each takes isTaken linksAfter turnLinks unlinked unlessRefused toLink among
 sole-gone = λ i. record {
   seats = record {
@@ -50,6 +49,6 @@ sole-gone = λ i. record {
     number = λ x. gone-number (eqb x 0) 100 i;
     vector = λ x. gone-number (eqb x 0) 0 i;
   };
-  link = λ x k d. gone-link (eqb x 0) (seen (join 0 100 0 255 ∷ leave 0 ∷ turn ∷ []) .view .seats) i;
+  link = λ x k d. gone-link (eqb x 0) (leaves (seen (join 0 100 0 255 ∷ leave 0 ∷ turn ∷ []) .view .seats)) i;
   pending = λ m. false;
 }

@@ -17,7 +17,7 @@ use Rattle.protocol.specs.Refusals.{first}
 use Rattle.protocol.specs.State.{isPending}
 use Rattle.protocol.specs.Page.{at}
 use Rattle.protocol.specs.pages.Turn.{afterTurn, each, farewell, farewells, turnSends}
-use Rattle.protocol.specs.Calls.{seatsAfter}
+use Rattle.protocol.specs.Calls.{seatsAfter, Outcome}
 use Rattle.protocol.specs.pages.Deliver.{rule, deliverySends}
 use Rattle.protocol.specs.Calls.{sends, takes, linksAfter, unlessRefused}
 use Rattle.protocol.specs.Page.{isTaken}
@@ -26,10 +26,10 @@ use Rattle.protocol.specs.Freeing.{unlinked}
 use Rattle.protocol.specs.pages.Turn.{turnLinks}
 use Rattle.record.specs.Meaning.{bytesOf}
 use Rattle.record.specs.Reading.{openRefusal, LotAnswer, readLot}
-use Rattle.record.specs.Call.{Called, called}
+use Rattle.record.specs.Call.{called}
 use Rattle.search.specs.Walk.{along, stepAt, walk, path, holderAt, find}
 use Rattle.find.specs.Find.{FindAnswer, findIn}
-use Rattle.runs.specs.Run.{run, lotOf}
+use Rattle.runs.specs.Run.{bytesRun, lotOf}
 use Rattle.cases.specs.Lists.{qCalls, iCalls, jCalls, kCalls, lCalls, accepted, LinksOf, Settles, Lot100}
 use Rattle.cases.proofs.View.{without, viewRefusal, viewAfter, viewCall}
 use Rattle.cases.proofs.Seen.{least, look, seen, seen-bytes}
@@ -40,8 +40,8 @@ abbrev found : Option ℕ → (hops : ℕ) → FindAnswer
 found o h = record { refused = 0; holder = o; hops = h }
 
 -- refused, and the bytes as before
-abbrev refusing : ℕ → List ℕ → Called
-refusing n b = record { refused = n; bytes = b }
+abbrev refusing : ℕ → List ℕ → Outcome (List ℕ)
+refusing n b = record { refused = n; after = b }
 
 abbrev lot : (refused state number vector : ℕ) → LotAnswer
 lot r s n b = record { refused = r; state = s; number = n; vector = b }
@@ -52,22 +52,22 @@ pub record Cases (l : List ℕ) : Type 0 where
   pub a : (shared width 0 128 ≡ 0) × (shared width 0 64 ≡ 1) × (shared width 64 64 ≡ 8)
   -- Q settles; level 0 reads 100 200 300, level 1 reads 100 300
   pub q : Settles l qCalls 3
-  pub q-level-0 : LinksOf (run l qCalls .now) 0 0 255 1 × LinksOf (run l qCalls .now) 1 0 0 2 × LinksOf (run l qCalls .now) 2 0 1 255
-  pub q-level-1 : LinksOf (run l qCalls .now) 0 1 255 2 × LinksOf (run l qCalls .now) 1 1 255 255 × LinksOf (run l qCalls .now) 2 1 0 255
+  pub q-level-0 : LinksOf (bytesRun l qCalls .now) 0 0 255 1 × LinksOf (bytesRun l qCalls .now) 1 0 0 2 × LinksOf (bytesRun l qCalls .now) 2 0 1 255
+  pub q-level-1 : LinksOf (bytesRun l qCalls .now) 0 1 255 2 × LinksOf (bytesRun l qCalls .now) 1 1 255 255 × LinksOf (bytesRun l qCalls .now) 2 1 0 255
   -- In Q: (b) F 0 99 none, 0 hops
-  pub b : findIn (run l qCalls .now) 0 99 ≡ found none 0
+  pub b : findIn (bytesRun l qCalls .now) 0 99 ≡ found none 0
   -- (c) F 0 300 holder 2, 1 hop
-  pub c : findIn (run l qCalls .now) 0 300 ≡ found (some 2) 1
+  pub c : findIn (bytesRun l qCalls .now) 0 300 ≡ found (some 2) 1
   -- (d) F 2 250 holder 1, 1 hop
-  pub d : findIn (run l qCalls .now) 2 250 ≡ found (some 1) 1
+  pub d : findIn (bytesRun l qCalls .now) 2 250 ≡ found (some 1) 1
   -- (e) F 2 100 holder 0, 1 hop
-  pub e : findIn (run l qCalls .now) 2 100 ≡ found (some 0) 1
+  pub e : findIn (bytesRun l qCalls .now) 2 100 ≡ found (some 0) 1
   -- (f) join 200 on seat 3: 5
-  pub f : (vector : ℕ) → called (run l qCalls .now) (join 3 200 vector 0) ≡ refusing 5 (run l qCalls .now)
+  pub f : (vector : ℕ) → called (bytesRun l qCalls .now) (join 3 200 vector 0) ≡ refusing 5 (bytesRun l qCalls .now)
   -- (g) seat 64: 3
-  pub g : (number vector contact : ℕ) → called (run l qCalls .now) (join 64 number vector contact) ≡ refusing 3 (run l qCalls .now)
+  pub g : (number vector contact : ℕ) → called (bytesRun l qCalls .now) (join 64 number vector contact) ≡ refusing 3 (bytesRun l qCalls .now)
   -- (h) Empty record, contact 0: 6
-  pub h : (number vector : ℕ) → called (run l [] .now) (join 0 number vector 0) ≡ refusing 6 (run l [] .now)
+  pub h : (number vector : ℕ) → called (bytesRun l [] .now) (join 0 number vector 0) ≡ refusing 6 (bytesRun l [] .now)
   -- (i) Lot 100 without a left link, right link 300 at level 0, MEET about 200:
   pub i : Lot100 l iCalls 2 (meet 0 1 0 ∷ [])
   -- link 200, and 200 gets MEET about 100, MEET about 300, PROBE about 100
@@ -78,20 +78,20 @@ pub record Cases (l : List ℕ) : Type 0 where
   pub j-done : Lot100 l (jCalls ++ deliver (name 1 0 2 0 0) ∷ []) 1 (meet 1 2 0 ∷ [])
   -- (k) Q, leave 1, turn, deliver all, turn:
   pub k : Settles l kCalls 2
-  pub k-lots : (readLot (run l kCalls .now) 0 ≡ lot 0 1 100 0)
-      × (readLot (run l kCalls .now) 1 ≡ lot 8 0 0 0)
-      × (readLot (run l kCalls .now) 2 ≡ lot 0 1 300 64)
+  pub k-lots : (readLot (bytesRun l kCalls .now) 0 ≡ lot 0 1 100 0)
+      × (readLot (bytesRun l kCalls .now) 1 ≡ lot 8 0 0 0)
+      × (readLot (bytesRun l kCalls .now) 2 ≡ lot 0 1 300 64)
   -- both level 0 and level 1 read 100 300
-  pub k-level-0 : LinksOf (run l kCalls .now) 0 0 255 2 × LinksOf (run l kCalls .now) 2 0 0 255
-  pub k-level-1 : LinksOf (run l kCalls .now) 0 1 255 2 × LinksOf (run l kCalls .now) 2 1 0 255
+  pub k-level-0 : LinksOf (bytesRun l kCalls .now) 0 0 255 2 × LinksOf (bytesRun l kCalls .now) 2 0 0 255
+  pub k-level-1 : LinksOf (bytesRun l kCalls .now) 0 1 255 2 × LinksOf (bytesRun l kCalls .now) 2 1 0 255
   -- (l) A sole lot leaves: two turns, empty
   pub sole : Settles l lCalls 0
-  pub sole-bytes : run l lCalls .now ≡ bytesOf opened
+  pub sole-bytes : bytesRun l lCalls .now ≡ bytesOf opened
 
 pub cases : (l : List ℕ) → openRefusal l ≡ 0 → Cases l
 unfolding qCalls iCalls jCalls kCalls lCalls fits accepted seen look least without viewRefusal viewAfter viewCall
     find path walk stepAt along holderAt lotOf count nobody refusal rows first any place isPending unlessRefused
-    seatsAfter afterTurn freed at sends turnSends deliverySends farewells farewell each takes isTaken
+    seatsAfter afterTurn at sends turnSends deliverySends farewells farewell each takes isTaken
     linksAfter deliveryLinks turnLinks applied unlinked rule effect setting meeting probing pulling parting passing seeking toLink
     onSide sideOf bit equalBits shared named ifZero ifBit sameMsg among
 cases l o = record {

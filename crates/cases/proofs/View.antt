@@ -50,9 +50,9 @@ viewRefusal v turn = first (row 11 (someLeft (v .pending)) ∷ [])
 -- the view after an accepted call
 unfoldable pub viewAfter : View → Call → View
 viewAfter v c = record {
-  seats = seatsAfter seats (v .seats) c;
-  link = linksAfter width (meant v) c;
-  pending = sends seats width (meant v) c ++ without (takes c) (v .pending);
+  seats = seatsAfter seats width (v .seats) c;
+  link = linksAfter seats width (meant v) c;
+  pending = sends seats width (meant v) c ++ without (takes seats width c) (v .pending);
 }
 
 -- the view after a call
@@ -117,9 +117,9 @@ module _ (v : View) (h : Sound seats width (meant v)) where
   view-accept : (c : Call) → accept seats width (meant v) c ≡ meant (viewAfter v c)
   unfolding accept viewAfter
   view-accept c = λ i. record {
-    seats = seatsAfter seats (v .seats) c;
-    link = linksAfter width (meant v) c;
-    pending = pending-list (sends seats width (meant v) c) (takes c) (v .pending) i;
+    seats = seatsAfter seats width (v .seats) c;
+    link = linksAfter seats width (meant v) c;
+    pending = pending-list (sends seats width (meant v) c) (takes seats width c) (v .pending) i;
   }
 
   meant-unless : (n : ℕ) (u : View) → unlessRefused n (meant v) (meant u) ≡ meant (unlessRefused n v u)
@@ -128,12 +128,12 @@ module _ (v : View) (h : Sound seats width (meant v)) where
   meant-unless (suc n) u = refl
 
   -- a call on a view is the call on its meaning
-  pub view-call : (c : Call) → call seats width (meant v) c ≡ record { refused = viewRefusal v c; meaning = meant (viewCall v c) }
+  pub view-call : (c : Call) → call seats width (meant v) c ≡ record { refused = viewRefusal v c; after = meant (viewCall v c) }
   unfolding call viewCall
   view-call c =
       ap (λ (M : Meaning). record {
         refused = refusal seats width (v .seats) (among (v .pending)) c;
-        meaning = unlessRefused (refusal seats width (v .seats) (among (v .pending)) c) (meant v) M;
+        after = unlessRefused (refusal seats width (v .seats) (among (v .pending)) c) (meant v) M;
       }) (view-accept c)
-      ∙ ap (λ (n : ℕ). record { refused = n; meaning = unlessRefused n (meant v) (meant (viewAfter v c)) }) (view-refusal c)
-      ∙ ap (λ (M : Meaning). record { refused = viewRefusal v c; meaning = M }) (meant-unless (viewRefusal v c) (viewAfter v c))
+      ∙ ap (λ (n : ℕ). record { refused = n; after = unlessRefused n (meant v) (meant (viewAfter v c)) }) (view-refusal c)
+      ∙ ap (λ (M : Meaning). record { refused = viewRefusal v c; after = M }) (meant-unless (viewRefusal v c) (viewAfter v c))

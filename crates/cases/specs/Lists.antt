@@ -10,13 +10,14 @@ use Rattle.base.specs.Loops.{oneIf}
 use Rattle.graph.specs.Vector.{width}
 use Rattle.protocol.specs.Message.{Msg, Name, name, named, among}
 use Rattle.protocol.specs.Numbering.{place}
+use Rattle.protocol.specs.State.{Meaning}
 use Rattle.protocol.specs.Calls.{Call, join, leave, deliver, turn}
 use Rattle.protocol.specs.State.{isPending}
 use Rattle.protocol.specs.Calls.{takes}
 use Rattle.protocol.specs.Run.{Logged, Past, logOf}
 use Rattle.record.specs.Layout.{seats}
 use Rattle.record.specs.Reading.{readLink, readMessage, readCounts}
-use Rattle.runs.specs.Run.{run, meant}
+use Rattle.runs.specs.Run.{bytesRun, meant}
 
 -- Q: `J 0 100 0 255`, `J 1 200 128 0`, `J 2 300 64 0`, `A`
 unfoldable pub qCalls : List Call
@@ -66,9 +67,9 @@ Smallest p none = Unit {0}
 Smallest p (some n) = (m : Msg) → T (p m) → place seats width n ≤ place seats width m
 
 -- each delivery of a history takes the smallest pending message, as line A does
-abbrev pub InOrder : List Event → Type 0
+abbrev pub InOrder : List (Past Meaning) → Type 0
 InOrder [] = Unit {0}
-InOrder (e ∷ es) = Smallest (e .before .pending) (takes (e .logged .call)) × InOrder es
+InOrder (e ∷ es) = Smallest (e .before .pending) (takes seats width (e .logged .call)) × InOrder es
 
 -- exactly the messages of a list read as pending
 abbrev pub Pending : List ℕ → List Msg → Type 0
@@ -80,12 +81,12 @@ LinksOf b s k x y = (readLink b s k 0 ≡ record { refused = 0; seat = x }) × (
 
 -- the list of calls on the opened bytes l: all accepted, deliveries in the order of line A, and at the end n lots, phase open, none pending
 pub record Settles (l : List ℕ) (cs : List Call) (n : ℕ) : Type 0 where
-  pub log : accepted (logOf (meant (run l cs .history))) ≡ true
-  pub order : InOrder (meant (run l cs .history))
-  pub counts : readCounts (run l cs .now) ≡ record { refused = 0; lots = n; phase = 0; pending = 0 }
+  pub log : accepted (logOf (meant (bytesRun l cs .history))) ≡ true
+  pub order : InOrder (meant (bytesRun l cs .history))
+  pub counts : readCounts (bytesRun l cs .now) ≡ record { refused = 0; lots = n; phase = 0; pending = 0 }
 
 -- the same, and then lot 100 on seat 0 has at level 0 no left link and that right link, and exactly those messages are pending
 pub record Lot100 (l : List ℕ) (cs : List Call) (right : ℕ) (ms : List Msg) : Type 0 where
-  pub log : accepted (logOf (meant (run l cs .history))) ≡ true
-  pub links : LinksOf (run l cs .now) 0 0 255 right
-  pub pending : Pending (run l cs .now) ms
+  pub log : accepted (logOf (meant (bytesRun l cs .history))) ≡ true
+  pub links : LinksOf (bytesRun l cs .now) 0 0 255 right
+  pub pending : Pending (bytesRun l cs .now) ms

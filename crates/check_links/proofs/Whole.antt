@@ -40,7 +40,7 @@ module _ (l : List ℕ) (e : length l ≡ size) (b : AreBytes l) (s : sound l �
 
   pub lots-laws : Laws seats (members oneComponent (seatsIn l))
   unfolding meaning
-  lots-laws = members-laws bytes-sound
+  lots-laws = members-laws oneComponent bytes-sound
 
   links-sided : Sided width (members oneComponent (seatsIn l)) (meaning l .link)
   unfolding meaning

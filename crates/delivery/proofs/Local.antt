@@ -33,13 +33,14 @@ use Rattle.record.proofs.Round.{bytes-meaning, read-message}
 use Rattle.record.proofs.Frame.{Agree, frame, Outside}
 use Rattle.record.proofs.Sound.{sound-is}
 use Rattle.record.proofs.Refused.{Passed, rows-passed}
+use Rattle.record.proofs.Accepted.{call-later}
 use Rattle.record.specs.Call.{callRefusal, called}
 use Rattle.record.proofs.Call.{record-accepted}
 
 -- an accepted call finds the record sound
 accepted-passed : (l : List ℕ) (n : Name) → called l (deliver n) .refused ≡ 0 → Passed l
 unfolding called callRefusal
-accepted-passed l n e = rows-passed l _ e .0
+accepted-passed l n e = rows-passed l _ (call-later l (deliver n)) e .0
 
 -- an accepted delivery is one of a message, by its name
 pub accepted-named : (l : List ℕ) (n : Name) → called l (deliver n) .refused ≡ 0 → (m : Msg) × (nameOf m ≡ n)
@@ -62,7 +63,7 @@ module _ (l : List ℕ) (b : AreBytes l) (m : Msg) (e : called l (deliver (nameO
   form : Form l
   form = let f = accepted-passed l (nameOf m) e in sound-is l (f .sized) b .0 (f .fine) .0
 
-  bytes-after : called l (deliver (nameOf m)) .bytes ≡ bytesOf (accept seats width (meaning l) (deliver (nameOf m)))
+  bytes-after : called l (deliver (nameOf m)) .after ≡ bytesOf (accept seats width (meaning l) (deliver (nameOf m)))
   unfolding called unlessRefused
   bytes-after = rw e
 
@@ -86,7 +87,7 @@ module _ (l : List ℕ) (b : AreBytes l) (m : Msg) (e : called l (deliver (nameO
 
   -- no byte of the phase or of another entry changes
   pub other-bytes : (i : ℕ) → i < pendingFrom → Outside (entryAt (nameOf m .to)) entrySize i
-      → getD (called l (deliver (nameOf m)) .bytes) i 0 ≡ getD l i 0
+      → getD (called l (deliver (nameOf m)) .after) i 0 ≡ getD l i 0
   other-bytes i h o =
       let w : i < size = omega arith in
       ap (λ (x : List ℕ). getD x i 0) bytes-after
@@ -96,7 +97,7 @@ module _ (l : List ℕ) (b : AreBytes l) (m : Msg) (e : called l (deliver (nameO
       ∙ ap (λ (x : List ℕ). getD x i 0) (bytes-meaning form)
 
   -- a bit is set after it: its message is sent, or it was set and its message is not the one taken
-  pub pending-bits : (n : Msg) → T (exists seats width n) → bitSet (called l (deliver (nameOf m)) .bytes) pendingFrom (place seats width n)
+  pub pending-bits : (n : Msg) → T (exists seats width n) → bitSet (called l (deliver (nameOf m)) .after) pendingFrom (place seats width n)
       ≡ (among (rule width (meaning l) m .sent) n || (bitSet l pendingFrom (place seats width n) && not (sameMsg m n)))
   pending-bits n x =
       ap (λ (y : List ℕ). bitSet y pendingFrom (place seats width n)) bytes-after

@@ -8,7 +8,7 @@ use Rattle.memory.specs.Bytes.{AreBytes}
 use Rattle.graph.specs.Vector.{width}
 use Rattle.protocol.specs.State.{Seats, Meaning, seated}
 use Rattle.protocol.specs.Sound.{Sound}
-use Rattle.protocol.proofs.SoundFacts.{link-linked}
+use Rattle.protocol.proofs.SoundFacts.{seated-below, seated-differ, link-linked}
 use Rattle.record.specs.Layout.{seats, size}
 use Rattle.record.specs.Meaning.{meaning}
 use Rattle.record.specs.Sound.{sound}
@@ -19,8 +19,8 @@ use Rattle.find.specs.inner.Steps.{Fit}
 
 pub sound-ordered : {N W : ℕ} {M : Meaning} → Sound N W M → Ordered N W (seated (M .seats)) (M .seats .number) (M .link)
 sound-ordered h = record {
-  seat = h .seats;
-  differ = h .differ;
+  seat = seated-below h;
+  differ = seated-differ h;
   within = λ m l e. link-linked h e .0 .two;
   order = λ m l e. link-linked h e .1;
 }

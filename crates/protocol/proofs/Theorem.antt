@@ -17,7 +17,7 @@ use Rattle.protocol.specs.State.{isPending}
 use Rattle.protocol.specs.Calls.{seatsAfter, sends, takes, accept, unlessRefused, call}
 use Rattle.protocol.specs.Page.{pendingAfter}
 use Rattle.protocol.specs.Sound.{Sound}
-use Rattle.protocol.specs.Run.{Roster, membersOf, rosterAfter, stepsFrom, Standing, logOf, step, steps, meaningRun, rosterOf, pendingOf, RefusedByTable, NothingPending, accepted, MeaningDemand3}
+use Rattle.protocol.specs.Run.{Logged, Roster, membersOf, rosterAfter, stepsFrom, Standing, logOf, step, steps, meaningRun, rosterOf, pendingOf, RefusedByTable, NothingPending, accepted, MeaningDemand3}
 use Rattle.protocol.specs.Calls.{InRange}
 use Rattle.protocol.specs.Run.{AllInRange}
 use Rattle.protocol.proofs.Numbering.{none-pending, pending-none}
@@ -120,6 +120,18 @@ module _ (N W : ℕ) where
   -- the roster of a meaning: all its lots are in one component
   abbrev rosterNow : Meaning → Roster
   rosterNow M = record { seats = M .seats; component = oneComponent }
+
+  -- and so is every roster
+  pub one-component : (ls : List Logged) → rosterOf N W ls .component ≡ oneComponent
+  unfolding rosterOf
+  one-component [] = refl
+  one-component (l ∷ ls) = by (l .refused) (one-component ls)
+    where
+      by : (n : ℕ) → rosterOf N W ls .component ≡ oneComponent
+          → unlessRefused n (rosterOf N W ls) (rosterAfter N W (rosterOf N W ls) (l .call)) .component ≡ oneComponent
+      unfolding unlessRefused rosterAfter
+      by zero e = e
+      by (suc n) e = e
 
   -- what goes through a list
   pub record Track (s : Standing Meaning) : Type 0 where

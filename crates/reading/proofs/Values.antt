@@ -28,7 +28,7 @@ use Rattle.reading.specs.declared.MessageRead.the-variants as message
 use Rattle.reading.specs.declared.CountsRead.the-variants as counts
 use Rattle.reading.specs.Answer.{lotOf, lotAnswered, linkOf, linkAnswered, messageOf, messageAnswered, countsOf, countsAnswered}
 use Rattle.record.proofs.Refused.{Passed}
-use Rattle.reading.proofs.Refusals.{Lot}
+use Rattle.reading.proofs.Refusals.{Lot, Held}
 
 module _ (l : List ℕ) where
   fits : Passed l → Fits l
@@ -40,12 +40,12 @@ module _ (l : List ℕ) where
   lot-refused s zero e h = absurd (h refl)
   lot-refused s (suc n) e h = rw (← e, ne-eqb (suc n) 0 h)
 
-  pub lot-values : (s : ℕ) → Lot l s
+  pub lot-values : (s : ℕ) → Held l s
       → lot.Seated (getD l (stateAt s) 0) (numberAt l (numberFrom s) 8) (getD l (vectorAt s) 0) ≡ lotAnswered (readLot l s)
   unfolding lotAnswered lotOf
   lot-values s a =
       let h = a .seat in
-      let read = lot-read l (a .accepted .sized) (a .accepted .fine) s h (rw (meaning-seats l) (a .lot)) in
+      let read = lot-read l (a .accepted .sized) (a .accepted .fine) s h (rw (meaning-seats l) (a .there)) in
       let state = stateByte-stateOf (getD l (stateAt s) 0) (fits (a .accepted) .states s h) in
       rw (read, meaning-state l s h, state, meaning-number l s h, meaning-vector l s h)
 

@@ -28,7 +28,6 @@ use Rattle.protocol.specs.State.{isPending}
 use Rattle.protocol.specs.Sound.{messageOk}
 use Rattle.protocol.proofs.Message.{named-name}
 use Rattle.protocol.proofs.Numbering.{sideNumber-lt, messageAt-place, none-pending, pending-none}
-use Rattle.protocol.proofs.SoundFacts.{seated-taken}
 use Rattle.record.specs.Layout.{seats, levels, messages, pendingFrom, pendingSize, size}
 use Rattle.record.specs.Meaning.{meaning, seatsIn, phaseByte, stateByte, linkByte}
 use Rattle.record.specs.Sound.{messagesFit, sound}
@@ -108,23 +107,15 @@ module _ (l : List ℕ) (e : length l ≡ size) (s : sound l ≡ true) where
   unfolding linkRefusal
   linkRefusal-is x k d = record-goes l (seatRow x ∷ levelRow k d ∷ emptyRow l x ∷ []) (refl, refl) passed
 
-  -- a seated lot
-  module _ (x : ℕ) (h : x < seats) (t : T (seated (meaning l .seats) x)) where
-    here : seated (seatsIn l) x ≡ true
-    unfolding meaning
-    here = T-true t
-
+  -- a taken seat
+  module _ (x : ℕ) (h : x < seats) (t : T (taken (meaning l .seats) x)) where
     held : taken (seatsIn l) x ≡ true
     unfolding meaning
-    held = T-true (seated-taken (seatsIn l) x t)
+    held = T-true t
 
     pub lot-accepted : lotRefusal l x ≡ 0
     unfolding first
     lot-accepted = lotRefusal-is x ∙ rw (lt-ltb x seats h, held)
-
-    pub seated-accepted : seatedRefusal l x ≡ 0
-    unfolding first
-    seated-accepted = seatedRefusal-is x ∙ rw (lt-ltb x seats h, here)
 
     pub lot-read : readLot l x ≡ record {
       refused = 0;
@@ -134,6 +125,16 @@ module _ (l : List ℕ) (e : length l ≡ size) (s : sound l ≡ true) where
     }
     unfolding readLot meaning
     lot-read = rw lot-accepted
+
+  -- a seated lot
+  module _ (x : ℕ) (h : x < seats) (t : T (seated (meaning l .seats) x)) where
+    here : seated (seatsIn l) x ≡ true
+    unfolding meaning
+    here = T-true t
+
+    pub seated-accepted : seatedRefusal l x ≡ 0
+    unfolding first
+    seated-accepted = seatedRefusal-is x ∙ rw (lt-ltb x seats h, here)
 
     pub link-accepted : (k d : ℕ) → k < levels → d < 2 → linkRefusal l x k d ≡ 0
     unfolding first

@@ -4,6 +4,7 @@ use mathlib.Core.Path.{_≡_, refl, ap, _∙_}
 use mathlib.Core.Logic.{_↔_}
 use mathlib.Core.Bool.{Bool, true, false, not}
 use mathlib.Core.List.{List}
+use lib.Dec.{T}
 use Rattle.base.specs.Loops.{oneIf, count}
 use Rattle.graph.specs.Side.{Side}
 use Rattle.graph.specs.Vector.{width}
@@ -52,10 +53,10 @@ module _ (M : Meaning) (h : Sound seats width M) where
   read-counts = counts-read b (length-bytesOf M) (bytes-sound h) ∙ rw (meaning-bytes h)
 
   -- a seated lot's link
-  pub read-link : (x k : ℕ) (d : Side) → x < seats → k < levels → isFree (M .seats .state x) ≡ false
+  pub read-link : (x k : ℕ) (d : Side) → x < seats → k < levels → T (seated (M .seats) x)
       → readLink b x k (sideNumber d) ≡ record { refused = 0; seat = linkByte (M .link x k d) }
   read-link x k d p q f =
-      link-read b (length-bytesOf M) (bytes-sound h) x p (rw (meaning-bytes h) (true-T (ap not f))) k d q ∙ rw (meaning-bytes h)
+      link-read b (length-bytesOf M) (bytes-sound h) x p (rw (meaning-bytes h) f) k d q ∙ rw (meaning-bytes h)
 
   -- none is counted exactly if none is pending
   pub count-none : (countsOf M .pending ≡ 0) ↔ (somePending seats width (M .pending) ≡ false)

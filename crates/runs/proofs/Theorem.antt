@@ -5,7 +5,7 @@ use mathlib.Core.Bool.{Bool, false}
 use mathlib.Core.Option.{Option}
 use mathlib.Core.List.{List}
 use native.Mathlib.Omega.{arith}
-use lib.Dec.{T, T-not, eqb}
+use lib.Dec.{T, eqb}
 use lib.ListN.{length}
 use borrow.Author.Tests.{ne-eqb}
 use native.Mathlib.Decide.{ℕ-discrete}
@@ -13,15 +13,14 @@ use Rattle.base.specs.Loops.{oneIf, count}
 use Rattle.graph.specs.Side.{Side}
 use Rattle.graph.specs.Vector.{width}
 use Rattle.graph.specs.Graph.{graph, IsGraph}
-use Rattle.base.proofs.Tests.{not-T-false}
 use Rattle.graph.specs.Side.{sideNumber}
 use Rattle.protocol.specs.Message.{Msg, named}
-use Rattle.protocol.specs.State.{oneComponent, Seats, Meaning, isFree, seated, member, members}
+use Rattle.protocol.specs.State.{Seats, Meaning, seated, member}
 use Rattle.protocol.specs.Calls.{Call}
 use Rattle.protocol.specs.Refusals.{first}
 use Rattle.protocol.specs.State.{isPending}
-use Rattle.protocol.specs.Run as protocol
-use Rattle.protocol.specs.Run.{AllInRange, logOf, rosterOf, pendingOf, RefusedByTable, NothingPending}
+use Rattle.protocol.specs.Run.{Past, Standing, logOf, meaningRun, membersOf, rosterOf, pendingOf, RefusedByTable, NothingPending, MeaningDemand3, AllInRange}
+use Rattle.protocol.proofs.SoundFacts.{seated-below}
 use Rattle.protocol.proofs.Reached.{member-seated}
 use Rattle.protocol.proofs.Theorem as protocol-theorem
 use Rattle.protocol.proofs.Measure as measure
@@ -29,7 +28,7 @@ use Rattle.record.specs.Layout.{seats, levels, size}
 use Rattle.record.specs.Meaning.{meaning, bytesOf, phaseByte, linkByte}
 use Rattle.record.specs.Reading.{openRefusal, readLot, readLink, readMessage, CountAnswer, readCounts}
 use Rattle.record.proofs.Round.{meaning-bytes}
-use Rattle.runs.specs.Run.{Standing, Event, run, meant, lotOf, Demand3}
+use Rattle.runs.specs.Run.{bytesRun, meant, lotOf, Demand3}
 use Rattle.runs.proofs.Same.{Same, run-same, accepted-same}
 use Rattle.runs.proofs.Readings.{countsOf, read-lot, read-message, read-counts, read-link, count-none}
 
@@ -46,7 +45,7 @@ open-sized l e = by (ℕ-discrete (length l) size)
     by (no q) = let b : eqb (length l) size ≡ false = ne-eqb (length l) size q in let z : suc zero ≡ zero = rw b at e in absurd (omega arith)
 
 -- what holds on the meaning holds of the readings of the bytes
-carried : (s : Standing) (t : protocol.Standing) → Same s t → protocol.Demand3 seats width (measure.bound seats width) t → Demand3 bound s
+carried : (s : Standing (List ℕ)) (t : Standing Meaning) → Same s t → MeaningDemand3 seats width (measure.bound seats width) t → Demand3 bound s
 unfolding bound countsOf
 carried s t h D = record {
   refusals = subst (RefusedByTable seats width) (sym (h .history)) (D .refusals);
@@ -64,7 +63,7 @@ carried s t h D = record {
   links = λ q x k d m p.
       let here : T (seated (t .now .seats) x) = member-seated (t .now .seats) x (subst (λ (r : Seats). T (member r x)) (sym who) m) in
       at (λ l. readLink l x k (sideNumber d))
-      ∙ read-link M (h .fine) x k d (h .fine .seats x here) p (not-T-false (T-not (isFree (t .now .seats .state x)) here))
+      ∙ read-link M (h .fine) x k d (seated-below (h .fine) x here) p here
       ∙ ap (λ (o : Option ℕ). record { refused = 0; seat = linkByte o }) (linked q x k d m p);
   ends = λ ns. rw (h .now, meaning-bytes (h .fine), accepted-same (t .now) (h .fine) ns) (D .ends ns);
 }
@@ -75,8 +74,8 @@ carried s t h D = record {
     at : {A : Type 0} (f : List ℕ → A) → f (s .now) ≡ f (bytesOf (t .now))
     at f = ap f (h .now)
 
-    who : t .now .seats ≡ rosterOf seats width (logOf (meant (s .history)))
-    who = D .lots ∙ ap (λ (es : List protocol.Event). rosterOf seats width (logOf es)) (sym (h .history))
+    who : t .now .seats ≡ rosterOf seats width (logOf (meant (s .history))) .seats
+    who = D .lots ∙ ap (λ (es : List (Past Meaning)). rosterOf seats width (logOf es) .seats) (sym (h .history))
 
     counts : readCounts (bytesOf (t .now)) ≡ countsOf (t .now)
     counts = read-counts (t .now) (h .fine)
@@ -84,13 +83,13 @@ carried s t h D = record {
     left : readCounts (s .now) .pending ≡ countsOf (t .now) .pending
     left = at (λ l. readCounts l .pending) ∙ ap (λ (a : CountAnswer). a .pending) counts
 
-    linked : NothingPending seats width (meant (s .history)) → (x k : ℕ) (d : Side) → T (member (rosterOf seats width (logOf (meant (s .history)))) x)
+    linked : NothingPending seats width (meant (s .history)) → (x k : ℕ) (d : Side) → T (member (rosterOf seats width (logOf (meant (s .history))) .seats) x)
         → k < levels
-        → t .now .link x k d ≡ graph seats width (members oneComponent (rosterOf seats width (logOf (meant (s .history))))) x k d
+        → t .now .link x k d ≡ graph seats width (membersOf (rosterOf seats width (logOf (meant (s .history))))) x k d
     linked q x k d m p =
-        subst (λ (es : List protocol.Event). NothingPending seats width es → IsGraph seats width (members oneComponent (rosterOf seats width (logOf es))) (t .now .link))
+        subst (λ (es : List (Past Meaning)). NothingPending seats width es → IsGraph seats width (membersOf (rosterOf seats width (logOf es))) (t .now .link))
         (sym (h .history)) (D .graph) q
         .link x k d m (omega arith)
 
-pub every-list : (l : List ℕ) → openRefusal l ≡ 0 → (cs : List Call) → AllInRange seats width cs → Demand3 bound (run l cs)
-every-list l e cs r = carried (run l cs) (protocol.run seats width cs) (run-same l (open-sized l e) cs r) (protocol-theorem.every-list seats width cs r)
+pub every-list : (l : List ℕ) → openRefusal l ≡ 0 → (cs : List Call) → AllInRange seats width cs → Demand3 bound (bytesRun l cs)
+every-list l e cs r = carried (bytesRun l cs) (meaningRun seats width cs) (run-same l (open-sized l e) cs r) (protocol-theorem.every-list seats width cs r)

@@ -35,14 +35,14 @@ returns-2 : tie.Need-returns-2
 returns-2 c =
     let b = c .before .before .before in
     let a = b .before .before .before .args in
-    level-stops (a .rec .now) (a .seat) _ _ (c .before .before .level-refusal .ensures) (c .if2 .taken)
+    level-stops (a .rec .now) (a .seat) (a .level) (a .side) (c .before .before .level-refusal .ensures) (c .if2 .taken)
     ∙ sym (link-rest _ _ _ _ (passed b))
 
 returns-3 : tie.Need-returns-3
 returns-3 c =
     let b = c .before .before .before in
     let a = b .before .before .before .args in
-    let goes = level-goes (a .rec .now) (a .seat) _ _ (c .before .before .level-refusal .ensures) (c .if2 .left) in
+    let goes = level-goes (a .rec .now) (a .seat) (a .level) (a .side) (c .before .before .level-refusal .ensures) (c .if2 .left) in
     c .before .empty-refusal .ensures ∙ sym (link-rest _ _ _ _ (passed b) ∙ goes)
 
 pub link-refusal-spec : {M : Type 1} → statement M

@@ -1,12 +1,12 @@
 -- `reading::read_lot` meets its contract. Assumes nothing.
 use borrow.Author.Needs.{needs}
-use Rattle.reading.proofs.Refusals.{Lot, lot-passed}
+use Rattle.reading.proofs.Refusals.{Held, lot-passed}
 use Rattle.reading.proofs.Values.{lot-refused, lot-values}
 use Rattle.reading.proofs.read_lot.Statement.{statement}
 use Rattle.reading.proofs.read_lot.Tie as tie
 
 -- no row applies
-passed : (c : tie.Else1) → Lot (c .before .before .before .args .rec .now) (c .before .before .before .args .seat)
+passed : (c : tie.Else1) → Held (c .before .before .before .args .rec .now) (c .before .before .before .args .seat)
 passed c = lot-passed _ _ (c .before .lot-refusal .ensures) (c .if1 .left)
 
 lot-refusal-requires : tie.Need-lot-refusal-requires

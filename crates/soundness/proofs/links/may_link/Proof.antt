@@ -37,7 +37,7 @@ returns c =
     let n = r .pre .1 in
     let seated = sym (c .before .before .before .before .before .before .is-seated .ensures) ∙ c .before .before .before .before .before .if1 .taken in
     let e = ap₂ (onSide (sideOfNumber (r .args .d))) (n (r .args .x) (search needs) (seated-held (seatsIn (r .args .rec .now)) (r .args .x) (r .pre .4)))
-        (n (r .args .y) (search needs) (seated-held (seatsIn (r .args .rec .now)) (r .args .y) seated)) in
+    (n (r .args .y) (search needs) (seated-held (seatsIn (r .args .rec .now)) (r .args .y) seated)) in
     and-go (c .before .before .before .before .before .before .is-seated .ensures) (c .before .before .before .before .before .if1 .taken)
     (and-go (c .before .before .before .before .shares .ensures) (c .before .before .before .if2 .taken) (c .on-side .ensures ∙ e))
     ∙ sym (link-ok _ _ _ _ _ (r .pre .4))
