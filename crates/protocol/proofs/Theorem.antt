@@ -123,13 +123,12 @@ module _ (N W : ℕ) where
 
   -- and so is every roster
   pub one-component : (ls : List Logged) → rosterOf N W ls .component ≡ oneComponent
-  unfolding rosterOf
+  unfolding rosterOf unlessRefused rosterAfter
   one-component [] = refl
   one-component (l ∷ ls) = by (l .refused) (one-component ls)
     where
       by : (n : ℕ) → rosterOf N W ls .component ≡ oneComponent
           → unlessRefused n (rosterOf N W ls) (rosterAfter N W (rosterOf N W ls) (l .call)) .component ≡ oneComponent
-      unfolding unlessRefused rosterAfter
       by zero e = e
       by (suc n) e = e
 
