@@ -2,10 +2,11 @@
 -- message. Assumes nothing.
 use Prim.Native.Nat.{ℕ, _+_, _-_, _*_, _/_, _%_, _≤_, _<_}
 use mathlib.Core.Path.{_≡_, refl, sym, ap, _∙_}
+use mathlib.Core.Logic.{_≢_}
 use mathlib.Core.Option.{some}
 use mathlib.Core.Bool.{Bool, true, false, _&&_}
 use native.Mathlib.Omega.{arith}
-use lib.Dec.{T, eqb, ltb}
+use lib.Dec.{eqb, ltb}
 use Rattle.graph.specs.Side.{sideOfNumber}
 use Rattle.graph.specs.Vector.{width}
 use Rattle.protocol.specs.Message.{Msg, meet, probe, pull, going, seek, found, none-found, name, nameOf, named}
@@ -18,7 +19,7 @@ use Rattle.record.proofs.Places.{sideNumber-side, exists-at}
 use Rattle.messages.specs.declared.Message.{Message}
 use Rattle.messages.specs.inner.Numbers.{numbers, InRange, Stands}
 use Rattle.messages.proofs.Named.{when, named-meet, named-probe, named-pull, named-going, named-seek, named-found, named-none}
-use Rattle.messages.proofs.Named.{bitNumber-bit, two-below, three-below}
+use Rattle.messages.proofs.Named.{named-rest, bitNumber-bit, two-below, three-below}
 
 -- a message that exists has its numbers in range
 exists-range : {m : Msg} → Exists seats width m → InRange (nameOf m)
@@ -159,6 +160,10 @@ module _ {i : ℕ} {r : Message} (s : Stands i r) where
 
   pub stands-none : r .kind ≡ 7 → messageAt seats width i ≡ none-found t l (sideOfNumber d)
   stands-none k = when-some (eqb a 0 && ltb d 2) (sym (named-none t a l d k) ∙ stands-named)
+
+  -- there is no other kind
+  pub stands-kind : {A : Type 0} → r .kind ≢ 1 → r .kind ≢ 2 → r .kind ≢ 3 → r .kind ≢ 4 → r .kind ≢ 5 → r .kind ≢ 6 → r .kind ≢ 7 → A
+  stands-kind n₁ n₂ n₃ n₄ n₅ n₆ n₇ = none-some (named-rest t a l d n₁ n₂ n₃ n₄ n₅ n₆ n₇) stands-named
 
   -- PROBE and PULL stand below the top level
   pub probe-below : i < messages → r .kind ≡ 2 → r .level < width
