@@ -1,6 +1,6 @@
 -- The five numbers of the message at a place, kind by kind: from the digits of the place in its block (docs/RECORD.md), and back to the
 -- message. Assumes nothing.
-use Prim.Native.Nat.{ℕ, _+_, _-_, _*_, _/_, _%_, _≤_, _<_}
+use Prim.Native.Nat.{ℕ, _+_, _-_, _/_, _%_, _≤_, _<_}
 use mathlib.Core.Path.{_≡_, refl, sym, ap, _∙_}
 use mathlib.Core.Logic.{_≢_}
 use mathlib.Core.Option.{some}
@@ -162,7 +162,8 @@ module _ {i : ℕ} {r : Message} (s : Stands i r) where
   stands-none k = when-some (eqb a 0 && ltb d 2) (sym (named-none t a l d k) ∙ stands-named)
 
   -- there is no other kind
-  pub stands-kind : {A : Type 0} → r .kind ≢ 1 → r .kind ≢ 2 → r .kind ≢ 3 → r .kind ≢ 4 → r .kind ≢ 5 → r .kind ≢ 6 → r .kind ≢ 7 → A
+  pub stands-kind : {A : Type 0} → r .kind ≢ 1 → r .kind ≢ 2 → r .kind ≢ 3 → r .kind ≢ 4 → r .kind ≢ 5 → r .kind ≢ 6
+      → r .kind ≢ 7 → A
   stands-kind n₁ n₂ n₃ n₄ n₅ n₆ n₇ = none-some (named-rest t a l d n₁ n₂ n₃ n₄ n₅ n₆ n₇) stands-named
 
   -- PROBE and PULL stand below the top level

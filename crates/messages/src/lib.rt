@@ -165,7 +165,7 @@ fn pair_at(kind: u8, pair: usize, level: usize) -> Message
     ensures { λ r. ⌜ numbers r ≡ name kind (pair / seats) (pair % seats) level 0 ⌝ }
 {
     Message {
-        kind: kind,
+        kind,
         to: (pair / SEATS) as u8,
         about: (pair % SEATS) as u8,
         level: level as u8,
@@ -193,7 +193,7 @@ fn side_at(kind: u8, i: usize) -> Message
     ensures { λ r. ⌜ numbers r ≡ name kind (i / 2 / levels) 0 (i / 2 % levels) (i % 2) ⌝ }
 {
     Message {
-        kind: kind,
+        kind,
         to: (i / 2 / LEVELS) as u8,
         about: 0,
         level: (i / 2 % LEVELS) as u8,

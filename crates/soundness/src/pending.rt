@@ -11,6 +11,7 @@ ghost use Rattle.record.specs.Layout.{seats, messages, size};
 ghost use Rattle.record.specs.Meaning.{seatsIn};
 ghost use Rattle.record.specs.Sound.{messagesFit};
 ghost use Rattle.soundness.specs.inner.Pending.{fits, placesPass};
+use messages::first_pending;
 use messages::message_at;
 use record::MESSAGES;
 use record::PENDING;
@@ -122,13 +123,13 @@ pub fn messages_fit(rec: &[u8]) -> bool
     requires { ⌜ length (now rec) ≡ size ⌝ }
     ensures { λ r. ⌜ r ≡ messagesFit (now (rec .entry)) ⌝ }
 {
-    let mut i = memory::first_bit(rec, PENDING, 0, MESSAGES);
+    let mut i = first_pending(rec, 0);
     while i < MESSAGES {
         let w = i / WORD;
         if !word_fits(rec, w) {
             return false;
         }
-        i = memory::first_bit(rec, PENDING, WORD * w + WORD, MESSAGES);
+        i = first_pending(rec, WORD * w + WORD);
     }
     true
 }
