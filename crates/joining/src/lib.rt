@@ -19,9 +19,9 @@ ghost use Rattle.record.specs.Layout.{seats, levels, size, stateAt, numberFrom,
 ghost use Rattle.record.specs.Meaning.{seatsIn, meaning, bytesOf};
 ghost use Rattle.record.specs.Call.{callRefusal, called};
 ghost use Rattle.record.specs.Answer.{reply, replyOf};
+use messages::meet_place;
 use record::Answer;
 use record::LEAVING;
-use record::LEVELS;
 use record::NONE;
 use record::SEATS;
 use record::STAYING;
@@ -150,7 +150,7 @@ fn send_meet(rec: &mut [u8], to: usize, about: usize, level: usize)
     requires { ⌜ (length (now rec) ≡ size) × (to < seats) × (about < seats) × (level < levels) ⌝ }
     ensures { λ _. ⌜ now (rec .exit) ≡ setBit (now (rec .entry)) pendingFrom (place seats width (meet to about level)) ⌝ }
 {
-    record::send(rec, (to * SEATS + about) * LEVELS + level);
+    record::send(rec, meet_place(to, about, level));
 }
 
 // Seats a newcomer, and lets its contact know of it.

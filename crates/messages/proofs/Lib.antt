@@ -1,3 +1,6 @@
--- The place of a message by its five numbers.
+-- The place of a message by its five numbers, and the message at a place.
 pub mod Named
 pub mod Placed
+pub mod Standing
+pub mod First
+pub mod Round

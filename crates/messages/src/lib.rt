@@ -1,16 +1,20 @@
-// The place of each message in the numbering of all messages (protocol's specs/Numbering.antt): the bit of the record that it has.
+// The place of each message in the numbering of all messages (protocol's specs/Numbering.antt), the message at each place, and the first
+// place whose message is pending. A message's place is the bit of the record that it has.
 ghost use mathlib.Core.Path.{_≡_};
 ghost use mathlib.Core.Bool.{_&&_};
-ghost use Prim.Native.Nat.{_<_};
+ghost use Prim.Native.Nat.{_*_, _/_, _%_, _≤_, _<_};
 ghost use lib.Dec.{eqb, ltb};
+ghost use lib.ListN.{length};
 ghost use Rattle.graph.specs.Vector.{width};
 ghost use Rattle.protocol.specs.Message.{name, named, meet, probe, pull, going, seek, found, none-found};
-ghost use Rattle.protocol.specs.Numbering.{place};
-ghost use Rattle.record.specs.Layout.{seats, levels, messages};
+ghost use Rattle.protocol.specs.Numbering.{place, pulls, sides};
+ghost use Rattle.record.specs.Layout.{seats, levels, messages, size};
 ghost use Rattle.graph.specs.Side.{sideOfNumber};
 ghost use Rattle.messages.specs.inner.Places.{placeOf};
+ghost use Rattle.messages.specs.inner.Numbers.{numbers, Stands, firstPending};
 use record::LEVELS;
 use record::MESSAGES;
+use record::PENDING;
 use record::SEATS;
 use record::WIDTH;
 
@@ -31,6 +35,15 @@ const SEEKS: usize = GOINGS + SIDES;
 const FOUNDS: usize = SEEKS + PAIRS;
 
 const NONES: usize = FOUNDS + PAIRS;
+
+// The five numbers of a message.
+pub struct Message {
+    pub kind: u8,
+    pub to: u8,
+    pub about: u8,
+    pub level: u8,
+    pub side: u8,
+}
 
 pub fn meet_place(to: usize, about: usize, level: usize) -> usize
     requires { ⌜ (to < seats) × (about < seats) × (level < levels) ⌝ }
@@ -144,4 +157,83 @@ pub fn place_of(kind: u8, to: usize, about: usize, level: usize, side: usize) ->
         },
         0 | 8..=255 => MESSAGES,
     }
+}
+
+// A message that names two lots and a level, by its pair of lots and its level.
+fn pair_at(kind: u8, pair: usize, level: usize) -> Message
+    requires { ⌜ (pair < seats * seats) × (level < levels) ⌝ }
+    ensures { λ r. ⌜ numbers r ≡ name kind (pair / seats) (pair % seats) level 0 ⌝ }
+{
+    Message {
+        kind,
+        to: (pair / SEATS) as u8,
+        about: (pair % SEATS) as u8,
+        level: level as u8,
+        side: 0,
+    }
+}
+
+// A PULL, by its place among them.
+fn pull_at(i: usize) -> Message
+    requires { ⌜ i < pulls seats width ⌝ }
+    ensures { λ r. ⌜ numbers r ≡ name 3 (i / 2 / width / 2) (i / 2 / width % 2) (i / 2 % width) (i % 2) ⌝ }
+{
+    Message {
+        kind: 3,
+        to: (i / 2 / WIDTH / 2) as u8,
+        about: (i / 2 / WIDTH % 2) as u8,
+        level: (i / 2 % WIDTH) as u8,
+        side: (i % 2) as u8,
+    }
+}
+
+// A message that names a lot, a level and a side, by its place among those of its kind.
+fn side_at(kind: u8, i: usize) -> Message
+    requires { ⌜ i < sides seats width ⌝ }
+    ensures { λ r. ⌜ numbers r ≡ name kind (i / 2 / levels) 0 (i / 2 % levels) (i % 2) ⌝ }
+{
+    Message {
+        kind,
+        to: (i / 2 / LEVELS) as u8,
+        about: 0,
+        level: (i / 2 % LEVELS) as u8,
+        side: (i % 2) as u8,
+    }
+}
+
+// The message at place i: its kind by the block that holds i, its numbers by the digits of its place there.
+pub fn message_at(i: usize) -> Message
+    requires { ⌜ i < messages ⌝ }
+    ensures { λ r. ⌜ Stands i r ⌝ }
+{
+    if i < PROBES {
+        return pair_at(1, i / LEVELS, i % LEVELS);
+    }
+    if i < PULLS {
+        let j = i - PROBES;
+        return pair_at(2, j / WIDTH, j % WIDTH);
+    }
+    if i < GOINGS {
+        return pull_at(i - PULLS);
+    }
+    if i < SEEKS {
+        return side_at(4, i - GOINGS);
+    }
+    if i < FOUNDS {
+        let j = i - SEEKS;
+        return pair_at(5, j / LEVELS, j % LEVELS);
+    }
+    if i < NONES {
+        let j = i - FOUNDS;
+        return pair_at(6, j / LEVELS, j % LEVELS);
+    }
+    side_at(7, i - NONES)
+}
+
+// The first place at or after `from` whose message is pending, or MESSAGES if there is none.
+pub fn first_pending(rec: &[u8], from: usize) -> usize
+    requires { ⌜ (length (now rec) ≡ size) × (from ≤ messages) ⌝ }
+    ensures { λ r. ⌜ (r ≡ firstPending (now (rec .entry)) from) × (r ≤ messages) ⌝ }
+{
+    memory::first_bit(rec, PENDING, from, MESSAGES)
 }

@@ -6,5 +6,4 @@ pub mod Unlinked
 pub mod LinkByte
 pub mod Refusal
 pub mod PendingPasses
-pub mod PendingPlaces
 pub mod PendingWord

@@ -6,12 +6,14 @@ use mathlib.Core.Logic.{⊎-elim}
 use mathlib.Core.Bool.{Bool, true, false, not, _||_}
 use mathlib.Core.List.{List}
 use native.Mathlib.Omega.{arith}
-use Rattle.base.specs.Loops.{all, firstFrom}
+use Rattle.base.specs.Loops.{all}
 use Rattle.memory.specs.Bits.{bitSet}
 use Rattle.base.proofs.Cases.{lt-or-ge, true-or-false}
 use Rattle.base.proofs.All.{all-at, all-from}
 use Rattle.memory.proofs.First.{first}
 use Rattle.record.specs.Layout.{messages, pendingFrom}
+use Rattle.messages.specs.inner.Numbers.{firstPending}
+use Rattle.messages.proofs.First.{first-pending-bit}
 use Rattle.soundness.specs.inner.Pending.{fits, passes, placesPass}
 
 -- k is at or after `from`, and the places before it pass
@@ -37,15 +39,15 @@ module _ (l : List ℕ) where
 
   -- the next pending message, or the end
   pub next-first : (from : ℕ) → from ≤ messages → all from (passes l) ≡ true
-      → Next l from (firstFrom (messages - from) from (bitSet l pendingFrom))
+      → Next l from (firstPending l from)
   next-first from h a =
       let f = first (messages - from) from (bitSet l pendingFrom) in
-      record {
+      rw (← first-pending-bit l from h) (record {
         low = f .low;
         high = omega (arith, f .high);
         passed = all-from _ (passes l)
             (λ j b. ⊎-elim (λ q. all-at from j (passes l) a q) (λ q. clear-passes j (f .before j q b)) (lt-or-ge j from));
-      }
+      })
 
   -- n places from i on pass, and all before k, which is one of them: so do all up to their end
   pub next-more : {k : ℕ} (i n : ℕ) → Next l 0 k → i ≤ k → placesPass l i n ≡ true → all (i + n) (passes l) ≡ true

@@ -1,5 +1,5 @@
 // Whether bytes of a record's size are a sound record (document 01, "Sound"): a function for each clause of record's specs/Sound.antt, the
-// clause of the messages in postbox. Any bytes are read without fault.
+// clause of the messages in pending.rt. Any bytes are read without fault.
 ghost use mathlib.Core.Path.{_≡_};
 ghost use mathlib.Core.Bool.{true, _&&_};
 ghost use lib.ListN.{length};

@@ -11,24 +11,14 @@ ghost use Rattle.record.specs.Layout.{seats, messages, size};
 ghost use Rattle.record.specs.Meaning.{seatsIn};
 ghost use Rattle.record.specs.Sound.{messagesFit};
 ghost use Rattle.soundness.specs.inner.Pending.{fits, placesPass};
-use record::LEVELS;
+use messages::first_pending;
+use messages::message_at;
 use record::MESSAGES;
 use record::PENDING;
-use record::SEATS;
-use record::WIDTH;
 use record::lots::is_clearing;
 use record::lots::is_seated;
 use record::lots::is_staying;
 use record::lots::pair_fits;
-
-// How many messages a kind has: MEET, SEEK and FOUND; PROBE; PULL; GOING and NONE.
-const MEETS: usize = SEATS * SEATS * LEVELS;
-
-const PROBES: usize = SEATS * SEATS * WIDTH;
-
-const PULLS: usize = SEATS * 2 * WIDTH * 2;
-
-const GOINGS: usize = SEATS * LEVELS * 2;
 
 // How many messages are looked at together: the bits of a word, and its bytes.
 const WORD: usize = 64;
@@ -88,36 +78,26 @@ fn none_fits(rec: &[u8], to: usize, level: usize) -> bool
     is_clearing(rec) && is_staying(rec, to)
 }
 
-// The message at place i: its kind by the block that holds i, its numbers by the digits of its place there.
+// The message at place i.
 fn message_fits(rec: &[u8], i: usize) -> bool
     requires { ⌜ (length (now rec) ≡ size) × (i < messages) ⌝ }
     ensures { λ r. ⌜ r ≡ fits (now (rec .entry)) i ⌝ }
 {
-    if i < MEETS {
-        return meet_fits(rec, i / LEVELS / SEATS, i / LEVELS % SEATS, i % LEVELS);
+    let m = message_at(i);
+    let kind = m.kind;
+    let to = m.to as usize;
+    let about = m.about as usize;
+    let level = m.level as usize;
+    match kind {
+        1 => meet_fits(rec, to, about, level),
+        2 => probe_fits(rec, to, about, level),
+        3 => pull_fits(rec, to, level),
+        4 => going_fits(rec, to, level),
+        5 => seek_fits(rec, to, about, level),
+        6 => found_fits(rec, to, about, level),
+        7 => none_fits(rec, to, level),
+        _ => false,
     }
-    let p = i - MEETS;
-    if p < PROBES {
-        return probe_fits(rec, p / WIDTH / SEATS, p / WIDTH % SEATS, p % WIDTH);
-    }
-    let q = p - PROBES;
-    if q < PULLS {
-        return pull_fits(rec, q / 2 / WIDTH / 2, q / 2 % WIDTH);
-    }
-    let g = q - PULLS;
-    if g < GOINGS {
-        return going_fits(rec, g / 2 / LEVELS, g / 2 % LEVELS);
-    }
-    let s = g - GOINGS;
-    if s < MEETS {
-        return seek_fits(rec, s / LEVELS / SEATS, s / LEVELS % SEATS, s % LEVELS);
-    }
-    let f = s - MEETS;
-    if f < MEETS {
-        return found_fits(rec, f / LEVELS / SEATS, f / LEVELS % SEATS, f % LEVELS);
-    }
-    let n = f - MEETS;
-    none_fits(rec, n / 2 / LEVELS, n / 2 % LEVELS)
 }
 
 // Whether the pending messages among the 64 from place 64 * w on fit. Their bits are read once.
@@ -143,13 +123,13 @@ pub fn messages_fit(rec: &[u8]) -> bool
     requires { ⌜ length (now rec) ≡ size ⌝ }
     ensures { λ r. ⌜ r ≡ messagesFit (now (rec .entry)) ⌝ }
 {
-    let mut i = memory::first_bit(rec, PENDING, 0, MESSAGES);
+    let mut i = first_pending(rec, 0);
     while i < MESSAGES {
         let w = i / WORD;
         if !word_fits(rec, w) {
             return false;
         }
-        i = memory::first_bit(rec, PENDING, WORD * w + WORD, MESSAGES);
+        i = first_pending(rec, WORD * w + WORD);
     }
     true
 }

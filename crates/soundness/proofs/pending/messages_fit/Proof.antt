@@ -17,11 +17,11 @@ Inv-loop rec i₀ i = Next rec 0 i
 abbrev μ-loop : tie.MeasureT-loop
 μ-loop rec i₀ i = messages - i
 
-first-bit-requires : tie.Need-first-bit-requires Inv-loop μ-loop
-first-bit-requires c κs = search needs
+first-pending-requires : tie.Need-first-pending-requires Inv-loop μ-loop
+first-pending-requires c κs = search needs
 
 loop-holds : tie.Need-loop-holds Inv-loop μ-loop
-loop-holds c = rw (c .first-bit .ensures) (next-first (c .before .before .args .rec .now) 0 (search needs) (all-none _))
+loop-holds c = rw (c .first-pending .ensures .0) (next-first (c .before .before .args .rec .now) 0 (search needs) (all-none _))
 
 word-fits-requires : tie.Need-word-fits-requires Inv-loop μ-loop
 word-fits-requires c κs = search needs
@@ -33,23 +33,23 @@ returns c =
     let fails = sym (c .before .word-fits .ensures) ∙ not-true _ (c .if1 .taken) in
     sym (next-fails (b .before .before .before .args .rec .now) (64 * (b .loop .i / 64)) 64 (omega arith) fails)
 
-mul-first-bit : tie.Need-mul-first-bit Inv-loop μ-loop
-mul-first-bit c = search needs
+mul-first-pending : tie.Need-mul-first-pending Inv-loop μ-loop
+mul-first-pending c = search needs
 
-add-first-bit : tie.Need-add-first-bit Inv-loop μ-loop
-add-first-bit c = search needs
+add-first-pending : tie.Need-add-first-pending Inv-loop μ-loop
+add-first-pending c = search needs
 
-first-bit-requires-2 : tie.Need-first-bit-requires-2 Inv-loop μ-loop
-first-bit-requires-2 c κs = search needs
+first-pending-requires-2 : tie.Need-first-pending-requires-2 Inv-loop μ-loop
+first-pending-requires-2 c κs = search needs
 
 -- the place found next
-found-next : (c : tie.After-first-bit2 Inv-loop μ-loop) → let b = c .before .before .before .before in
-    Next (b .before .before .before .args .rec .now) (64 * (b .loop .i / 64) + 64) (c .first-bit2 .result)
+found-next : (c : tie.After-first-pending2 Inv-loop μ-loop) → let b = c .before .before .before .before in
+    Next (b .before .before .before .args .rec .now) (64 * (b .loop .i / 64) + 64) (c .first-pending2 .result)
 found-next c =
     let b = c .before .before .before .before in
     let from = 64 * (b .loop .i / 64) in
     let ok = sym (c .before .before .word-fits .ensures) ∙ not-false _ (c .before .if1 .left) in
-    rw (c .first-bit2 .ensures) (next-first _ (from + 64) (search needs) (next-more _ from 64 (b .loop .inv) (search needs) ok))
+    rw (c .first-pending2 .ensures .0) (next-first _ (from + 64) (search needs) (next-more _ from 64 (b .loop .inv) (search needs) ok))
 
 loop-less : tie.Need-loop-less Inv-loop μ-loop
 loop-less c = omega (arith, found-next c .low)
@@ -67,13 +67,13 @@ messages-fit-spec =
     (tie.spec
     Inv-loop
     μ-loop
-    first-bit-requires
+    first-pending-requires
     loop-holds
     word-fits-requires
     returns
-    mul-first-bit
-    add-first-bit
-    first-bit-requires-2
+    mul-first-pending
+    add-first-pending
+    first-pending-requires-2
     loop-less
     loop-again
     returns-2)
