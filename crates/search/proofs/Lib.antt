@@ -6,7 +6,6 @@ pub mod Search
 pub mod Hops
 pub mod Holder
 pub mod Check
-pub mod LocalCheck
-pub mod Chains
-pub mod Local
-pub mod Examples
+pub mod Ahead
+pub mod LinkTests
+pub mod LinkCheck
