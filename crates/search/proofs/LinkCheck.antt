@@ -38,6 +38,9 @@ backs-sorted sided b = record {
   order = λ {x} {k} {y} {d} m l e. sided .order x k y d m l e;
 }
 
+pub constraints-backs : {W : ℕ} {G : Lots} {L : Links} → Constraints W G L → Backs W G L
+constraints-backs c = record { within = c .within; back = c .back }
+
 module _ {W : ℕ} {G : Lots} {L : Links} (sided : Sided W G L) (backs : Backs W G L) {k : ℕ} (less : k < W) where
   low : k ≤ W
   low = omega arith
@@ -142,9 +145,6 @@ module _ {N W : ℕ} {G : Lots} {L : Links} (laws : Laws N G) (sided : Sided W G
       first = first;
       last = last;
     }
-
-  pub constraints-backs : Constraints W G L → Backs W G L
-  constraints-backs c = record { within = c .within; back = c .back }
 
   constraints-aboves : Constraints W G L → Aboves N W G L
   constraints-aboves c x k m l = let b = constraints-backs c in
