@@ -1,29 +1,56 @@
--- `check_links::level_fits` meets its contract. Assumes nothing.
-use Rattle.base.proofs.Tests.{true-false}
-use Rattle.search.proofs.LocalCheck.{levelOk}
-use Rattle.base.proofs.Stops.{and-stop, and-go}
+-- `check_links::level_fits` meets its contract. The loop's invariant: all seats below x pass. Assumes nothing.
+use Prim.Native.Nat.{_≤_, _-_}
+use mathlib.Core.Path.{_≡_}
+use mathlib.Core.Bool.{true}
+use Rattle.base.specs.Loops.{all}
+use Rattle.base.proofs.All.{all-none}
+use Rattle.base.proofs.Stops.{all-stop, all-go, all-end}
+use Rattle.graph.specs.Vector.{width}
+use Rattle.protocol.specs.State.{members}
+use Rattle.record.specs.Layout.{seats}
+use Rattle.record.specs.Meaning.{seatsIn, meaning}
+use Rattle.search.specs.inner.LinkCheck.{lotOk}
 use borrow.Author.Needs.{needs}
 use Rattle.check_links.proofs.level_fits.Statement.{statement}
 use Rattle.check_links.proofs.level_fits.Tie as tie
 
-left-fits-requires : tie.Need-left-fits-requires
-left-fits-requires c κs = search needs
+abbrev Inv-loop : tie.InvT-loop
+Inv-loop rec k x₀ x = (x ≤ seats) × (all x (lotOk seats width (members (seatsIn rec)) (meaning rec .link) k) ≡ true)
 
-right-fits-requires : tie.Need-right-fits-requires
-right-fits-requires c κs = search needs
+abbrev μ-loop : tie.MeasureT-loop
+μ-loop rec k x₀ x = seats - x
 
-returns : tie.Need-returns
-unfolding levelOk
-returns c =
-    let a = c .before .before .left-fits in
-    let t = c .before .if1 .taken in
-    (and-go (a .ensures .0) t (c .right-fits .ensures), λ z. a .ensures .1 t)
+loop-holds : tie.Need-loop-holds Inv-loop μ-loop
+loop-holds c = (search needs, all-none _)
 
-returns-2 : tie.Need-returns-2
-unfolding levelOk
-returns-2 c =
-    let a = c .before .left-fits in
-    (and-stop _ (a .ensures .0) (c .if1 .left), λ z. true-false z (c .if1 .left))
+lot-fits-requires : tie.Need-lot-fits-requires Inv-loop μ-loop
+lot-fits-requires c κs = search needs
+
+returns : tie.Need-returns Inv-loop μ-loop
+returns c = all-stop _ _ _ (search needs) (c .before .lot-fits .ensures) (c .if1 .taken)
+
+add-x : tie.Need-add-x Inv-loop μ-loop
+add-x c = search needs
+
+loop-less : tie.Need-loop-less Inv-loop μ-loop
+loop-less c = search needs
+
+loop-again : tie.Need-loop-again Inv-loop μ-loop
+loop-again c = (search needs, all-go _ _ (c .before .before .before .loop .inv .1) (c .before .lot-fits .ensures) (c .if1 .left))
+
+returns-2 : tie.Need-returns-2 Inv-loop μ-loop
+returns-2 c = all-end _ _ _ (search needs) (search needs) (c .before .loop .inv .1)
 
 pub level-fits-spec : {M : Type 1} → statement M
-level-fits-spec = tie.close (tie.spec left-fits-requires right-fits-requires returns returns-2)
+level-fits-spec =
+    tie.close
+    (tie.spec
+    Inv-loop
+    μ-loop
+    loop-holds
+    lot-fits-requires
+    returns
+    add-x
+    loop-less
+    loop-again
+    returns-2)
