@@ -8,7 +8,7 @@ use mathlib.Core.List.{List}
 use native.Mathlib.Omega.{arith}
 use lib.Dec.{eqb, leb}
 use lib.ListN.{getD}
-use borrow.Author.Tests.{eq-eqb, ne-eqb}
+use native.Mathlib.Numerals.{add-one}
 use Rattle.base.specs.Loops.{oneIf}
 use Rattle.graph.specs.Side.{right}
 use Rattle.graph.specs.Vector.{width, sameBit, bit}
@@ -58,20 +58,15 @@ module _ (l : List ℕ) (k : ℕ) (b : Bool) where
   unfolding ahead
   run-end o = refl
 
-module _ (l : List ℕ) (x k : ℕ) (h : x < seats) (g : k < levels) where
-  pub above-ground : k ≡ 0 → true ≡ aboveOk seats width (members (seatsIn l)) (meaning l .link) x k
+-- the right link of x one level above k: y is its byte, z what the run has found
+module _ (l : List ℕ) (x k y z : ℕ) (h : x < seats) (g : k < width) (e : y ≡ getD l (entryAt x + 10 + 2 * (k + 1) + 1) 0)
+    (f : linkOf z ≡ aheadOf seats width (members (seatsIn l)) (meaning l .link) x k) where
+  above-byte : aboveOk seats width (members (seatsIn l)) (meaning l .link) x k ≡ sameLink (linkOf y) (linkOf z)
   unfolding aboveOk
-  above-ground e = rw (eq-eqb k 0 e)
+  above-byte = rw (← add-one k, link-read l x (k + 1) 1 y h (omega arith) (omega arith) e, f)
 
-  -- y is the byte of the right link, z what the run has found
-  module _ (y z : ℕ) (ne : k ≢ 0) (e : y ≡ getD l (entryAt x + 10 + 2 * k + 1) 0)
-      (f : linkOf z ≡ aheadOf seats width (members (seatsIn l)) (meaning l .link) x (k - 1)) where
-    above-byte : aboveOk seats width (members (seatsIn l)) (meaning l .link) x k ≡ sameLink (linkOf y) (linkOf z)
-    unfolding aboveOk
-    above-byte = rw (ne-eqb k 0 ne, link-read l x k 1 y h g (omega arith) e, f)
+  pub above-none : seats ≤ z → leb seats y ≡ aboveOk seats width (members (seatsIn l)) (meaning l .link) x k
+  above-none q = rw (above-byte, linkOf-none z q, same-none y)
 
-    pub above-none : seats ≤ z → leb seats y ≡ aboveOk seats width (members (seatsIn l)) (meaning l .link) x k
-    above-none q = rw (above-byte, linkOf-none z q, same-none y)
-
-    pub above-some : z < seats → eqb y z ≡ aboveOk seats width (members (seatsIn l)) (meaning l .link) x k
-    above-some q = rw (above-byte, linkOf-some z q, same-seat y z q)
+  pub above-some : z < seats → eqb y z ≡ aboveOk seats width (members (seatsIn l)) (meaning l .link) x k
+  above-some q = rw (above-byte, linkOf-some z q, same-seat y z q)

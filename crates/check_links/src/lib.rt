@@ -1,7 +1,7 @@
 // The check of the links over a lent record (document 01, "Check"), without a table. At every level each link of a member names a member that links
 // back. Above level 0 its right link is the first lot to the right on the level below that has its next bit; the left links then follow from the
 // links back. And at most one member is without a left link at level 0. A run to the right stops at the first lot with the bit, so that it passes
-// only lots with the other bit, and each lot is passed by one run at most: linear in the links, since the level below has passed.
+// only lots with the other bit; where links have their links back each lot is passed by one run at most for each level, and the whole is linear.
 ghost use mathlib.Core.Path.{_≡_};
 ghost use mathlib.Core.Bool.{true};
 ghost use Prim.Native.Nat.{_<_};
@@ -14,7 +14,7 @@ ghost use Rattle.record.specs.Layout.{seats, levels, size};
 ghost use Rattle.record.specs.Meaning.{linkOf, seatsIn, meaning};
 ghost use Rattle.record.specs.Sound.{sound};
 ghost use Rattle.base.specs.Loops.{oneIf, all, count};
-ghost use Rattle.search.specs.inner.LinkCheck.{backOf, startsAt, aheadOf, aboveOk, lotOk, constraintsOk, linksOk};
+ghost use Rattle.search.specs.inner.LinkCheck.{backOf, backsOk, startsAt, aheadOf, aboveOk, lotBacks, lotAboves, constraintsOk, linksOk};
 ghost use Rattle.check_links.specs.Check.{checkIn};
 ghost use Rattle.check_links.specs.Answer.{answerOf};
 use record::LEVELS;
@@ -63,6 +63,42 @@ fn back_fits(rec: &[u8], x: usize, k: usize, d: usize) -> bool
     seated_is_member(rec, y) && record::link(rec, y, k, 1 - d) as usize == x
 }
 
+// Both links of x at level k.
+fn backs_fit(rec: &[u8], x: usize, k: usize) -> bool
+    requires { ⌜ (length (now rec) ≡ size) × (sound (now rec) ≡ true) × (x < seats) × (k < levels) ⌝ }
+    ensures { λ r. ⌜ (let l = now (rec .entry) in r ≡ backsOk (members (seatsIn l)) (meaning l .link) x k) ⌝ }
+{
+    back_fits(rec, x, k, LEFT) && back_fits(rec, x, k, RIGHT)
+}
+
+// All links of x, if it is a member.
+fn lot_backs_fit(rec: &[u8], x: usize) -> bool
+    requires { ⌜ (length (now rec) ≡ size) × (sound (now rec) ≡ true) × (x < seats) ⌝ }
+    ensures { λ r. ⌜ (let l = now (rec .entry) in r ≡ lotBacks seats width (members (seatsIn l)) (meaning l .link) x) ⌝ }
+{
+    if !is_member(rec, x) {
+        return true;
+    }
+    for k in 0..LEVELS {
+        if !backs_fit(rec, x, k) {
+            return false;
+        }
+    }
+    true
+}
+
+fn all_backs_fit(rec: &[u8]) -> bool
+    requires { ⌜ (length (now rec) ≡ size) × (sound (now rec) ≡ true) ⌝ }
+    ensures { λ r. ⌜ (let l = now (rec .entry) in r ≡ all seats (lotBacks seats width (members (seatsIn l)) (meaning l .link))) ⌝ }
+{
+    for x in 0..SEATS {
+        if !lot_backs_fit(rec, x) {
+            return false;
+        }
+    }
+    true
+}
+
 // Bit k of the vector of the lot on seat s.
 fn bit_of(rec: &[u8], s: usize, k: usize) -> usize
     requires { ⌜ (length (now rec) ≡ size) × (s < seats) × (k < width) ⌝ }
@@ -90,57 +126,53 @@ fn ahead(rec: &[u8], x: usize, k: usize) -> usize
     y
 }
 
-// Whether the right link of x at level k is that lot of the level below.
+// Whether the right link of x one level above k is that lot.
 fn above_fits(rec: &[u8], x: usize, k: usize) -> bool
-    requires { ⌜ (length (now rec) ≡ size) × (x < seats) × (k < levels) ⌝ }
+    requires { ⌜ (length (now rec) ≡ size) × (x < seats) × (k < width) ⌝ }
     ensures { λ r. ⌜ (let l = now (rec .entry) in r ≡ aboveOk seats width (members (seatsIn l)) (meaning l .link) x k) ⌝ }
 {
-    if k == 0 {
-        return true;
-    }
-    let y = record::link(rec, x, k, RIGHT) as usize;
-    let z = ahead(rec, x, k - 1);
+    let y = record::link(rec, x, k + 1, RIGHT) as usize;
+    let z = ahead(rec, x, k);
     if z >= SEATS {
         return y >= SEATS;
     }
     y == z
 }
 
-// The tests of x at level k, if it is a member.
-fn lot_fits(rec: &[u8], x: usize, k: usize) -> bool
-    requires { ⌜ (length (now rec) ≡ size) × (sound (now rec) ≡ true) × (x < seats) × (k < levels) ⌝ }
-    ensures { λ r. ⌜ (let l = now (rec .entry) in r ≡ lotOk seats width (members (seatsIn l)) (meaning l .link) k x) ⌝ }
+// The right links of x above level 0, if it is a member.
+fn lot_aboves_fit(rec: &[u8], x: usize) -> bool
+    requires { ⌜ (length (now rec) ≡ size) × (x < seats) ⌝ }
+    ensures { λ r. ⌜ (let l = now (rec .entry) in r ≡ lotAboves seats width (members (seatsIn l)) (meaning l .link) x) ⌝ }
 {
     if !is_member(rec, x) {
         return true;
     }
-    back_fits(rec, x, k, LEFT) && (back_fits(rec, x, k, RIGHT) && above_fits(rec, x, k))
-}
-
-// Level k, given the level below.
-fn level_fits(rec: &[u8], k: usize) -> bool
-    requires { ⌜ (length (now rec) ≡ size) × (sound (now rec) ≡ true) × (k < levels) ⌝ }
-    ensures { λ r. ⌜ (let l = now (rec .entry) in r ≡ all seats (lotOk seats width (members (seatsIn l)) (meaning l .link) k)) ⌝ }
-{
-    for x in 0..SEATS {
-        if !lot_fits(rec, x, k) {
+    for k in 0..WIDTH {
+        if !above_fits(rec, x, k) {
             return false;
         }
     }
     true
 }
 
-// Constraints 1 to 6: all levels, from level 0 up.
+fn all_aboves_fit(rec: &[u8]) -> bool
+    requires { ⌜ length (now rec) ≡ size ⌝ }
+    ensures { λ r. ⌜ (let l = now (rec .entry) in r ≡ all seats (lotAboves seats width (members (seatsIn l)) (meaning l .link))) ⌝ }
+{
+    for x in 0..SEATS {
+        if !lot_aboves_fit(rec, x) {
+            return false;
+        }
+    }
+    true
+}
+
+// Constraints 1 to 6: the links back first, so that the runs of all lots together are linear.
 fn constraints_fit(rec: &[u8]) -> bool
     requires { ⌜ (length (now rec) ≡ size) × (sound (now rec) ≡ true) ⌝ }
     ensures { λ r. ⌜ (let l = now (rec .entry) in r ≡ constraintsOk seats width (members (seatsIn l)) (meaning l .link)) ⌝ }
 {
-    for k in 0..LEVELS {
-        if !level_fits(rec, k) {
-            return false;
-        }
-    }
-    true
+    all_backs_fit(rec) && all_aboves_fit(rec)
 }
 
 // Whether x is a member without a left link at level 0.

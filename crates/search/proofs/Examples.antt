@@ -13,7 +13,7 @@ use Rattle.graph.proofs.Examples.{settledQ, linkQ}
 use Rattle.search.specs.Walk.{Found, along, stepAt, walk, path, holderAt, find}
 use Rattle.base.specs.Loops.{all, count}
 use Rattle.search.specs.Check.{sameLink, levelRight, check}
-use Rattle.search.specs.inner.LinkCheck.{backOf, startsAt, ahead, aboveOk, lotOk, constraintsOk, linksOk}
+use Rattle.search.specs.inner.LinkCheck.{backOf, backsOk, startsAt, ahead, aboveOk, lotBacks, lotAboves, constraintsOk, linksOk}
 
 -- F start number, in Q
 abbrev findQ : (s x : ℕ) → Found
@@ -40,7 +40,7 @@ abbrev Checked : Lots → Links → Bool → Type 0
 Checked G L b = (check 4 8 G L ≡ b) × (linksOk 4 8 G L ≡ b)
 
 pub yes-Q : Checked settledQ linkQ true
-unfolding check levelRight all count sameLink linksOk constraintsOk lotOk aboveOk ahead backOf startsAt
+unfolding check levelRight all count sameLink linksOk constraintsOk lotBacks lotAboves aboveOk ahead backsOk backOf startsAt
     graph nearest nearer beside inList onSide shared equalBits bit
 yes-Q = (refl, refl)
 
@@ -50,7 +50,7 @@ missing x k left = cond (eqb x 2 && eqb k 1) none (linkQ x k left)
 missing x k right = linkQ x k right
 
 pub no-missing : Checked settledQ missing false
-unfolding check levelRight all count sameLink linksOk constraintsOk lotOk aboveOk ahead backOf startsAt
+unfolding check levelRight all count sameLink linksOk constraintsOk lotBacks lotAboves aboveOk ahead backsOk backOf startsAt
     graph nearest nearer beside inList onSide shared equalBits bit
 no-missing = (refl, refl)
 
@@ -73,10 +73,11 @@ yes-each = refl
 
 -- so Constraints 1 to 6 hold, and what fails is that lot 300 is a second one that starts a level-0 list
 pub second-start : (constraintsOk 4 8 (fourLots (λ x. 0)) twoLists ≡ true) × (count 4 (startsAt (fourLots (λ x. 0)) twoLists) ≡ 2)
-unfolding all count sameLink constraintsOk lotOk aboveOk ahead backOf startsAt graph nearest nearer beside inList onSide shared equalBits bit
+unfolding all count sameLink constraintsOk lotBacks lotAboves aboveOk ahead backsOk backOf startsAt
+    graph nearest nearer beside inList onSide shared equalBits bit
 second-start = (refl, refl)
 
 pub no-two-lists : Checked (fourLots (λ x. 0)) twoLists false
-unfolding check levelRight all count sameLink linksOk constraintsOk lotOk aboveOk ahead backOf startsAt
+unfolding check levelRight all count sameLink linksOk constraintsOk lotBacks lotAboves aboveOk ahead backsOk backOf startsAt
     graph nearest nearer beside inList onSide shared equalBits bit
 no-two-lists = (refl, refl)

@@ -1,20 +1,19 @@
 -- What the tests of the link check say of the links, test by test. Assumes that members sit below N.
-use Prim.Native.Nat.{ℕ, zero, suc, _-_, _≤_, _<_}
+use Prim.Native.Nat.{ℕ, suc, _≤_, _<_}
 use mathlib.Core.Path.{_≡_, refl}
 use mathlib.Core.Logic.{_↔_}
 use mathlib.Core.Option.{Option, none, some}
 use mathlib.Core.Bool.{Bool, _&&_}
 use native.Mathlib.Omega.{arith}
 use lib.Dec.{T}
-use borrow.Author.Tests.{ne-eqb}
 use Rattle.base.specs.Loops.{all}
 use Rattle.base.proofs.Tests.{and-T, and-fst, and-snd}
 use Rattle.graph.specs.Side.{Side, left, right, opp}
 use Rattle.graph.specs.Graph.{Lots, Links}
 use Rattle.search.specs.Check.{sameLink}
-use Rattle.search.specs.inner.LinkCheck.{backOf, startsAt, aheadOf, aboveOk, lotOk, constraintsOk}
-use Rattle.search.proofs.Count.{when-T, T-when, all-passes, passes-all}
-use Rattle.search.proofs.Check.{link-eq, eq-link}
+use Rattle.search.specs.inner.LinkCheck.{backOf, backsOk, startsAt, aheadOf, aboveOk, lotBacks, lotAboves, constraintsOk}
+use Rattle.search.proofs.Count.{all-passes, passes-all}
+use Rattle.search.proofs.Check.{link-eq, eq-link, both-at, at-both, members-at}
 
 -- the links of members name members, and have their links back
 pub record Backs (W : ℕ) (G : Lots) (L : Links) : Type 0 where
@@ -48,49 +47,41 @@ module _ (G : Lots) (L : Links) where
     (λ p. and-T (G .member x) b (p .0) (eq-link (p .1))),
   )
 
-module _ (N W : ℕ) (G : Lots) (L : Links) where
-  above-test : (x k : ℕ) → T (aboveOk N W G L x (suc k)) ↔ (L x (suc k) right ≡ aheadOf N W G L x k)
-  unfolding aboveOk
-  above-test x k = let e : suc k - 1 ≡ k = omega arith in rw (ne-eqb (suc k) 0 (λ f. omega arith), e) (link-eq (L x (suc k) right) (aheadOf N W G L x k), eq-link)
+  -- the test of both sides
+  backs-at : (x k : ℕ) → T (backsOk G L x k) → (d : Side) → T (backOf G L x k d (L x k d))
+  unfolding backsOk
+  backs-at x k t d = both-at (λ d. backOf G L x k d (L x k d)) d t
 
-  test-above : Backs W G L × Aboves N W G L → (x k : ℕ) → T (G .member x) → k ≤ W → T (aboveOk N W G L x k)
-  unfolding aboveOk
-  test-above h x zero m l = tt
-  test-above h x (suc k) m l = above-test x k .1 (h .1 x k m l)
+  at-backs : (x k : ℕ) → ((d : Side) → T (backOf G L x k d (L x k d))) → T (backsOk G L x k)
+  unfolding backsOk
+  at-backs x k h = at-both (λ d. backOf G L x k d (L x k d)) h
 
-  -- the three tests of a lot at a level
-  abbrev backs : (x k : ℕ) → Side → Bool
-  backs x k d = backOf G L x k d (L x k d)
-
-  lot-back : (x k : ℕ) (d : Side) → T (backs x k left && (backs x k right && aboveOk N W G L x k)) → T (backs x k d)
-  lot-back x k left t = and-fst (backs x k left) (backs x k right && aboveOk N W G L x k) t
-  lot-back x k right t = and-fst (backs x k right) (aboveOk N W G L x k) (and-snd (backs x k left) (backs x k right && aboveOk N W G L x k) t)
-
-  lot-above : (x k : ℕ) → T (backs x k left && (backs x k right && aboveOk N W G L x k)) → T (aboveOk N W G L x k)
-  lot-above x k t = and-snd (backs x k right) (aboveOk N W G L x k) (and-snd (backs x k left) (backs x k right && aboveOk N W G L x k) t)
-
-  lot-all : (x k : ℕ) → ((d : Side) → T (backs x k d)) → T (aboveOk N W G L x k) → T (backs x k left && (backs x k right && aboveOk N W G L x k))
-  lot-all x k b a = and-T (backs x k left) (backs x k right && aboveOk N W G L x k) (b left) (and-T (backs x k right) (aboveOk N W G L x k) (b right) a)
-
-  module _ (seat : (x : ℕ) → T (G .member x) → x < N) where
-    lot-at : T (constraintsOk N W G L) → (x k : ℕ) → T (G .member x) → k ≤ W → T (backs x k left && (backs x k right && aboveOk N W G L x k))
-    unfolding constraintsOk lotOk
-    lot-at t x k m l = T-when (G .member x) (backs x k left && (backs x k right && aboveOk N W G L x k))
-        (all-passes N (lotOk N W G L k) x (seat x m) (all-passes (suc W) (λ k. all N (lotOk N W G L k)) k (omega arith) t)) m
-
-    at-lot : ((x k : ℕ) → T (G .member x) → k ≤ W → T (backs x k left && (backs x k right && aboveOk N W G L x k))) → T (constraintsOk N W G L)
-    unfolding constraintsOk lotOk
-    at-lot h = passes-all (suc W) (λ k. all N (lotOk N W G L k)) (λ k l. passes-all N (lotOk N W G L k) (λ x i.
-        when-T (G .member x) (backs x k left && (backs x k right && aboveOk N W G L x k)) (λ m. h x k m (omega arith))))
-
-    pub tests-say : T (constraintsOk N W G L) ↔ (Backs W G L × Aboves N W G L)
-    tests-say = (
-      (λ t. (
+module _ (N W : ℕ) (G : Lots) (L : Links) (seat : (x : ℕ) → T (G .member x) → x < N) where
+  -- the links back, of all members at all levels
+  all-backs : T (all N (lotBacks N W G L)) ↔ Backs W G L
+  unfolding lotBacks
+  all-backs = let (to, from) = members-at N (G .member) (λ x. all (suc W) (backsOk G L x)) seat in (
+    (λ t. let at : (x k : ℕ) → T (G .member x) → k ≤ W → T (backsOk G L x k) =
+        λ x k m l. all-passes (suc W) (backsOk G L x) k (omega arith) (to t x m) in
         record {
-          within = λ x k y d m l e. back-at G L x k y d (lot-back x k d (lot-at t x k m l)) e .0;
-          back = λ x k y d m l e. back-at G L x k y d (lot-back x k d (lot-at t x k m l)) e .1;
-        },
-        (λ x k m l. above-test x k .0 (lot-above x (suc k) (lot-at t x (suc k) m l))),
-      )),
-      (λ h. at-lot (λ x k m l. lot-all x k (λ d. at-back G L x k d (λ y e. (h .0 .within x k y d m l e, h .0 .back x k y d m l e))) (test-above h x k m l))),
-    )
+          within = λ x k y d m l e. back-at G L x k y d (backs-at G L x k (at x k m l) d) e .0;
+          back = λ x k y d m l e. back-at G L x k y d (backs-at G L x k (at x k m l) d) e .1;
+        }),
+    (λ b. from (λ x m. passes-all (suc W) (backsOk G L x) (λ k l. at-backs G L x k (λ d.
+        at-back G L x k d (λ y e. (b .within x k y d m (omega arith) e, b .back x k y d m (omega arith) e)))))),
+  )
+
+  -- the right links above level 0
+  all-aboves : T (all N (lotAboves N W G L)) ↔ Aboves N W G L
+  unfolding lotAboves aboveOk
+  all-aboves = let (to, from) = members-at N (G .member) (λ x. all W (aboveOk N W G L x)) seat in (
+    (λ t x k m l. link-eq (L x (suc k) right) (aheadOf N W G L x k) (all-passes W (aboveOk N W G L x) k l (to t x m))),
+    (λ h. from (λ x m. passes-all W (aboveOk N W G L x) (λ k l. eq-link (h x k m l)))),
+  )
+
+  pub tests-say : T (constraintsOk N W G L) ↔ (Backs W G L × Aboves N W G L)
+  unfolding constraintsOk
+  tests-say = let b = all N (lotBacks N W G L) in let a = all N (lotAboves N W G L) in (
+    (λ t. (all-backs .0 (and-fst b a t), all-aboves .0 (and-snd b a t))),
+    (λ h. and-T b a (all-backs .1 (h .0)) (all-aboves .1 (h .1))),
+  )

@@ -1,9 +1,9 @@
 -- The check of the links as the code makes it, without a table. At every level each link of a member names a member that links back; and above
 -- level 0 its right link is the first lot to the right on the level below that has its next bit. One start is asked apart. Assumes nothing.
-use Prim.Native.Nat.{ℕ, zero, suc, _-_}
+use Prim.Native.Nat.{ℕ, zero, suc}
 use mathlib.Core.Option.{Option, none, some}
 use mathlib.Core.Bool.{Bool, true, not, cond, _&&_, _||_}
-use lib.Dec.{eqb, leb}
+use lib.Dec.{leb}
 use Rattle.base.specs.Loops.{all, count}
 use Rattle.graph.specs.Side.{Side, left, right, opp}
 use Rattle.graph.specs.Vector.{sameBit, bit}
@@ -15,6 +15,10 @@ module _ (G : Lots) (L : Links) where
   unfoldable pub backOf : (x k : ℕ) (d : Side) → Option ℕ → Bool
   backOf x k d none = true
   backOf x k d (some y) = G .member y && sameLink (L y k (opp d)) (some x)
+
+  -- both links of x at level k
+  unfoldable pub backsOk : (x k : ℕ) → Bool
+  backsOk x k = backOf x k left (L x k left) && backOf x k right (L x k right)
 
   -- x is a member without a left link at level 0
   unfoldable pub startsAt : ℕ → Bool
@@ -31,17 +35,21 @@ module _ (N W : ℕ) (G : Lots) (L : Links) where
   abbrev pub aheadOf : (x k : ℕ) → Option ℕ
   aheadOf x k = ahead W G L N k (bit W k (G .vector x)) (L x k right)
 
-  -- the right link of x at level k is that lot of the level below; level 0 has none below
+  -- the right link of x one level above k is that lot
   unfoldable pub aboveOk : (x k : ℕ) → Bool
-  aboveOk x k = eqb k 0 || sameLink (L x k right) (aheadOf x (k - 1))
+  aboveOk x k = sameLink (L x (suc k) right) (aheadOf x k)
 
-  -- the tests of x at level k
-  unfoldable pub lotOk : (k x : ℕ) → Bool
-  lotOk k x = not (G .member x) || (backOf G L x k left (L x k left) && (backOf G L x k right (L x k right) && aboveOk x k))
+  -- x is no member, or both its links at every level link back
+  unfoldable pub lotBacks : ℕ → Bool
+  lotBacks x = not (G .member x) || all (suc W) (backsOk G L x)
 
-  -- every member passes at every level: Constraints 1 to 6, with any number of level-0 lists
+  -- x is no member, or its right links above level 0 are as the level below says
+  unfoldable pub lotAboves : ℕ → Bool
+  lotAboves x = not (G .member x) || all W (aboveOk x)
+
+  -- every lot passes: Constraints 1 to 6, with any number of level-0 lists
   unfoldable pub constraintsOk : Bool
-  constraintsOk = all (suc W) (λ k. all N (lotOk k))
+  constraintsOk = all N lotBacks && all N lotAboves
 
   -- and one level-0 list: at most one member starts one
   unfoldable pub linksOk : Bool

@@ -1,4 +1,4 @@
--- `check_links::level_fits` meets its contract. The loop's invariant: all seats below x pass. Assumes nothing.
+-- `check_links::all_backs_fit` meets its contract. The loop's invariant: all seats below x pass. Assumes nothing.
 use Prim.Native.Nat.{_≤_, _-_}
 use mathlib.Core.Path.{_≡_}
 use mathlib.Core.Bool.{true}
@@ -9,25 +9,25 @@ use Rattle.graph.specs.Vector.{width}
 use Rattle.protocol.specs.State.{members}
 use Rattle.record.specs.Layout.{seats}
 use Rattle.record.specs.Meaning.{seatsIn, meaning}
-use Rattle.search.specs.inner.LinkCheck.{lotOk}
+use Rattle.search.specs.inner.LinkCheck.{lotBacks}
 use borrow.Author.Needs.{needs}
-use Rattle.check_links.proofs.level_fits.Statement.{statement}
-use Rattle.check_links.proofs.level_fits.Tie as tie
+use Rattle.check_links.proofs.all_backs_fit.Statement.{statement}
+use Rattle.check_links.proofs.all_backs_fit.Tie as tie
 
 abbrev Inv-loop : tie.InvT-loop
-Inv-loop rec k x₀ x = (x ≤ seats) × (all x (lotOk seats width (members (seatsIn rec)) (meaning rec .link) k) ≡ true)
+Inv-loop rec x₀ x = (x ≤ seats) × (all x (lotBacks seats width (members (seatsIn rec)) (meaning rec .link)) ≡ true)
 
 abbrev μ-loop : tie.MeasureT-loop
-μ-loop rec k x₀ x = seats - x
+μ-loop rec x₀ x = seats - x
 
 loop-holds : tie.Need-loop-holds Inv-loop μ-loop
 loop-holds c = (search needs, all-none _)
 
-lot-fits-requires : tie.Need-lot-fits-requires Inv-loop μ-loop
-lot-fits-requires c κs = search needs
+lot-backs-fit-requires : tie.Need-lot-backs-fit-requires Inv-loop μ-loop
+lot-backs-fit-requires c κs = search needs
 
 returns : tie.Need-returns Inv-loop μ-loop
-returns c = all-stop _ _ _ (search needs) (c .before .lot-fits .ensures) (c .if1 .taken)
+returns c = all-stop _ _ _ (search needs) (c .before .lot-backs-fit .ensures) (c .if1 .taken)
 
 add-x : tie.Need-add-x Inv-loop μ-loop
 add-x c = search needs
@@ -36,19 +36,19 @@ loop-less : tie.Need-loop-less Inv-loop μ-loop
 loop-less c = search needs
 
 loop-again : tie.Need-loop-again Inv-loop μ-loop
-loop-again c = (search needs, all-go _ _ (c .before .before .before .loop .inv .1) (c .before .lot-fits .ensures) (c .if1 .left))
+loop-again c = (search needs, all-go _ _ (c .before .before .before .loop .inv .1) (c .before .lot-backs-fit .ensures) (c .if1 .left))
 
 returns-2 : tie.Need-returns-2 Inv-loop μ-loop
 returns-2 c = all-end _ _ _ (search needs) (search needs) (c .before .loop .inv .1)
 
-pub level-fits-spec : {M : Type 1} → statement M
-level-fits-spec =
+pub all-backs-fit-spec : {M : Type 1} → statement M
+all-backs-fit-spec =
     tie.close
     (tie.spec
     Inv-loop
     μ-loop
     loop-holds
-    lot-fits-requires
+    lot-backs-fit-requires
     returns
     add-x
     loop-less
