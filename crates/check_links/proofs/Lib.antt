@@ -1,7 +1,5 @@
--- The check on the bytes: what its parts read, the marks, that looking only at neighbours and ends is enough on sound bytes, and what the answer says.
-pub mod Loops
+-- The check on the bytes: what its parts read, that on sound bytes the test of the links is the check of specs/, and what the answer says.
 pub mod Parts
-pub mod Marks
-pub mod Ends
+pub mod Runs
 pub mod Whole
 pub mod Facts

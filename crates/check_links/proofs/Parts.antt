@@ -1,5 +1,5 @@
--- The parts of the check that looks only at neighbours and ends (search's LocalCheck), by the bytes that the code reads. Assumes nothing.
-use Prim.Native.Nat.{ℕ, _+_, _*_, _≤_, _<_}
+-- The parts of the check of the links (search's LinkCheck), by the bytes that the code reads. Assumes nothing.
+use Prim.Native.Nat.{ℕ, suc, _+_, _-_, _*_, _^_, _/_, _%_, _≤_, _<_}
 use mathlib.Core.Path.{_≡_, refl}
 use mathlib.Core.Logic.{⊎-elim}
 use mathlib.Core.Option.{none, some}
@@ -10,27 +10,40 @@ use lib.Dec.{T, eqb, leb}
 use lib.ListN.{getD}
 use borrow.Author.Tests.{ne-eqb, lt-leb, le-leb}
 use Rattle.base.proofs.Cases.{lt-or-ge, eq-or-ne, and-true, and-false}
-use Rattle.graph.specs.Side.{left, right}
+use Rattle.base.specs.Loops.{oneIf}
+use Rattle.graph.specs.Side.{sideOfNumber}
+use Rattle.graph.specs.Vector.{width, bit}
 use Rattle.base.proofs.Tests.{T-true}
 use Rattle.protocol.specs.State.{oneComponent, seated, member, members}
-use Rattle.record.specs.Layout.{seats, levels, phaseAt, stateAt, entryAt}
+use Rattle.record.specs.Layout.{seats, levels, phaseAt, stateAt, vectorAt, entryAt}
 use Rattle.record.specs.Meaning.{linkOf, seatsIn, meaning}
 use Rattle.search.specs.Check.{sameLink}
-use Rattle.search.proofs.LocalCheck.{backOf, knownOf, endsAt}
-use Rattle.record.proofs.SeatBytes.{clearing-byte, seated-byte, stays-byte}
-use Rattle.record.proofs.Links.{linkOf-some, linkOf-none, link-read}
+use Rattle.search.specs.inner.LinkCheck.{backOf, startsAt}
+use Rattle.record.proofs.SeatBytes.{clearing-byte, seated-byte, stays-byte, vector-byte}
+use Rattle.record.proofs.Links.{linkOf-some, linkOf-none, side-opp, link-read}
+
+-- a test of those that m picks, which r says: one that it does not pick, and one that it does
+pub when-out : {r m : Bool} (b : Bool) → r ≡ m → not r ≡ true → true ≡ not m || b
+when-out b e f = rw (← e, f)
+
+pub when-in : {r m b s : Bool} → r ≡ m → not r ≡ false → s ≡ b → s ≡ not m || b
+when-in e t h = rw (← e, t) h
 
 -- two links by their bytes
-same-seat : (y x : ℕ) → x < seats → sameLink (linkOf y) (some x) ≡ eqb y x
+pub same-seat : (y x : ℕ) → x < seats → sameLink (linkOf y) (some x) ≡ eqb y x
 unfolding sameLink
 same-seat y x h = ⊎-elim
     (λ q. rw (linkOf-some y q))
     (λ q. rw (linkOf-none y q, ne-eqb y x (λ e. omega arith)))
     (lt-or-ge y seats)
 
-same-none : (y : ℕ) → sameLink (linkOf y) none ≡ leb seats y
+pub same-none : (y : ℕ) → sameLink (linkOf y) none ≡ leb seats y
 unfolding sameLink
 same-none y = ⊎-elim (λ q. rw (linkOf-some y q, lt-leb seats y q)) (λ q. rw (linkOf-none y q, le-leb seats y q)) (lt-or-ge y seats)
+
+-- a bit as a number
+odd-one : (n : ℕ) → n % 2 ≡ oneIf (eqb (n % 2) 1)
+odd-one n = ⊎-elim (λ e. rw e) (λ ne. rw (ne-eqb (n % 2) 1 ne) (omega (arith, ne))) (eq-or-ne (n % 2) 1)
 
 module _ (l : List ℕ) where
   -- a member, by the bytes of state and phase
@@ -59,29 +72,24 @@ module _ (l : List ℕ) where
       by true = T-true t
       by false = refl
 
-  -- the left link with its link back
-  module _ (x k y : ℕ) (h : x < seats) (g : k < levels) (e : y ≡ getD l (entryAt x + 10 + 2 * k + 0) 0) where
-    pub back-none : seats ≤ y → true ≡ backOf (members oneComponent (seatsIn l)) (meaning l .link) x k (meaning l .link x k left)
+  -- a link with its link back
+  module _ (x k d y : ℕ) (h : x < seats) (g : k < levels) (a : d < 2) (e : y ≡ getD l (entryAt x + 10 + 2 * k + d) 0) where
+    pub back-none : seats ≤ y → true ≡ backOf (members oneComponent (seatsIn l)) (meaning l .link) x k (sideOfNumber d) (meaning l .link x k (sideOfNumber d))
     unfolding backOf
-    back-none q = rw (link-read l x k 0 y h g (omega arith) e, linkOf-none y q)
+    back-none q = rw (link-read l x k d y h g a e, linkOf-none y q)
 
-    pub back-some : y < seats → backOf (members oneComponent (seatsIn l)) (meaning l .link) x k (meaning l .link x k left)
-        ≡ member (seatsIn l) y && eqb (getD l (entryAt y + 10 + 2 * k + 1) 0) x
+    pub back-some : y < seats → backOf (members oneComponent (seatsIn l)) (meaning l .link) x k (sideOfNumber d) (meaning l .link x k (sideOfNumber d))
+        ≡ member (seatsIn l) y && eqb (getD l (entryAt y + 10 + 2 * k + (1 - d)) 0) x
     unfolding backOf
-    back-some q = rw (link-read l x k 0 y h g (omega arith) e, linkOf-some y q, link-read l y k 1 _ q g (omega arith) refl, same-seat _ x h)
+    back-some q = rw (link-read l x k d y h g a e, linkOf-some y q, ← side-opp d a, link-read l y k (1 - d) _ q g (omega arith) refl, same-seat _ x h)
 
-  -- the right link
-  module _ (x k y : ℕ) (h : x < seats) (g : k < levels) (e : y ≡ getD l (entryAt x + 10 + 2 * k + 1) 0) where
-    pub known-none : seats ≤ y → true ≡ knownOf (members oneComponent (seatsIn l)) (meaning l .link x k right)
-    unfolding knownOf
-    known-none q = rw (link-read l x k 1 y h g (omega arith) e, linkOf-none y q)
+  -- a start
+  pub starts-byte : (x : ℕ) → x < seats
+      → startsAt (members oneComponent (seatsIn l)) (meaning l .link) x ≡ member (seatsIn l) x && leb seats (getD l (entryAt x + 10 + 2 * 0 + 0) 0)
+  unfolding startsAt
+  starts-byte x h = rw (link-read l x 0 0 _ h (omega arith) (omega arith) refl, same-none (getD l (entryAt x + 10 + 2 * 0 + 0) 0))
 
-    pub known-some : y < seats → knownOf (members oneComponent (seatsIn l)) (meaning l .link x k right) ≡ member (seatsIn l) y
-    unfolding knownOf
-    known-some q = rw (link-read l x k 1 y h g (omega arith) e, linkOf-some y q)
-
-  -- a left end
-  pub ends-byte : (x k : ℕ) → x < seats → k < levels
-      → endsAt (members oneComponent (seatsIn l)) (meaning l .link) k x ≡ leb seats (getD l (entryAt x + 10 + 2 * k + 0) 0) && member (seatsIn l) x
-  unfolding endsAt
-  ends-byte x k h g = rw (link-read l x k 0 _ h g (omega arith) refl, same-none (getD l (entryAt x + 10 + 2 * k + 0) 0))
+  -- bit k of the vector
+  pub bit-byte : (s k v : ℕ) → s < seats → v ≡ getD l (vectorAt s) 0 → v / 2 ^ (width - 1 - k) % 2 ≡ oneIf (bit width k (seatsIn l .vector s))
+  unfolding bit
+  bit-byte s k v h e = let w : width - 1 - k ≡ width - suc k = omega arith in rw (vector-byte l s h, ← e, w) (odd-one (v / 2 ^ (width - suc k)))

@@ -1,24 +1,21 @@
 -- The whole check: that on sound bytes the test of the links is the check of specs/, and each answer. Assumes nothing.
 use Prim.Native.Nat.{ℕ, zero, suc, _+_, _*_, _<_}
 use mathlib.Core.Path.{_≡_, refl, sym, ap, _∙_}
-use mathlib.Core.Logic.{_≢_, ⊎-elim}
+use mathlib.Core.Logic.{_≢_}
 use mathlib.Core.Option.{some}
 use mathlib.Core.Bool.{Bool, true}
 use mathlib.Core.List.{List}
 use lib.Dec.{T}
-use native.Mathlib.Omega.{arith}
 use lib.ListN.{length, getD}
 use borrow.Author.Tests.{eq-eqb, ne-eqb}
 use Rattle.memory.specs.Bytes.{AreBytes}
-use Rattle.base.proofs.Cases.{lt-or-ge}
-use Rattle.graph.specs.Side.{right}
 use Rattle.graph.specs.Vector.{width}
 use Rattle.graph.specs.Graph.{Laws}
 use Rattle.protocol.specs.State.{oneComponent, seated, members}
 use Rattle.protocol.specs.Sound.{Sound}
 use Rattle.protocol.proofs.SoundFacts.{link-linked}
 use Rattle.protocol.proofs.Reached.{members-laws}
-use Rattle.record.specs.Layout.{seats, levels, size, phaseAt, entryAt}
+use Rattle.record.specs.Layout.{seats, levels, size, entryAt}
 use Rattle.record.specs.Meaning.{seatsIn, meaning}
 use Rattle.record.specs.Sound.{sound}
 use Rattle.graph.specs.Side.{sideOfNumber}
@@ -26,10 +23,10 @@ use Rattle.record.specs.Reading.{recordRefusal}
 use Rattle.record.proofs.Links.{linkOf-some, link-read}
 use Rattle.record.proofs.Sound.{sound-is}
 use Rattle.search.specs.Check.{check}
-use Rattle.search.proofs.LocalCheck.{knownOf, localCheck}
-use Rattle.search.proofs.Local.{Sided, local-check}
+use Rattle.search.specs.inner.LinkCheck.{linksOk}
+use Rattle.search.proofs.LinkCheck.{Sided}
+use Rattle.search.proofs.OneStart.{links-check}
 use Rattle.record.proofs.Refused.{record-passed}
-use Rattle.check_links.proofs.Parts.{seated-member, known-none, known-some}
 use Rattle.check_links.specs.Check.{checkIn}
 use Rattle.check_links.specs.Answer.{verdictOf, answerOf}
 use Rattle.check_links.specs.declared.Verdict.the-variants.{Refused}
@@ -44,7 +41,10 @@ module _ (l : List ℕ) (e : length l ≡ size) (b : AreBytes l) (s : sound l �
 
   links-sided : Sided width (members oneComponent (seatsIn l)) (meaning l .link)
   unfolding meaning
-  links-sided x k y d m h f = let k = link-linked bytes-sound {x = x} {k = k} {d = d} f in (k .1, k .0 .bits)
+  links-sided = record {
+    order = λ x k y d m h f. link-linked bytes-sound {x = x} {k = k} {d = d} f .1;
+    bits = λ x k y d m h f. link-linked bytes-sound {x = x} {k = k} {d = d} f .0 .bits;
+  }
 
   -- a link, by its byte, names a seated lot
   pub link-seated : (x k d y : ℕ) → x < seats → k < levels → d < 2 → y ≡ getD l (entryAt x + 10 + 2 * k + d) 0 → y < seats
@@ -53,16 +53,9 @@ module _ (l : List ℕ) (e : length l ≡ size) (b : AreBytes l) (s : sound l �
   link-seated x k d y h g a f q = let e : meaning l .link x k (sideOfNumber d) ≡ some y = link-read l x k d y h g a f ∙ linkOf-some y q in
       link-linked bytes-sound {x = x} {k = k} {d = sideOfNumber d} e .0 .two
 
-  -- in phase open a right link names a member
-  pub known-open : (x k : ℕ) → x < seats → k < levels → getD l phaseAt 0 ≡ 0 → true ≡ knownOf (members oneComponent (seatsIn l)) (meaning l .link x k right)
-  known-open x k h g z = let y = getD l (entryAt x + 10 + 2 * k + 1) 0 in ⊎-elim
-      (λ q. rw (known-some l x k y h g refl q, seated-member l y q (link-seated x k 1 y h g (omega arith) refl q), eq-eqb (getD l phaseAt 0) 0 z))
-      (λ q. known-none l x k y h g refl q)
-      (lt-or-ge y seats)
-
-  -- looking only at neighbours and ends is enough
-  pub local-right : localCheck seats width (members oneComponent (seatsIn l)) (meaning l .link) ≡ check seats width (members oneComponent (seatsIn l)) (meaning l .link)
-  local-right = local-check lots-laws links-sided (λ x y m n. refl)
+  -- so the test of the links is the check of specs/
+  links-right : linksOk seats width (members oneComponent (seatsIn l)) (meaning l .link) ≡ check seats width (members oneComponent (seatsIn l)) (meaning l .link)
+  links-right = links-check lots-laws links-sided (λ x y m n. refl)
 
 -- the answers
 refused-is : (n : ℕ) (b : Bool) → n ≢ 0 → Refused n ≡ verdictOf n b
@@ -80,6 +73,6 @@ module _ (l : List ℕ) (n : ℕ) (e : n ≡ recordRefusal l) where
   check-answer z = rw (← e, eq-eqb n 0 z)
 
   -- from what the test of the links answered
-  pub answer : AreBytes l → n ≡ 0 → {r : Bool} → r ≡ localCheck seats width (members oneComponent (seatsIn l)) (meaning l .link)
+  pub answer : AreBytes l → n ≡ 0 → {r : Bool} → r ≡ linksOk seats width (members oneComponent (seatsIn l)) (meaning l .link)
       → verdictOf 0 r ≡ answerOf (checkIn l)
-  answer b z q = let p = record-passed l e z in ap (verdictOf 0) (q ∙ local-right l (p .sized) b (p .fine)) ∙ sym (check-answer z)
+  answer b z q = let p = record-passed l e z in ap (verdictOf 0) (q ∙ links-right l (p .sized) b (p .fine)) ∙ sym (check-answer z)

@@ -1,4 +1,3 @@
--- What the check answers on the bytes of a record, and the marks that it makes.
+-- What the check answers on the bytes of a record.
 pub mod Check
 pub mod Answer
-pub mod inner

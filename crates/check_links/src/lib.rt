@@ -1,23 +1,22 @@
-// The check of the links over a lent record (document 01, "Check"). It looks only at neighbours and at the ends of lists: the left link of a
-// member has its link back, its right link names a member, and at every level no two members of one list are without a left link. Links of a
-// sound record lie in their list and on their side, so the left links with their links back make chains, and one left end for each list says
-// that each is one chain; then nobody is left whom the last right link could name. Linear in the links.
+// The check of the links over a lent record (document 01, "Check"), without a table. At every level each link of a member names a member that links
+// back. Above level 0 its right link is the first lot to the right on the level below that has its next bit; the left links then follow from the
+// links back. And at most one member is without a left link at level 0. A run to the right stops at the first lot with the bit, so that it passes
+// only lots with the other bit; where links have their links back each lot is passed by one run at most for each level, and the whole is linear.
 ghost use mathlib.Core.Path.{_≡_};
-ghost use mathlib.Core.Bool.{true, not, _||_};
-ghost use Prim.Native.Nat.{_+_, _*_, _<_};
-ghost use lib.Dec.{T, eqb};
-ghost use lib.ListN.{length, getD, set};
-ghost use Rattle.graph.specs.Side.{left, right};
-ghost use Rattle.graph.specs.Vector.{width};
+ghost use mathlib.Core.Bool.{true};
+ghost use Prim.Native.Nat.{_<_};
+ghost use lib.Dec.{T};
+ghost use lib.ListN.{length};
+ghost use Rattle.graph.specs.Side.{sideOfNumber};
+ghost use Rattle.graph.specs.Vector.{width, bit};
 ghost use Rattle.protocol.specs.State.{oneComponent, seated, member, members};
 ghost use Rattle.record.specs.Layout.{seats, levels, size};
-ghost use Rattle.record.specs.Meaning.{seatsIn, meaning};
+ghost use Rattle.record.specs.Meaning.{linkOf, seatsIn, meaning};
 ghost use Rattle.record.specs.Sound.{sound};
-ghost use Rattle.base.specs.Loops.{all};
-ghost use Rattle.search.proofs.LocalCheck.{backOf, knownOf, levelOk, localCheck};
+ghost use Rattle.base.specs.Loops.{oneIf, all, count};
+ghost use Rattle.search.specs.inner.LinkCheck.{backOf, backsOk, startsAt, aheadOf, aboveOk, lotBacks, lotAboves, constraintsOk, linksOk};
 ghost use Rattle.check_links.specs.Check.{checkIn};
 ghost use Rattle.check_links.specs.Answer.{answerOf};
-ghost use Rattle.check_links.specs.inner.Marks.{places, placeOf, leftOk, Marked};
 use record::LEVELS;
 use record::SEATS;
 use record::WIDTH;
@@ -26,9 +25,6 @@ use record::WIDTH;
 const LEFT: usize = 0;
 
 const RIGHT: usize = 1;
-
-// How many places there are for marks: level k has 2^k lists, with the places from 2^k on.
-const PLACES: usize = 2 << WIDTH;
 
 // What the check answers: a refusal's number, or whether the links are right.
 pub enum Verdict {
@@ -54,100 +50,159 @@ fn seated_is_member(rec: &[u8], s: usize) -> bool
     record::phase(rec) == 0 || record::state(rec, s) == 1
 }
 
-// Whether the left link of x at level k is none, or a member whose right link is x. On a sound record it names a seated lot.
-fn back_fits(rec: &[u8], x: usize, k: usize) -> bool
-    requires { ⌜ (length (now rec) ≡ size) × (sound (now rec) ≡ true) × (x < seats) × (k < levels) ⌝ }
-    ensures { λ r. ⌜ (let l = now (rec .entry) in r ≡ backOf (members oneComponent (seatsIn l)) (meaning l .link) x k (meaning l .link x k left)) ⌝ }
+// Whether the link of x at level k on side d is none, or a member whose link back is x. On a sound record it names a seated lot.
+fn back_fits(rec: &[u8], x: usize, k: usize, d: usize) -> bool
+    requires { ⌜ (length (now rec) ≡ size) × (sound (now rec) ≡ true) × (x < seats) × (k < levels) × (d < 2) ⌝ }
+    ensures { λ r. ⌜ (let l = now (rec .entry) in
+        r ≡ backOf (members oneComponent (seatsIn l)) (meaning l .link) x k (sideOfNumber d) (meaning l .link x k (sideOfNumber d))) ⌝ }
 {
-    let y = record::link(rec, x, k, LEFT) as usize;
+    let y = record::link(rec, x, k, d) as usize;
     if y >= SEATS {
         return true;
     }
-    seated_is_member(rec, y) && record::link(rec, y, k, RIGHT) as usize == x
+    seated_is_member(rec, y) && record::link(rec, y, k, 1 - d) as usize == x
 }
 
-// Whether the right link of x at level k is none or a member. In phase open that is known of a sound record.
-fn right_fits(rec: &[u8], x: usize, k: usize) -> bool
+// Both links of x at level k.
+fn backs_fit(rec: &[u8], x: usize, k: usize) -> bool
     requires { ⌜ (length (now rec) ≡ size) × (sound (now rec) ≡ true) × (x < seats) × (k < levels) ⌝ }
-    ensures { λ r. ⌜ (let l = now (rec .entry) in r ≡ knownOf (members oneComponent (seatsIn l)) (meaning l .link x k right)) ⌝ }
+    ensures { λ r. ⌜ (let l = now (rec .entry) in r ≡ backsOk (members oneComponent (seatsIn l)) (meaning l .link) x k) ⌝ }
 {
-    if record::phase(rec) == 0 {
-        return true;
-    }
-    let y = record::link(rec, x, k, RIGHT) as usize;
-    y >= SEATS || is_member(rec, y)
-}
-
-// The list of x at level k among those of all levels: a 1 and the first k bits of its vector, as a number.
-fn place_of(rec: &[u8], x: usize, k: usize) -> usize
-    requires { ⌜ (length (now rec) ≡ size) × (x < seats) × (k < levels) ⌝ }
-    ensures { λ r. ⌜ (r ≡ placeOf (now (rec .entry)) x k) × (r < places) ⌝ }
-{
-    ((1 << WIDTH) + record::vector(rec, x) as usize) >> (WIDTH - k)
-}
-
-// Whether place i is not marked yet. It is from now on.
-fn take_mark(marks: &mut [u8; PLACES], i: usize) -> bool
-    requires { ⌜ i < places ⌝ }
-    ensures { λ r. ⌜ (r ≡ eqb (getD (now (marks .entry)) i 0) 0) × (now (marks .exit) ≡ set (now (marks .entry)) i 1) ⌝ }
-{
-    let free = marks[i] == 0;
-    marks[i] = 1;
-    free
-}
-
-// The left link of member x at level k: it has its link back, or there is none and x is the first such lot of its list, which it marks.
-fn left_fits(rec: &[u8], marks: &mut [u8; PLACES], x: usize, k: usize) -> bool
-    requires { ⌜ (length (now rec) ≡ size) × (sound (now rec) ≡ true) × (x < seats) × (k < levels) × (member (seatsIn (now rec)) x ≡ true)
-        × Marked (now rec) (x * levels + k) (now marks) ⌝ }
-    ensures { λ r. ⌜ (let l = now (rec .entry) in (r ≡ leftOk l x k) × (r ≡ true → Marked l (x * levels + k + 1) (now (marks .exit)))) ⌝ }
-{
-    if record::link(rec, x, k, LEFT) as usize >= SEATS {
-        return take_mark(marks, place_of(rec, x, k));
-    }
-    back_fits(rec, x, k)
-}
-
-// Both links of member x at level k.
-fn level_fits(rec: &[u8], marks: &mut [u8; PLACES], x: usize, k: usize) -> bool
-    requires { ⌜ (length (now rec) ≡ size) × (sound (now rec) ≡ true) × (x < seats) × (k < levels) × (member (seatsIn (now rec)) x ≡ true)
-        × Marked (now rec) (x * levels + k) (now marks) ⌝ }
-    ensures { λ r. ⌜ (let l = now (rec .entry) in (r ≡ levelOk width (members oneComponent (seatsIn l)) (meaning l .link) x k)
-        × (r ≡ true → Marked l (x * levels + k + 1) (now (marks .exit)))) ⌝ }
-{
-    left_fits(rec, marks, x, k) && right_fits(rec, x, k)
+    back_fits(rec, x, k, LEFT) && back_fits(rec, x, k, RIGHT)
 }
 
 // All links of x, if it is a member.
-fn lot_fits(rec: &[u8], marks: &mut [u8; PLACES], x: usize) -> bool
-    requires { ⌜ (length (now rec) ≡ size) × (sound (now rec) ≡ true) × (x < seats) × Marked (now rec) (x * levels) (now marks) ⌝ }
-    ensures { λ r. ⌜ (let l = now (rec .entry) in
-        (r ≡ not (member (seatsIn l) x) || all levels (levelOk width (members oneComponent (seatsIn l)) (meaning l .link) x))
-        × (r ≡ true → Marked l ((x + 1) * levels) (now (marks .exit)))) ⌝ }
+fn lot_backs_fit(rec: &[u8], x: usize) -> bool
+    requires { ⌜ (length (now rec) ≡ size) × (sound (now rec) ≡ true) × (x < seats) ⌝ }
+    ensures { λ r. ⌜ (let l = now (rec .entry) in r ≡ lotBacks seats width (members oneComponent (seatsIn l)) (meaning l .link) x) ⌝ }
 {
     if !is_member(rec, x) {
         return true;
     }
     for k in 0..LEVELS {
-        if !level_fits(rec, marks, x, k) {
+        if !backs_fit(rec, x, k) {
             return false;
         }
     }
     true
 }
 
-// The whole test of the links.
-fn links_fit(rec: &[u8]) -> bool
+fn all_backs_fit(rec: &[u8]) -> bool
     requires { ⌜ (length (now rec) ≡ size) × (sound (now rec) ≡ true) ⌝ }
-    ensures { λ r. ⌜ (let l = now (rec .entry) in r ≡ localCheck seats width (members oneComponent (seatsIn l)) (meaning l .link)) ⌝ }
+    ensures { λ r. ⌜ (let l = now (rec .entry) in r ≡ all seats (lotBacks seats width (members oneComponent (seatsIn l)) (meaning l .link))) ⌝ }
 {
-    let mut marks = [0u8; PLACES];
     for x in 0..SEATS {
-        if !lot_fits(rec, &mut marks, x) {
+        if !lot_backs_fit(rec, x) {
             return false;
         }
     }
     true
+}
+
+// Bit k of the vector of the lot on seat s.
+fn bit_of(rec: &[u8], s: usize, k: usize) -> usize
+    requires { ⌜ (length (now rec) ≡ size) × (s < seats) × (k < width) ⌝ }
+    ensures { λ r. ⌜ r ≡ oneIf (bit width k (seatsIn (now (rec .entry)) .vector s)) ⌝ }
+{
+    (record::vector(rec, s) as usize >> (WIDTH - 1 - k)) % 2
+}
+
+// The first lot to the right of x at level k that has bit k as x; SEATS or more if there is none.
+fn ahead(rec: &[u8], x: usize, k: usize) -> usize
+    requires { ⌜ (length (now rec) ≡ size) × (x < seats) × (k < width) ⌝ }
+    ensures { λ r. ⌜ (let l = now (rec .entry) in linkOf r ≡ aheadOf seats width (members oneComponent (seatsIn l)) (meaning l .link) x k) ⌝ }
+{
+    let b = bit_of(rec, x, k);
+    let mut y = record::link(rec, x, k, RIGHT) as usize;
+    for _ in 0..SEATS {
+        if y >= SEATS {
+            return y;
+        }
+        if bit_of(rec, y, k) == b {
+            return y;
+        }
+        y = record::link(rec, y, k, RIGHT) as usize;
+    }
+    y
+}
+
+// Whether the right link of x one level above k is that lot.
+fn above_fits(rec: &[u8], x: usize, k: usize) -> bool
+    requires { ⌜ (length (now rec) ≡ size) × (x < seats) × (k < width) ⌝ }
+    ensures { λ r. ⌜ (let l = now (rec .entry) in r ≡ aboveOk seats width (members oneComponent (seatsIn l)) (meaning l .link) x k) ⌝ }
+{
+    let y = record::link(rec, x, k + 1, RIGHT) as usize;
+    let z = ahead(rec, x, k);
+    if z >= SEATS {
+        return y >= SEATS;
+    }
+    y == z
+}
+
+// The right links of x above level 0, if it is a member.
+fn lot_aboves_fit(rec: &[u8], x: usize) -> bool
+    requires { ⌜ (length (now rec) ≡ size) × (x < seats) ⌝ }
+    ensures { λ r. ⌜ (let l = now (rec .entry) in r ≡ lotAboves seats width (members oneComponent (seatsIn l)) (meaning l .link) x) ⌝ }
+{
+    if !is_member(rec, x) {
+        return true;
+    }
+    for k in 0..WIDTH {
+        if !above_fits(rec, x, k) {
+            return false;
+        }
+    }
+    true
+}
+
+fn all_aboves_fit(rec: &[u8]) -> bool
+    requires { ⌜ length (now rec) ≡ size ⌝ }
+    ensures { λ r. ⌜ (let l = now (rec .entry) in r ≡ all seats (lotAboves seats width (members oneComponent (seatsIn l)) (meaning l .link))) ⌝ }
+{
+    for x in 0..SEATS {
+        if !lot_aboves_fit(rec, x) {
+            return false;
+        }
+    }
+    true
+}
+
+// Constraints 1 to 6: the links back first, so that the runs of all lots together are linear.
+fn constraints_fit(rec: &[u8]) -> bool
+    requires { ⌜ (length (now rec) ≡ size) × (sound (now rec) ≡ true) ⌝ }
+    ensures { λ r. ⌜ (let l = now (rec .entry) in r ≡ constraintsOk seats width (members oneComponent (seatsIn l)) (meaning l .link)) ⌝ }
+{
+    all_backs_fit(rec) && all_aboves_fit(rec)
+}
+
+// Whether x is a member without a left link at level 0.
+fn starts_at(rec: &[u8], x: usize) -> bool
+    requires { ⌜ (length (now rec) ≡ size) × (x < seats) ⌝ }
+    ensures { λ r. ⌜ (let l = now (rec .entry) in r ≡ startsAt (members oneComponent (seatsIn l)) (meaning l .link) x) ⌝ }
+{
+    is_member(rec, x) && record::link(rec, x, 0, LEFT) as usize >= SEATS
+}
+
+// How many do.
+fn starts(rec: &[u8]) -> usize
+    requires { ⌜ length (now rec) ≡ size ⌝ }
+    ensures { λ r. ⌜ (let l = now (rec .entry) in r ≡ count seats (startsAt (members oneComponent (seatsIn l)) (meaning l .link))) ⌝ }
+{
+    let mut n: usize = 0;
+    for x in 0..SEATS {
+        if starts_at(rec, x) {
+            n += 1;
+        }
+    }
+    n
+}
+
+// The whole test of the links.
+fn links_fit(rec: &[u8]) -> bool
+    requires { ⌜ (length (now rec) ≡ size) × (sound (now rec) ≡ true) ⌝ }
+    ensures { λ r. ⌜ (let l = now (rec .entry) in r ≡ linksOk seats width (members oneComponent (seatsIn l)) (meaning l .link)) ⌝ }
+{
+    starts(rec) <= 1 && constraints_fit(rec)
 }
 
 // Whether the links of the members are those of their skip graph: yes exactly if Constraints 1 to 6 hold for all members and they lie in one

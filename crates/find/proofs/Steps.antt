@@ -20,7 +20,7 @@ use Rattle.record.specs.Meaning.{seatsIn, meaning}
 use Rattle.graph.specs.Side.{sideOfNumber}
 use Rattle.record.proofs.Places.{side-sideNumber}
 use Rattle.search.specs.Walk.{stop, move, drop, along, stepAt, holderAt, find}
-use Rattle.search.proofs.Count.{count-bound}
+use Rattle.base.proofs.Count.{count-le}
 use Rattle.search.specs.inner.Search.{Search, found, moves, drops, ends, gap}
 use Rattle.search.proofs.Search.{move-nearer, search-find}
 use Rattle.search.proofs.Hops.{search-seated, search-hops}
@@ -137,7 +137,7 @@ module _ (l : List ℕ) (x s : ℕ) (f : Fit l) (m : T (seated (seatsIn l) s)) w
 
       -- fewer hops than lots
       pub end-hops : e .hops < seats
-      end-hops = omega (arith, v .hops, search-hops (f .ordered) m low (v .search), count-bound seats (seated (seatsIn l)))
+      end-hops = omega (arith, v .hops, search-hops (f .ordered) m low (v .search), count-le seats (seated (seatsIn l)))
 
   -- from the top level it is the search of specs/
   pub end-found : (e : Walk) → Walked l x (record { seat = s; level = width; hops = 0 }) e

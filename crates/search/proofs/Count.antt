@@ -1,18 +1,15 @@
 -- Tests of the numbers below n: that every one passes, and how many do. Assumes nothing.
 use Prim.Native.Nat.{ℕ, zero, suc, _+_, _≤_, _<_}
 use mathlib.Core.Path.{_≡_, refl, sym, subst}
-use mathlib.Core.Bool.{Bool, true, false, cond, not, _||_}
+use mathlib.Core.Logic.{_↔_}
+use mathlib.Core.Bool.{Bool, true, false, not, _||_}
 use native.Mathlib.Omega.{arith}
 use native.Mathlib.Decide.{ℕ-discrete}
 use lib.Dec.{T}
-use Rattle.base.proofs.Tests.{T-true, not-T-false, and-T, and-fst, and-snd}
+use Rattle.base.proofs.Tests.{T-true, true-T, not-T-false, and-T, and-fst, and-snd}
+use Rattle.base.proofs.Count.{count-zero}
 use Rattle.graph.proofs.Below.{below-suc}
-use Rattle.base.specs.Loops.{all}
-
--- how many numbers below n pass
-unfoldable pub count : ℕ → (ℕ → Bool) → ℕ
-count zero p = 0
-count (suc n) p = count n p + cond (p n) 1 0
+use Rattle.base.specs.Loops.{oneIf, all, count}
 
 -- two tests that pass together are one
 pub test-eq : {a b : Bool} → (T a → T b) → (T b → T a) → a ≡ b
@@ -40,15 +37,10 @@ unfolding all
 passes-all zero p h = tt
 passes-all (suc n) p h = and-T (all n p) (p n) (passes-all n p (λ i l. h i (omega arith))) (h n (omega arith))
 
-one-le : (a b : Bool) → (T a → T b) → cond a 1 0 ≤ cond b 1 0
+one-le : (a b : Bool) → (T a → T b) → oneIf a ≤ oneIf b
 one-le true true f = omega arith
 one-le true false f = absurd (f tt)
 one-le false b f = omega arith
-
-pub count-bound : (n : ℕ) (p : ℕ → Bool) → count n p ≤ n
-unfolding count
-count-bound zero p = omega arith
-count-bound (suc n) p = omega (arith, count-bound n p, one-le (p n) true (λ t. tt))
 
 pub count-mono : (n : ℕ) (p q : ℕ → Bool) → ((i : ℕ) → T (p i) → T (q i)) → count n p ≤ count n q
 unfolding count
@@ -62,9 +54,41 @@ unfolding count
 count-less zero p q j l t f h = absurd (omega arith)
 count-less (suc n) p q j l t f h = by (ℕ-discrete j n) (λ m. count-less n p q j m t f h)
   where
-    by : Dec (j ≡ n) → (j < n → count n p < count n q) → count n p + cond (p n) 1 0 < count n q + cond (q n) 1 0
+    by : Dec (j ≡ n) → (j < n → count n p < count n q) → count n p + oneIf (p n) < count n q + oneIf (q n)
     by (yes e) ih =
         let a : q n ≡ true = T-true (subst (λ (i : ℕ). T (q i)) e t) in
         let b : p n ≡ false = not-T-false (subst (λ (i : ℕ). ¬ (T (p i))) e f) in
         rw (a, b) (omega (arith, count-mono n p q h))
     by (no e) ih = omega (arith, ih (omega arith), one-le (p n) (q n) (h n))
+
+-- at most one passes
+count-same : (n : ℕ) (p : ℕ → Bool) → count n p ≤ 1 → (i j : ℕ) → i < n → j < n → T (p i) → T (p j) → i ≡ j
+unfolding count
+count-same zero p c i j k l s t = absurd (omega arith)
+count-same (suc n) p c i j k l s t = by (p n) refl (ℕ-discrete i n) (ℕ-discrete j n)
+    (λ a b. count-same n p (omega (arith, c)) i j a b s t)
+  where
+    none-below : p n ≡ true → (h : ℕ) → h < n → T (p h) → ⊥
+    none-below e h a u = let z : count n p ≡ 0 = (let d : count n p + oneIf (p n) ≤ 1 = c in let f = rw e at d in omega arith) in
+        let f : p h ≡ false = count-zero n p .0 z h a in rw f at u
+
+    by : (b : Bool) → p n ≡ b → Dec (i ≡ n) → Dec (j ≡ n) → (i < n → j < n → i ≡ j) → i ≡ j
+    by b e (yes f) (yes g) ih = omega arith
+    by b e (no f) (no g) ih = ih (omega arith) (omega arith)
+    by b e (yes f) (no g) ih = absurd (none-below (T-true (rw f at s)) j (omega arith) t)
+    by b e (no f) (yes g) ih = absurd (none-below (T-true (rw g at t)) i (omega arith) s)
+
+same-count : (n : ℕ) (p : ℕ → Bool) → ((i j : ℕ) → i < n → j < n → T (p i) → T (p j) → i ≡ j) → count n p ≤ 1
+unfolding count
+same-count zero p h = omega arith
+same-count (suc n) p h = by (p n) refl (same-count n p (λ i j k l s t. h i j (omega arith) (omega arith) s t))
+  where
+    by : (b : Bool) → p n ≡ b → count n p ≤ 1 → count n p + oneIf (p n) ≤ 1
+    by true e ih =
+        let z : count n p ≡ 0 = count-zero n p .1 (λ i l. not-T-false (λ t.
+        let q = h i n (omega arith) (omega arith) t (true-T e) in absurd (omega arith))) in
+        rw (e, z) (omega arith)
+    by false e ih = rw e (omega arith)
+
+pub count-one : (n : ℕ) (p : ℕ → Bool) → (count n p ≤ 1) ↔ ((i j : ℕ) → i < n → j < n → T (p i) → T (p j) → i ≡ j)
+count-one n p = (count-same n p, same-count n p)

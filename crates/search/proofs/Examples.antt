@@ -11,9 +11,9 @@ use Rattle.graph.specs.Vector.{bit, equalBits, shared}
 use Rattle.graph.specs.Graph.{Lots, Links, inList, beside, nearer, nearest, graph}
 use Rattle.graph.proofs.Examples.{settledQ, linkQ}
 use Rattle.search.specs.Walk.{Found, along, stepAt, walk, path, holderAt, find}
-use Rattle.base.specs.Loops.{all}
+use Rattle.base.specs.Loops.{all, count}
 use Rattle.search.specs.Check.{sameLink, levelRight, check}
-use Rattle.search.proofs.LocalCheck.{backOf, knownOf, endsAt, apart, levelOk, localCheck}
+use Rattle.search.specs.inner.LinkCheck.{backOf, backsOk, startsAt, ahead, aboveOk, lotBacks, lotAboves, constraintsOk, linksOk}
 
 -- F start number, in Q
 abbrev findQ : (s x : ℕ) → Found
@@ -35,12 +35,12 @@ pub case-e : findQ 2 100 ≡ record { holder = some 0; hops = 1 }
 unfolding find path walk stepAt along holderAt graph nearest nearer beside inList onSide sideOf shared equalBits bit
 case-e = refl
 
--- the check of specs/ and the local one both say b
+-- the check of specs/ and the one of the code both say b
 abbrev Checked : Lots → Links → Bool → Type 0
-Checked G L b = (check 4 8 G L ≡ b) × (localCheck 4 8 G L ≡ b)
+Checked G L b = (check 4 8 G L ≡ b) × (linksOk 4 8 G L ≡ b)
 
 pub yes-Q : Checked settledQ linkQ true
-unfolding check levelRight all sameLink localCheck levelOk backOf knownOf apart endsAt
+unfolding check levelRight all count sameLink linksOk constraintsOk lotBacks lotAboves aboveOk ahead backsOk backOf startsAt
     graph nearest nearer beside inList onSide shared equalBits bit
 yes-Q = (refl, refl)
 
@@ -50,7 +50,7 @@ missing x k left = cond (eqb x 2 && eqb k 1) none (linkQ x k left)
 missing x k right = linkQ x k right
 
 pub no-missing : Checked settledQ missing false
-unfolding check levelRight all sameLink localCheck levelOk backOf knownOf apart endsAt
+unfolding check levelRight all count sameLink linksOk constraintsOk lotBacks lotAboves aboveOk ahead backsOk backOf startsAt
     graph nearest nearer beside inList onSide shared equalBits bit
 no-missing = (refl, refl)
 
@@ -71,12 +71,13 @@ pub yes-each : check 4 8 (fourLots (λ x. x / 2)) twoLists ≡ true
 unfolding check levelRight all sameLink graph nearest nearer beside inList onSide shared equalBits bit
 yes-each = refl
 
--- what fails is that lot 300 is a second one without a left link at level 0
-pub second-end : (levelOk 8 (fourLots (λ x. 0)) twoLists 2 0 ≡ false) × (all 2 (levelOk 8 (fourLots (λ x. 0)) twoLists 0) ≡ true)
-unfolding all sameLink levelOk backOf knownOf apart endsAt graph nearest nearer beside inList onSide shared equalBits bit
-second-end = (refl, refl)
+-- so Constraints 1 to 6 hold, and what fails is that lot 300 is a second one that starts a level-0 list
+pub second-start : (constraintsOk 4 8 (fourLots (λ x. 0)) twoLists ≡ true) × (count 4 (startsAt (fourLots (λ x. 0)) twoLists) ≡ 2)
+unfolding all count sameLink constraintsOk lotBacks lotAboves aboveOk ahead backsOk backOf startsAt
+    graph nearest nearer beside inList onSide shared equalBits bit
+second-start = (refl, refl)
 
 pub no-two-lists : Checked (fourLots (λ x. 0)) twoLists false
-unfolding check levelRight all sameLink localCheck levelOk backOf knownOf apart endsAt
+unfolding check levelRight all count sameLink linksOk constraintsOk lotBacks lotAboves aboveOk ahead backsOk backOf startsAt
     graph nearest nearer beside inList onSide shared equalBits bit
 no-two-lists = (refl, refl)

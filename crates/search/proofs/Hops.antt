@@ -15,7 +15,7 @@ use Rattle.graph.specs.inner.Order.{Lt, toL, toR}
 use Rattle.graph.proofs.Order.{lt-trans, lt-irr, lt-eq}
 use Rattle.search.specs.Walk.{lastOf, path, holderAt, Found, find}
 use Rattle.search.specs.Right.{Once, nothing, new, Between}
-use Rattle.search.proofs.Count.{count}
+use Rattle.base.specs.Loops.{count}
 use Rattle.search.specs.inner.Ordered.{Ordered}
 use Rattle.search.proofs.Ordered.{rank, rank-less, rank-most}
 use Rattle.search.proofs.Step.{Upto, uptoL, uptoR, upto-some, Held, is-end, is-left, is-none, at-held}

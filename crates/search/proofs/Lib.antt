@@ -1,4 +1,4 @@
--- Why a search on a settled record is right, and a check that looks only at neighbours and ends of lists says the same as the definition.
+-- Why a search on a settled record is right, and the check that the code makes says the same as the definition.
 pub mod Count
 pub mod Ordered
 pub mod Step
@@ -6,7 +6,8 @@ pub mod Search
 pub mod Hops
 pub mod Holder
 pub mod Check
-pub mod LocalCheck
-pub mod Chains
-pub mod Local
+pub mod Ahead
+pub mod LinkTests
+pub mod LinkCheck
+pub mod OneStart
 pub mod Examples

@@ -14,7 +14,9 @@ use Rattle.graph.proofs.Laws.{twoSeated, laws-two}
 use Rattle.graph.proofs.Walk.{Sorted, constraints-sorted}
 use Rattle.graph.proofs.SkipGraph.{graph-constraints}
 use Rattle.search.specs.inner.Ordered.{Ordered}
-use Rattle.search.proofs.Count.{count, count-less}
+use Rattle.base.specs.Loops.{count}
+use Rattle.base.proofs.Count.{count-le}
+use Rattle.search.proofs.Count.{count-less}
 
 pub sorted-ordered : {N W : ℕ} {G : Lots} {L : Links} → Laws N G → Sorted W G L → Ordered N W (G .member) (G .number) L
 sorted-ordered laws s = record { seat = laws .seat; differ = laws .differ; within = s .within; order = s .order }
@@ -33,6 +35,10 @@ OneComponent G = (x y : ℕ) → T (G .member x) → T (G .member y) → G .comp
 -- how many seated lots lie on side d of x
 unfoldable pub rank : (N : ℕ) (seated : ℕ → Bool) (number : ℕ → ℕ) (d : Side) (x : ℕ) → ℕ
 rank N seated number d x = count N (λ z. seated z && onSide d (number x) (number z))
+
+pub rank-bound : (N : ℕ) (seated : ℕ → Bool) (number : ℕ → ℕ) (d : Side) (x : ℕ) → rank N seated number d x ≤ N
+unfolding rank
+rank-bound N seated number d x = count-le N (λ z. seated z && onSide d (number x) (number z))
 
 module _ {N W : ℕ} {seated : ℕ → Bool} {number : ℕ → ℕ} {L : Links} (o : Ordered N W seated number L) where
   pub rank-less : {d : Side} {x y : ℕ} → T (seated y) → Lt number d x y → rank N seated number d y < rank N seated number d x

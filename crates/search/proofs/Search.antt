@@ -13,7 +13,7 @@ use Rattle.graph.specs.Graph.{Links}
 use Rattle.graph.specs.inner.Order.{Lt, toL, toR}
 use Rattle.search.specs.Walk.{Step, stop, move, drop, lastOf, stepAt, walk, path, holderAt, find}
 use Rattle.search.specs.inner.Search.{Search, found, moves, drops, ends, gap}
-use Rattle.search.proofs.Count.{count-bound}
+use Rattle.base.proofs.Count.{count-le}
 use Rattle.search.specs.inner.Ordered.{Ordered}
 use Rattle.search.proofs.Ordered.{rank, rank-less, rank-most}
 use Rattle.search.proofs.Step.{Upto, uptoL, uptoR, upto-some, upto-side, Stepped, is-move, at-stepped}
@@ -85,7 +85,7 @@ module _ {N W : ℕ} {seated : ℕ → Bool} {number : ℕ → ℕ} {L : Links} 
   -- the walk from any level, with fuel for N moves and k drops
   pub walk-search : {s k f : ℕ} → T (seated s) → k ≤ W → N + k < f → Search number L x s k (walk number L x f s k)
   walk-search {s} {k} {f} m l r = let (d, u) = upto-some (number s) x in
-      fueled f s k m l u (omega (arith, rank-most o d s m, count-bound N seated))
+      fueled f s k m l u (omega (arith, rank-most o d s m, count-le N seated))
 
   pub path-search : {s : ℕ} → T (seated s) → Search number L x s W (path number L x N W s)
   unfolding path

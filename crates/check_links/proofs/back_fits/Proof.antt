@@ -17,7 +17,7 @@ cast-y : tie.Need-cast-y
 cast-y c = search needs
 
 returns : tie.Need-returns
-returns c = back-none _ _ _ _ (search needs) (search needs) (c .before .link .ensures) (c .if1 .taken)
+returns c = back-none _ _ _ _ _ (search needs) (search needs) (search needs) (c .before .link .ensures) (c .if1 .taken)
 
 seated-is-member-requires : tie.Need-seated-is-member-requires
 seated-is-member-requires c κs =
@@ -27,8 +27,11 @@ seated-is-member-requires c κs =
       search needs,
       search needs,
       link-seated (s .rec .now) (search needs) (λ j. omega (arith, b .shared-slice-known .given j)) (search needs)
-          (s .x) (s .k) 0 (r .result) (search needs) (search needs) (omega arith) (r .ensures) (c .if1 .left),
+          (s .x) (s .k) (s .d) (r .result) (search needs) (search needs) (search needs) (r .ensures) (c .if1 .left),
     )
+
+sub-link : tie.Need-sub-link
+sub-link c = search needs
 
 link-requires-2 : tie.Need-link-requires-2
 link-requires-2 c κs = search needs
@@ -41,7 +44,7 @@ returns-2 c =
     let b = c .before .before .before in
     let s = b .before .before .before .args in
     let r = b .before .link in
-    rw (back-some (s .rec .now) (s .x) (s .k) (r .result) (search needs) (search needs) (r .ensures) (b .if1 .left))
+    rw (back-some (s .rec .now) (s .x) (s .k) (s .d) (r .result) (search needs) (search needs) (search needs) (r .ensures) (b .if1 .left))
     (and-go (c .before .before .seated-is-member .ensures) (c .before .if2 .taken) (ap (λ (z : ℕ). eqb z (s .x)) (c .link2 .ensures)))
 
 returns-3 : tie.Need-returns-3
@@ -49,7 +52,7 @@ returns-3 c =
     let b = c .before .before in
     let s = b .before .before .before .args in
     let r = b .before .link in
-    rw (back-some (s .rec .now) (s .x) (s .k) (r .result) (search needs) (search needs) (r .ensures) (b .if1 .left))
+    rw (back-some (s .rec .now) (s .x) (s .k) (s .d) (r .result) (search needs) (search needs) (search needs) (r .ensures) (b .if1 .left))
     (and-stop _ (c .before .seated-is-member .ensures) (c .if2 .left))
 
 pub back-fits-spec : {M : Type 1} → statement M
@@ -60,6 +63,7 @@ back-fits-spec =
     cast-y
     returns
     seated-is-member-requires
+    sub-link
     link-requires-2
     cast-result
     returns-2
