@@ -1,6 +1,6 @@
 -- Places of messages among the pending bits, sides by their numbers, and the list of a meaning's bytes. Assumes nothing.
-use Prim.Native.Nat.{ℕ, zero, suc, _*_, _<_}
-use mathlib.Core.Path.{_≡_, refl}
+use Prim.Native.Nat.{ℕ, zero, suc, _+_, _*_, _<_}
+use mathlib.Core.Path.{_≡_, refl, sym, ap}
 use native.Mathlib.Omega.{arith}
 use lib.Dec.{T}
 use lib.ListN.{length, getD}
@@ -11,7 +11,7 @@ use Rattle.protocol.specs.Message.{Msg}
 use Rattle.protocol.specs.Numbering.{exists, place, messageAt}
 use Rattle.protocol.specs.State.{Meaning}
 use Rattle.protocol.proofs.Numbering.{place-lt, exists-messageAt, place-messageAt}
-use Rattle.record.specs.Layout.{seats, byteBits, messages, pendingSize, size}
+use Rattle.record.specs.Layout.{seats, byteBits, messages, pendingSize, size, linksFrom, linkAt}
 use Rattle.record.specs.Meaning.{byteOf, bytesOf}
 
 -- places of messages that exist, and messages at places
@@ -37,6 +37,10 @@ pub sideNumber-side : (n : ℕ) → n < 2 → sideNumber (sideOfNumber n) ≡ n
 sideNumber-side zero h = refl
 sideNumber-side (suc zero) h = refl
 sideNumber-side (suc (suc n)) h = absurd (omega arith)
+
+-- where a link stands, by the number of its side
+pub linkAt-number : (s k d : ℕ) → d < 2 → linksFrom s + 2 * k + d ≡ linkAt s k (sideOfNumber d)
+linkAt-number s k d h = ap (λ (n : ℕ). linksFrom s + 2 * k + n) (sym (sideNumber-side d h))
 
 -- the bytes of a meaning as a list
 module _ (M : Meaning) where

@@ -1,40 +1,35 @@
+-- `record::link` meets its contract: the side is given by its number. Assumes nothing.
+use Prim.Native.Nat.{ℕ}
+use mathlib.Core.Path.{ap}
+use lib.ListN.{getD}
+use Rattle.record.proofs.Places.{linkAt-number}
 use borrow.Author.Needs.{needs}
 use Rattle.record.proofs.link.Statement.{statement}
 use Rattle.record.proofs.link.Tie as tie
-use Rattle.record.proofs.link.Reads as reads
-use Rattle.record.proofs.link.Lts as lts
 
--- src/lib.rt:154:19
 mul-result : tie.Need-mul-result
 mul-result c = search needs
 
--- src/lib.rt:154:9
 add-result : tie.Need-add-result
 add-result c = search needs
 
--- src/lib.rt:154:9
 add-result-2 : tie.Need-add-result-2
 add-result-2 c = search needs
 
--- src/lib.rt:154:42
 mul-result-2 : tie.Need-mul-result-2
 mul-result-2 c = search needs
 
--- src/lib.rt:154:9
 add-result-3 : tie.Need-add-result-3
 add-result-3 c = search needs
 
--- src/lib.rt:154:9
 add-result-4 : tie.Need-add-result-4
 add-result-4 c = search needs
 
--- src/lib.rt:154:5
 shared-slice-read-result : tie.Need-shared-slice-read-result
 shared-slice-read-result c = search needs
 
--- src/lib.rt:150:1
 returns : tie.Need-returns
-returns c = ?
+returns c = let a = c .before .args in ap (λ (n : ℕ). getD (a .rec .now) n 0) (linkAt-number (a .s) (a .k) (a .d) (c .before .pre .3))
 
 pub link-spec : {M : Type 1} → statement M
 link-spec =
