@@ -12,16 +12,17 @@ use lib.Dec.{T, eqb, leb, leb→le}
 use lib.Pow.{pow-add, pow-mono, pow-pos}
 use lib.ListN.{getD, set}
 use borrow.Author.Tests.{le-leb, lt-leb, eq-eqb, ne-eqb}
-use Rattle.memory.specs.Bytes.{AreBytes}
+use Rattle.memory.specs.Bytes.{AreBytes, numberAt}
+use Rattle.memory.proofs.Bytes.{numberAt-lt}
 use Rattle.base.proofs.Cases.{eq-or-ne, and-false}
 use Rattle.graph.specs.Side.{left}
 use Rattle.graph.specs.Vector.{width, shared}
 use Rattle.graph.proofs.Leading.{shared-top}
 use Rattle.base.proofs.Tests.{T-true}
 use Rattle.protocol.specs.State.{member, members}
-use Rattle.record.specs.Layout.{seats, levels, vectorAt, entryAt}
+use Rattle.record.specs.Layout.{seats, levels, vectorSize, vectorFrom, linkAt}
 use Rattle.record.specs.Meaning.{seatsIn, meaning}
-use Rattle.record.proofs.SeatBytes.{vector-byte}
+use Rattle.record.proofs.SeatBytes.{vector-bytes}
 use Rattle.base.proofs.Stops.{and-last}
 use Rattle.base.specs.Loops.{all}
 use Rattle.search.specs.Check.{sameLink}
@@ -54,16 +55,16 @@ same-level j k a b p q e = by (decLt j k) (decLt k j)
     by (no h) (yes d) = absurd (omega (arith, pow-mono d, pow-suc 2 k))
     by (no h) (no d) = omega arith
 
-pub place-is : (l : List ℕ) (x k v : ℕ) → x < seats → v ≡ getD l (vectorAt x) 0 → (2 ^ width + v) / 2 ^ (width - k) ≡ placeOf l x k
+pub place-is : (l : List ℕ) (x k v : ℕ) → x < seats → v ≡ numberAt l (vectorFrom x) vectorSize → (2 ^ width + v) / 2 ^ (width - k) ≡ placeOf l x k
 unfolding placeOf
-place-is l x k v h e = rw (vector-byte l x h, e)
+place-is l x k v h e = rw (vector-bytes l x h, e)
 
 pub place-bound : (v n : ℕ) → v < 2 ^ width → (2 ^ width + v) / n < places
 place-bound v n h = omega (arith, div-le-self (2 ^ width + v) n)
 
 module _ (l : List ℕ) (b : AreBytes l) where
   vector-fits : (x : ℕ) → x < seats → seatsIn l .vector x < 2 ^ width
-  vector-fits x h = rw (vector-byte l x h) (b _)
+  vector-fits x h = rw (vector-bytes l x h) (numberAt-lt l (vectorFrom x) vectorSize b)
 
   -- lots of one level with one place
   same-list : (x y k : ℕ) → x < seats → y < seats → k < levels
@@ -121,7 +122,7 @@ module _ (l : List ℕ) (b : AreBytes l) where
 
   -- the left link of a member, by its byte y: none, or some
   module _ (x k y : ℕ) (m : List ℕ) (h : x < seats) (g : k < levels) (t : member (seatsIn l) x ≡ true) (a : Marked l (x * levels + k) m)
-      (e : y ≡ getD l (entryAt x + 10 + 2 * k + 0) 0) where
+      (e : y ≡ getD l (linkAt x k left) 0) where
     pub left-none : (i : ℕ) {r : Bool} {o : List ℕ} → seats ≤ y → i ≡ placeOf l x k → i < places → r ≡ eqb (getD m i 0) 0 → o ≡ set m i 1
         → (r ≡ leftOk l x k) × (r ≡ true → Marked l (x * levels + k + 1) o)
     left-none i n q f u w =

@@ -13,7 +13,7 @@ use Rattle.base.proofs.Cases.{lt-or-ge, eq-or-ne, and-true, and-false}
 use Rattle.graph.specs.Side.{left, right}
 use Rattle.base.proofs.Tests.{T-true}
 use Rattle.protocol.specs.State.{seated, member, members}
-use Rattle.record.specs.Layout.{seats, levels, phaseAt, stateAt, entryAt}
+use Rattle.record.specs.Layout.{seats, levels, phaseAt, stateAt, linkAt}
 use Rattle.record.specs.Meaning.{linkOf, seatsIn, meaning}
 use Rattle.search.specs.Check.{sameLink}
 use Rattle.search.proofs.LocalCheck.{backOf, knownOf, endsAt}
@@ -60,28 +60,28 @@ module _ (l : List ℕ) where
       by false = refl
 
   -- the left link with its link back
-  module _ (x k y : ℕ) (h : x < seats) (g : k < levels) (e : y ≡ getD l (entryAt x + 10 + 2 * k + 0) 0) where
+  module _ (x k y : ℕ) (h : x < seats) (g : k < levels) (e : y ≡ getD l (linkAt x k left) 0) where
     pub back-none : seats ≤ y → true ≡ backOf (members (seatsIn l)) (meaning l .link) x k (meaning l .link x k left)
     unfolding backOf
-    back-none q = rw (link-read l x k 0 y h g (omega arith) e, linkOf-none y q)
+    back-none q = rw (link-read l x k left y h g e, linkOf-none y q)
 
     pub back-some : y < seats → backOf (members (seatsIn l)) (meaning l .link) x k (meaning l .link x k left)
-        ≡ member (seatsIn l) y && eqb (getD l (entryAt y + 10 + 2 * k + 1) 0) x
+        ≡ member (seatsIn l) y && eqb (getD l (linkAt y k right) 0) x
     unfolding backOf
-    back-some q = rw (link-read l x k 0 y h g (omega arith) e, linkOf-some y q, link-read l y k 1 _ q g (omega arith) refl, same-seat _ x h)
+    back-some q = rw (link-read l x k left y h g e, linkOf-some y q, link-read l y k right _ q g refl, same-seat _ x h)
 
   -- the right link
-  module _ (x k y : ℕ) (h : x < seats) (g : k < levels) (e : y ≡ getD l (entryAt x + 10 + 2 * k + 1) 0) where
+  module _ (x k y : ℕ) (h : x < seats) (g : k < levels) (e : y ≡ getD l (linkAt x k right) 0) where
     pub known-none : seats ≤ y → true ≡ knownOf (members (seatsIn l)) (meaning l .link x k right)
     unfolding knownOf
-    known-none q = rw (link-read l x k 1 y h g (omega arith) e, linkOf-none y q)
+    known-none q = rw (link-read l x k right y h g e, linkOf-none y q)
 
     pub known-some : y < seats → knownOf (members (seatsIn l)) (meaning l .link x k right) ≡ member (seatsIn l) y
     unfolding knownOf
-    known-some q = rw (link-read l x k 1 y h g (omega arith) e, linkOf-some y q)
+    known-some q = rw (link-read l x k right y h g e, linkOf-some y q)
 
   -- a left end
   pub ends-byte : (x k : ℕ) → x < seats → k < levels
-      → endsAt (members (seatsIn l)) (meaning l .link) k x ≡ leb seats (getD l (entryAt x + 10 + 2 * k + 0) 0) && member (seatsIn l) x
+      → endsAt (members (seatsIn l)) (meaning l .link) k x ≡ leb seats (getD l (linkAt x k left) 0) && member (seatsIn l) x
   unfolding endsAt
-  ends-byte x k h g = rw (link-read l x k 0 _ h g (omega arith) refl, same-none (getD l (entryAt x + 10 + 2 * k + 0) 0))
+  ends-byte x k h g = rw (link-read l x k left _ h g refl, same-none (getD l (linkAt x k left) 0))

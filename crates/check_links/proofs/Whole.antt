@@ -11,17 +11,16 @@ use lib.ListN.{length, getD}
 use borrow.Author.Tests.{eq-eqb, ne-eqb}
 use Rattle.memory.specs.Bytes.{AreBytes}
 use Rattle.base.proofs.Cases.{lt-or-ge}
-use Rattle.graph.specs.Side.{right}
+use Rattle.graph.specs.Side.{Side, right}
 use Rattle.graph.specs.Vector.{width}
 use Rattle.graph.specs.Graph.{Laws}
 use Rattle.protocol.specs.State.{seated, members}
 use Rattle.protocol.specs.Sound.{Sound}
 use Rattle.protocol.proofs.SoundFacts.{link-linked}
 use Rattle.protocol.proofs.Reached.{members-laws}
-use Rattle.record.specs.Layout.{seats, levels, size, phaseAt, entryAt}
+use Rattle.record.specs.Layout.{seats, levels, size, phaseAt, linkAt}
 use Rattle.record.specs.Meaning.{seatsIn, meaning}
 use Rattle.record.specs.Sound.{sound}
-use Rattle.graph.specs.Side.{sideOfNumber}
 use Rattle.record.specs.Reading.{recordRefusal}
 use Rattle.record.proofs.Links.{linkOf-some, link-read}
 use Rattle.record.proofs.Sound.{sound-is}
@@ -47,16 +46,16 @@ module _ (l : List ℕ) (e : length l ≡ size) (b : AreBytes l) (s : sound l �
   links-sided x k y d m h f = let k = link-linked bytes-sound {x = x} {k = k} {d = d} f in (k .1, k .0 .bits)
 
   -- a link, by its byte, names a seated lot
-  pub link-seated : (x k d y : ℕ) → x < seats → k < levels → d < 2 → y ≡ getD l (entryAt x + 10 + 2 * k + d) 0 → y < seats
+  pub link-seated : (x k : ℕ) (d : Side) (y : ℕ) → x < seats → k < levels → y ≡ getD l (linkAt x k d) 0 → y < seats
       → T (seated (seatsIn l) y)
   unfolding meaning
-  link-seated x k d y h g a f q = let e : meaning l .link x k (sideOfNumber d) ≡ some y = link-read l x k d y h g a f ∙ linkOf-some y q in
-      link-linked bytes-sound {x = x} {k = k} {d = sideOfNumber d} e .0 .two
+  link-seated x k d y h g f q = let e : meaning l .link x k d ≡ some y = link-read l x k d y h g f ∙ linkOf-some y q in
+      link-linked bytes-sound {x = x} {k = k} {d = d} e .0 .two
 
   -- in phase open a right link names a member
   pub known-open : (x k : ℕ) → x < seats → k < levels → getD l phaseAt 0 ≡ 0 → true ≡ knownOf (members (seatsIn l)) (meaning l .link x k right)
-  known-open x k h g z = let y = getD l (entryAt x + 10 + 2 * k + 1) 0 in ⊎-elim
-      (λ q. rw (known-some l x k y h g refl q, seated-member l y q (link-seated x k 1 y h g (omega arith) refl q), eq-eqb (getD l phaseAt 0) 0 z))
+  known-open x k h g z = let y = getD l (linkAt x k right) 0 in ⊎-elim
+      (λ q. rw (known-some l x k y h g refl q, seated-member l y q (link-seated x k right y h g refl q), eq-eqb (getD l phaseAt 0) 0 z))
       (λ q. known-none l x k y h g refl q)
       (lt-or-ge y seats)
 

@@ -8,7 +8,7 @@ ghost use Rattle.protocol.specs.Numbering.{somePending};
 ghost use Rattle.protocol.specs.Table.{turn as turning};
 ghost use Rattle.protocol.specs.State.{leaves};
 ghost use Rattle.protocol.specs.Calls.{farewell, farewells, accept};
-ghost use Rattle.record.specs.Layout.{seats, levels, size, entryAt};
+ghost use Rattle.record.specs.Layout.{seats, levels, size, linkAt};
 ghost use Rattle.record.specs.Meaning.{seatsIn, meaning};
 ghost use Rattle.graph.specs.Side.{sideOfNumber};
 ghost use Rattle.record.specs.Call.{callRefusal, called};
@@ -48,7 +48,7 @@ fn has_leaver(rec: &[u8]) -> bool
 // The link of seat s at level k on side d as a number.
 fn link(rec: &[u8], s: usize, k: usize, d: usize) -> usize
     requires { ⌜ (length (now rec) ≡ size) × (s < seats) × (k < levels) × (d < 2) ⌝ }
-    ensures { λ r. ⌜ r ≡ getD (now (rec .entry)) (entryAt s + 10 + 2 * k + d) 0 ⌝ }
+    ensures { λ r. ⌜ r ≡ getD (now (rec .entry)) (linkAt s k (sideOfNumber d)) 0 ⌝ }
 {
     record::link(rec, s, k, d) as usize
 }

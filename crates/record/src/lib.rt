@@ -40,7 +40,7 @@ pub const LINKS: usize = 2 * LEVELS;
 // Where the fields begin in an entry, and its bytes.
 const STATE_AT: usize = 0;
 
-const NUMBER_AT: usize = STATE_AT + STATE_SIZE;
+pub const NUMBER_AT: usize = STATE_AT + STATE_SIZE;
 
 const VECTOR_AT: usize = NUMBER_AT + NUMBER_SIZE;
 

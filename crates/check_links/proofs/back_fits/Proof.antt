@@ -4,6 +4,7 @@ use mathlib.Core.Path.{ap}
 use native.Mathlib.Omega.{arith}
 use lib.Dec.{eqb}
 use Rattle.base.proofs.Stops.{and-stop, and-go}
+use Rattle.graph.specs.Side.{left}
 use Rattle.check_links.proofs.Parts.{back-none, back-some}
 use Rattle.check_links.proofs.Whole.{link-seated}
 use borrow.Author.Needs.{needs}
@@ -27,7 +28,7 @@ seated-is-member-requires c κs =
       search needs,
       search needs,
       link-seated (s .rec .now) (search needs) (λ j. omega (arith, b .shared-slice-known .given j)) (search needs)
-          (s .x) (s .k) 0 (r .result) (search needs) (search needs) (omega arith) (r .ensures) (c .if1 .left),
+          (s .x) (s .k) left (r .result) (search needs) (search needs) (r .ensures) (c .if1 .left),
     )
 
 link-requires-2 : tie.Need-link-requires-2
