@@ -136,7 +136,8 @@ fn leave_row(rec: &[u8], seat: usize) -> u8
 // Writes state, number and vector of seat s.
 fn write_lot(rec: &mut [u8], s: usize, number: u64, vector: u8)
     requires { ⌜ (length (now rec) ≡ size) × (s < seats) ⌝ }
-    ensures { λ _. ⌜ now (rec .exit) ≡ putNumber (putNumber (set (now (rec .entry)) (stateAt s) 1) (numberFrom s) numberSize number) (vectorFrom s) vectorSize vector ⌝ }
+    ensures { λ _. ⌜ now (rec .exit)
+        ≡ putNumber (putNumber (set (now (rec .entry)) (stateAt s) 1) (numberFrom s) numberSize number) (vectorFrom s) vectorSize vector ⌝ }
 {
     record::set_state(rec, s, STAYING);
     record::set_number(rec, s, number);

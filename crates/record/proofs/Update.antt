@@ -128,7 +128,8 @@ module _ (M : Meaning) where
       other (stateCell x) q ne = refl
       other (numberCell x) q ne = refl
       other (vectorCell x) q ne = refl
-      other (linkCell x j e) q ne = ap linkByte (⊎-elim (λ f. f) (λ f. absurd (ne (same x j e (f .0) (f .1) (f .2)))) (applied-frame s (put k d o) (M .link) x j e))
+      other (linkCell x j e) q ne =
+          ap linkByte (⊎-elim (λ f. f) (λ f. absurd (ne (same x j e (f .0) (f .1) (f .2)))) (applied-frame s (put k d o) (M .link) x j e))
       other (pendingCell b) q ne = refl
 
   -- a rule that changes nothing

@@ -46,7 +46,7 @@ returns-2 c = let b = c .before .before .before .before .before .before in
     let y = c .before .before .before .before .link .result in
     let d = b .args .d in
     let x = b .args .x in
-    let o = link-some l (b .args .s) (b .args .k) (sideOfNumber d) y (b .pre .1) (b .pre .2) (c .before .before .before .before .link .ensures) (search needs) in
+    let o = link-some l _ (b .args .k) (sideOfNumber d) y (b .pre .1) (b .pre .2) (c .before .before .before .before .link .ensures) (search needs) in
     let n = number-read l y (c .before .before .number .result) (search needs) (c .before .before .number .ensures) in
     along-past (seatsIn l .number) (meaning l .link) x y (sideOfNumber d) o
     (ap (onSide (sideOfNumber d) x) n ∙ sym (c .before .on-side .ensures) ∙ c .if2 .taken)
@@ -58,7 +58,7 @@ returns-3 c = let b = c .before .before .before .before .before .before in
     let y = c .before .before .before .before .link .result in
     let d = b .args .d in
     let x = b .args .x in
-    let o = link-some l (b .args .s) (b .args .k) (sideOfNumber d) y (b .pre .1) (b .pre .2) (c .before .before .before .before .link .ensures) (search needs) in
+    let o = link-some l _ (b .args .k) (sideOfNumber d) y (b .pre .1) (b .pre .2) (c .before .before .before .before .link .ensures) (search needs) in
     let n = number-read l y (c .before .before .number .result) (search needs) (c .before .before .number .ensures) in
     along-moves (seatsIn l .number) (meaning l .link) x y (sideOfNumber d) (c .before .before .before .if1 .left) o
     (ap (onSide (sideOfNumber d) x) n ∙ sym (c .before .on-side .ensures) ∙ c .if2 .left)
