@@ -1,5 +1,5 @@
 -- The parts of the check that looks only at neighbours and ends (search's LocalCheck), by the bytes that the code reads. Assumes nothing.
-use Prim.Native.Nat.{ℕ, _+_, _*_, _≤_, _<_}
+use Prim.Native.Nat.{ℕ, _≤_, _<_}
 use mathlib.Core.Path.{_≡_, refl}
 use mathlib.Core.Logic.{⊎-elim}
 use mathlib.Core.Option.{none, some}

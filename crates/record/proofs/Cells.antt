@@ -14,12 +14,12 @@ use Rattle.base.proofs.Cases.{lt-or-ge, eq-or-ne}
 use Rattle.graph.specs.Side.{Side, sideNumber, sideOfNumber}
 use Rattle.protocol.specs.State.{Meaning}
 use Rattle.protocol.proofs.Numbering.{sideNumber-lt}
-use Rattle.record.specs.Layout.{seats, levels, phaseSize, stateSize, numberSize, vectorSize, linksSize, entrySize, size}
+use Rattle.record.specs.Layout.{seats, phaseSize, stateSize, numberSize, vectorSize, linksSize, entrySize, size}
 use Rattle.record.specs.Layout.{stateOffset, numberOffset, vectorOffset, linksOffset, phaseAt, entriesFrom, entryAt, linksFrom, pendingFrom}
 use Rattle.record.specs.Cell.{Cell, phaseCell, stateCell, numberCell, vectorCell, linkCell, pendingCell}
 use Rattle.record.specs.Cell.{InRecord, cellFrom, cellSize, entryCell, cellAt, cellIn, putCell, Holds}
 use Rattle.record.specs.Meaning.{valueOf, byteOf, bytesOf}
-use Rattle.record.proofs.Places.{side-sideNumber, sideNumber-side, length-bytesOf, getD-bytesOf}
+use Rattle.record.proofs.Places.{side-sideNumber, sideNumber-side, getD-bytesOf}
 
 -- every cell lies in the record, and has a byte
 pub cell-within : (c : Cell) → InRecord c → cellFrom c + cellSize c ≤ size

@@ -1,7 +1,7 @@
 -- Meanings with the same values have the same bytes; those that differ in one cell have the bytes with that cell put; and a meaning's parts
 -- give its values. Assumes nothing.
 use Prim.Native.Nat.{ℕ, _+_, _*_, _<_}
-use mathlib.Core.Path.{_≡_, refl, sym, ap, _∙_, subst}
+use mathlib.Core.Path.{_≡_, sym, ap, _∙_, subst}
 use mathlib.Core.Logic.{⊎-elim, _≢_}
 use mathlib.Core.Bool.{Bool}
 use mathlib.Core.List.{List}
@@ -13,7 +13,6 @@ use Rattle.memory.proofs.Digits.{getD-putNumber}
 use Rattle.base.proofs.Tabulate.{tabulate-is, tabulate-same}
 use Rattle.memory.proofs.Packed.{packed-same}
 use Rattle.graph.specs.Side.{Side}
-use Rattle.graph.specs.Graph.{Links}
 use Rattle.graph.specs.Vector.{width}
 use Rattle.protocol.specs.Message.{Msg}
 use Rattle.protocol.specs.Numbering.{messageAt}

@@ -3,7 +3,6 @@ use Prim.Native.Nat.{ℕ}
 use mathlib.Core.Path.{sym, ap, _∙_}
 use mathlib.Core.List.{List}
 use native.Mathlib.Omega.{arith}
-use lib.ListN.{set}
 use borrow.Author.Needs.{needs}
 use Rattle.memory.specs.Bytes.{putNumber}
 use Rattle.record.specs.Layout.{numberSize, vectorSize, numberFrom, vectorFrom}
