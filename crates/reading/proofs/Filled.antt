@@ -12,7 +12,7 @@ use Rattle.memory.specs.Bytes.{digit}
 use Rattle.memory.proofs.Digits.{digit-zero, digit-last}
 use Rattle.graph.specs.Side.{Side, sideNumber, sideOfNumber}
 use Rattle.protocol.proofs.Numbering.{sideNumber-lt}
-use Rattle.record.specs.Layout.{seats, noLink, linkSize, linksSize, linksFrom, size}
+use Rattle.record.specs.Layout.{seats, levels, noLink, linkSize, linksSize, linksFrom, size}
 use Rattle.record.specs.Cell.{Cell, phaseCell, stateCell, numberCell, vectorCell, linkCell, pendingCell, InRecord, cellFrom, cellSize, Holds}
 use Rattle.record.specs.inner.Opened.{openedValue, IsOpened}
 use Rattle.record.proofs.Places.{sideNumber-side}
@@ -82,15 +82,18 @@ links-all {l} b = record { sized = b .sized; cells = cells }
     zeros : (c : Cell) → InRecord c → ((x k : ℕ) (d : Side) → c ≢ linkCell x k d) → Holds l c 0
     zeros c p ne j q = b .others (cellFrom c + j) (λ x i h g e. not-link c j p q ne x i h g e) ∙ sym (digit-zero (cellSize c) j)
 
+    link : (s k : ℕ) (d : Side) → s < seats → k < levels → Holds l (linkCell s k d) noLink
+    link s k d p g j q =
+        let o = sideNumber-lt d in
+        let here : j ≡ 0 = omega arith in
+        ap (λ (i : ℕ). getD l i 0) (omega arith)
+        ∙ b .links s (2 * k + sideNumber d) p (omega arith)
+        ∙ sym (ap (digit linkSize noLink) here ∙ digit-last 0 noLink)
+
     cells : (c : Cell) → InRecord c → Holds l c (openedValue c)
     cells phaseCell p = zeros phaseCell p (λ x k d e. let z : _≡_ {A = ℕ} 0 1 = cc in omega arith)
     cells (stateCell s) p = zeros (stateCell s) p (λ x k d e. let z : _≡_ {A = ℕ} 0 1 = cc in omega arith)
     cells (numberCell s) p = zeros (numberCell s) p (λ x k d e. let z : _≡_ {A = ℕ} 0 1 = cc in omega arith)
     cells (vectorCell s) p = zeros (vectorCell s) p (λ x k d e. let z : _≡_ {A = ℕ} 0 1 = cc in omega arith)
-    cells (linkCell s k d) p j q =
-        let o = sideNumber-lt d in
-        let here : j ≡ 0 = omega arith in
-        ap (λ (i : ℕ). getD l i 0) (omega arith)
-        ∙ b .links s (2 * k + sideNumber d) (p .0) (omega arith)
-        ∙ sym (ap (digit linkSize noLink) here ∙ digit-last 0 noLink)
+    cells (linkCell s k d) p = link s k d (p .0) (p .1)
     cells (pendingCell i) p = zeros (pendingCell i) p (λ x k d e. let z : _≡_ {A = ℕ} 0 1 = cc in omega arith)
