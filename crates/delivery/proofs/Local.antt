@@ -24,7 +24,8 @@ use Rattle.protocol.proofs.Numbering.{sideNumber-lt}
 use Rattle.protocol.proofs.Accepted.{deliver-row}
 use Rattle.protocol.proofs.Local.{one-entry, pending-exactly}
 use Rattle.record.specs.Layout.{seats, levels, entrySize, entryAt, linkAt, pendingFrom, size}
-use Rattle.record.specs.Cell.{Cell, phaseCell, stateCell, numberCell, vectorCell, linkCell, pendingCell, InRecord, cellFrom, cellSize}
+use Rattle.record.specs.Cell.{Cell, phaseCell, stateCell, numberCell, vectorCell, linkCell, pendingCell, cellFrom, cellSize}
+use Rattle.record.specs.inner.Cell.{InRecord}
 use Rattle.record.specs.Meaning.{meaning, linkByte, valueOf, bytesOf}
 use Rattle.record.proofs.Places.{getD-bytesOf}
 use Rattle.record.proofs.Form.{Form, meaning-pending}

@@ -13,7 +13,8 @@ use Rattle.memory.proofs.Digits.{digit-zero, digit-last}
 use Rattle.graph.specs.Side.{Side, sideNumber, sideOfNumber}
 use Rattle.protocol.proofs.Numbering.{sideNumber-lt}
 use Rattle.record.specs.Layout.{seats, levels, noLink, linkSize, linksSize, linksFrom, size}
-use Rattle.record.specs.Cell.{Cell, phaseCell, stateCell, numberCell, vectorCell, linkCell, pendingCell, InRecord, cellFrom, cellSize, Holds}
+use Rattle.record.specs.Cell.{Cell, phaseCell, stateCell, numberCell, vectorCell, linkCell, pendingCell, cellFrom, cellSize}
+use Rattle.record.specs.inner.Cell.{InRecord, Holds}
 use Rattle.record.specs.inner.Opened.{openedValue, IsOpened}
 use Rattle.record.proofs.Places.{sideNumber-side}
 use Rattle.record.proofs.Cells.{cell-once}

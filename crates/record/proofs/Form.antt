@@ -24,7 +24,8 @@ use Rattle.protocol.specs.Rules.{free}
 use Rattle.protocol.specs.Sound.{numberBits}
 use Rattle.record.specs.Layout.{seats, levels, byteBits, numberSize, vectorSize, noLink, messages, phaseAt, stateAt, numberFrom, vectorFrom, linkAt}
 use Rattle.record.specs.Layout.{pendingFrom, size}
-use Rattle.record.specs.Cell.{Cell, phaseCell, stateCell, numberCell, vectorCell, linkCell, pendingCell, InRecord, cellSize, cellIn}
+use Rattle.record.specs.Cell.{Cell, phaseCell, stateCell, numberCell, vectorCell, linkCell, pendingCell, cellSize}
+use Rattle.record.specs.inner.Cell.{InRecord, cellIn}
 use Rattle.record.specs.Meaning.{phaseOf, stateOf, linkOf, seatsIn, meaning, phaseByte, stateByte, linkByte, valueOf}
 use Rattle.record.proofs.Places.{exists-at, place-at}
 use Rattle.record.proofs.Values.{phaseByte-phaseOf, stateByte-stateOf, linkByte-linkOf}

@@ -18,8 +18,8 @@ use Rattle.protocol.specs.Message.{Msg}
 use Rattle.protocol.specs.Numbering.{messageAt}
 use Rattle.protocol.specs.State.{Seats, Meaning}
 use Rattle.record.specs.Layout.{seats, levels, byteBits, messages, pendingSize, size}
-use Rattle.record.specs.Cell.{Cell, phaseCell, stateCell, numberCell, vectorCell, linkCell, pendingCell, InRecord, cellFrom, cellSize}
-use Rattle.record.specs.Cell.{putCell, Holds}
+use Rattle.record.specs.Cell.{Cell, phaseCell, stateCell, numberCell, vectorCell, linkCell, pendingCell, cellFrom, cellSize}
+use Rattle.record.specs.inner.Cell.{InRecord, putCell, Holds}
 use Rattle.record.specs.Meaning.{phaseByte, stateByte, linkByte, valueOf, byteOf, bytesOf}
 use Rattle.record.proofs.Places.{length-bytesOf}
 use Rattle.record.proofs.Cells.{cell-within, same-cell, cell-outside, by-cell, byte-cell, bytes-hold}

@@ -9,7 +9,8 @@ use Rattle.graph.specs.Vector.{width}
 use Rattle.protocol.specs.State.{nobody, opened}
 use Rattle.protocol.proofs.KeepSound.{opened-sound}
 use Rattle.record.specs.Layout.{seats}
-use Rattle.record.specs.Cell.{Cell, phaseCell, stateCell, numberCell, vectorCell, linkCell, pendingCell, Holds}
+use Rattle.record.specs.Cell.{Cell, phaseCell, stateCell, numberCell, vectorCell, linkCell, pendingCell}
+use Rattle.record.specs.inner.Cell.{Holds}
 use Rattle.record.specs.Meaning.{meaning, valueOf, bytesOf}
 use Rattle.record.specs.Sound.{sound}
 use Rattle.record.specs.inner.Opened.{openedValue, IsOpened}

@@ -27,7 +27,8 @@ use Rattle.protocol.proofs.Numbering.{messageAt-place}
 use Rattle.protocol.proofs.SoundFacts.{two-level, link-linked, pending-exists}
 use Rattle.record.specs.Layout.{seats, levels, byteBits, numberSize, vectorSize, messages, phaseAt, stateAt, numberFrom, vectorFrom, linkAt}
 use Rattle.record.specs.Layout.{pendingFrom, size}
-use Rattle.record.specs.Cell.{Cell, phaseCell, stateCell, numberCell, vectorCell, linkCell, pendingCell, InRecord, cellFrom, cellSize, cellIn}
+use Rattle.record.specs.Cell.{Cell, phaseCell, stateCell, numberCell, vectorCell, linkCell, pendingCell, cellFrom, cellSize}
+use Rattle.record.specs.inner.Cell.{InRecord, cellIn}
 use Rattle.record.specs.Meaning.{phaseOf, stateOf, linkOf, seatsIn, meaning}
 use Rattle.record.specs.Meaning.{phaseByte, stateByte, linkByte, valueOf, byteOf, bytesOf}
 use Rattle.record.proofs.Values.{NamesSeat, phaseOf-phaseByte, stateOf-stateByte, linkOf-linkByte}

@@ -20,7 +20,8 @@ use Rattle.protocol.specs.State.{Meaning}
 use Rattle.protocol.specs.Calls.{pendingAfter}
 use Rattle.protocol.proofs.Numbering.{messageAt-place}
 use Rattle.record.specs.Layout.{seats, byteBits, messages, pendingFrom, pendingSize}
-use Rattle.record.specs.Cell.{Cell, phaseCell, stateCell, numberCell, vectorCell, linkCell, pendingCell, InRecord, putCell}
+use Rattle.record.specs.Cell.{Cell, phaseCell, stateCell, numberCell, vectorCell, linkCell, pendingCell}
+use Rattle.record.specs.inner.Cell.{InRecord, putCell}
 use Rattle.record.specs.inner.Sent.{sentBits}
 use Rattle.record.specs.Meaning.{valueOf, bytesOf}
 use Rattle.record.proofs.Places.{place-within, place-at}

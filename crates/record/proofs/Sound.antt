@@ -23,7 +23,8 @@ use Rattle.protocol.specs.Sound.{Sound, linkOk, messageOk, numberBits}
 use Rattle.protocol.proofs.Numbering.{messageAt-place}
 use Rattle.record.specs.Layout.{seats, levels, numberSize, vectorSize, noLink, messages, size}
 use Rattle.record.specs.Layout.{phaseAt, stateAt, numberFrom, vectorFrom, linkAt, pendingFrom}
-use Rattle.record.specs.Cell.{Cell, phaseCell, stateCell, numberCell, vectorCell, linkCell, pendingCell, InRecord, cellIn}
+use Rattle.record.specs.Cell.{Cell, phaseCell, stateCell, numberCell, vectorCell, linkCell, pendingCell}
+use Rattle.record.specs.inner.Cell.{InRecord, cellIn}
 use Rattle.record.specs.Meaning.{linkOf, seatsIn, meaning, bytesOf}
 use Rattle.record.specs.Sound.{sound}
 use Rattle.record.proofs.Places.{place-within}

@@ -18,7 +18,8 @@ use Rattle.protocol.specs.State.{Phase, Seats, Meaning}
 use Rattle.protocol.specs.Calls.{at, pendingAfter, applied}
 use Rattle.protocol.proofs.Calls.{at-same, at-other, applied-at, applied-frame}
 use Rattle.record.specs.Layout.{seats, levels, numberSize, vectorSize, phaseAt, stateAt, numberFrom, vectorFrom, linkAt}
-use Rattle.record.specs.Cell.{Cell, phaseCell, stateCell, numberCell, vectorCell, linkCell, pendingCell, InRecord, putCell}
+use Rattle.record.specs.Cell.{Cell, phaseCell, stateCell, numberCell, vectorCell, linkCell, pendingCell}
+use Rattle.record.specs.inner.Cell.{InRecord, putCell}
 use Rattle.record.specs.Meaning.{phaseByte, stateByte, linkByte, valueOf, bytesOf}
 use Rattle.record.proofs.Values.{NamesSeat, phaseByte-lt, stateByte-lt, linkByte-byte}
 use Rattle.record.proofs.Frame.{bytes-put}

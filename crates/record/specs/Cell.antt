@@ -1,14 +1,10 @@
 -- The cells of a record: each of its fields, with its place. Every byte lies in one cell, and a cell's bytes hold a number, the highest byte
 -- first. A new field is a constructor, its place and its size here, and its value in Meaning.antt. Assumes nothing.
-use Prim.Native.Nat.{ℕ, _+_, _-_, _/_, _%_, _<_}
-use mathlib.Core.Path.{_≡_}
+use Prim.Native.Nat.{ℕ, _+_, _-_, _/_, _%_}
 use mathlib.Core.Bool.{cond}
-use mathlib.Core.List.{List}
 use lib.Dec.{ltb}
-use lib.ListN.{getD}
-use Rattle.memory.specs.Bytes.{numberAt, putNumber, digit}
 use Rattle.graph.specs.Side.{Side, sideOfNumber}
-use Rattle.record.specs.Layout.{seats, levels, phaseSize, stateSize, numberSize, vectorSize, linkSize, entrySize, pendingSize}
+use Rattle.record.specs.Layout.{phaseSize, stateSize, numberSize, vectorSize, linkSize, entrySize}
 use Rattle.record.specs.Layout.{numberOffset, vectorOffset, linksOffset, phaseAt, entriesFrom, stateAt, numberFrom, vectorFrom, linkAt, pendingFrom}
 
 -- the phase; state, number, vector and links of a seat; a byte of the pending bits
@@ -17,15 +13,6 @@ pub data Cell : Type 0 where
   stateCell numberCell vectorCell : (s : ℕ) → Cell
   linkCell : (s k : ℕ) (d : Side) → Cell
   pendingCell : (b : ℕ) → Cell
-
--- seat, level and byte exist
-abbrev pub InRecord : Cell → Type 0
-InRecord phaseCell = Unit {0}
-InRecord (stateCell s) = s < seats
-InRecord (numberCell s) = s < seats
-InRecord (vectorCell s) = s < seats
-InRecord (linkCell s k d) = (s < seats) × (k < levels)
-InRecord (pendingCell b) = b < pendingSize
 
 -- the first byte of a cell
 abbrev pub cellFrom : Cell → ℕ
@@ -58,14 +45,3 @@ unfoldable pub cellAt : ℕ → Cell
 cellAt i =
     cond (ltb i entriesFrom) phaseCell
     (cond (ltb i pendingFrom) (entryCell ((i - entriesFrom) / entrySize) ((i - entriesFrom) % entrySize)) (pendingCell (i - pendingFrom)))
-
--- the number in a cell, and the bytes with another
-abbrev pub cellIn : List ℕ → Cell → ℕ
-cellIn l c = numberAt l (cellFrom c) (cellSize c)
-
-abbrev pub putCell : List ℕ → Cell → ℕ → List ℕ
-putCell l c v = putNumber l (cellFrom c) (cellSize c) v
-
--- the bytes of a cell are those of the number v
-abbrev pub Holds : List ℕ → Cell → (v : ℕ) → Type 0
-Holds l c v = (j : ℕ) → j < cellSize c → getD l (cellFrom c + j) 0 ≡ digit (cellSize c) v j
