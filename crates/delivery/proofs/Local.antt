@@ -1,6 +1,6 @@
 -- What an accepted delivery changes in the bytes (document 01, "Messages"): of all entries only that of `to`, and of the pending bits
 -- exactly those of the message taken and of the messages that its rule sends. Assumes nothing.
-use Prim.Native.Nat.{ℕ, _<_}
+use Prim.Native.Nat.{ℕ, _+_, _<_}
 use mathlib.Core.Path.{_≡_, refl, sym, ap, _∙_}
 use mathlib.Core.Logic.{⊎-elim}
 use mathlib.Core.Option.{Option, none, some}
