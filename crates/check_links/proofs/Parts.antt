@@ -73,21 +73,21 @@ module _ (l : List ℕ) where
       by false = refl
 
   -- a link with its link back
-  module _ (x k d y : ℕ) (h : x < seats) (g : k < levels) (a : d < 2) (e : y ≡ getD l (entryAt x + 10 + 2 * k + d) 0) where
+  module _ (x k d y : ℕ) (h : x < seats) (g : k < levels) (a : d < 2) (e : y ≡ getD l (linkAt x k (sideOfNumber d)) 0) where
     pub back-none : seats ≤ y → true ≡ backOf (members oneComponent (seatsIn l)) (meaning l .link) x k (sideOfNumber d) (meaning l .link x k (sideOfNumber d))
     unfolding backOf
     back-none q = rw (link-read l x k d y h g a e, linkOf-none y q)
 
     pub back-some : y < seats → backOf (members oneComponent (seatsIn l)) (meaning l .link) x k (sideOfNumber d) (meaning l .link x k (sideOfNumber d))
-        ≡ member (seatsIn l) y && eqb (getD l (entryAt y + 10 + 2 * k + (1 - d)) 0) x
+        ≡ member (seatsIn l) y && eqb (getD l (linkAt y k (sideOfNumber (1 - d))) 0) x
     unfolding backOf
     back-some q = rw (link-read l x k d y h g a e, linkOf-some y q, ← side-opp d a, link-read l y k (1 - d) _ q g (omega arith) refl, same-seat _ x h)
 
   -- a start
   pub starts-byte : (x : ℕ) → x < seats
-      → startsAt (members oneComponent (seatsIn l)) (meaning l .link) x ≡ member (seatsIn l) x && leb seats (getD l (entryAt x + 10 + 2 * 0 + 0) 0)
+      → startsAt (members oneComponent (seatsIn l)) (meaning l .link) x ≡ member (seatsIn l) x && leb seats (getD l (linkAt x 0 (sideOfNumber 0)) 0)
   unfolding startsAt
-  starts-byte x h = rw (link-read l x 0 0 _ h (omega arith) (omega arith) refl, same-none (getD l (entryAt x + 10 + 2 * 0 + 0) 0))
+  starts-byte x h = rw (link-read l x 0 0 _ h (omega arith) (omega arith) refl, same-none (getD l (linkAt x 0 (sideOfNumber 0)) 0))
 
   -- bit k of the vector
   pub bit-byte : (s k v : ℕ) → s < seats → v ≡ getD l (vectorAt s) 0 → v / 2 ^ (width - 1 - k) % 2 ≡ oneIf (bit width k (seatsIn l .vector s))

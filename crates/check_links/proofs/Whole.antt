@@ -1,5 +1,5 @@
 -- The whole check: that on sound bytes the test of the links is the check of specs/, and each answer. Assumes nothing.
-use Prim.Native.Nat.{ℕ, zero, suc, _+_, _*_, _<_}
+use Prim.Native.Nat.{ℕ, zero, suc, _<_}
 use mathlib.Core.Path.{_≡_, refl, sym, ap, _∙_}
 use mathlib.Core.Logic.{_≢_}
 use mathlib.Core.Option.{some}
@@ -18,7 +18,6 @@ use Rattle.protocol.proofs.Reached.{members-laws}
 use Rattle.record.specs.Layout.{seats, levels, size, entryAt}
 use Rattle.record.specs.Meaning.{seatsIn, meaning}
 use Rattle.record.specs.Sound.{sound}
-use Rattle.graph.specs.Side.{sideOfNumber}
 use Rattle.record.specs.Reading.{recordRefusal}
 use Rattle.record.proofs.Links.{linkOf-some, link-read}
 use Rattle.record.proofs.Sound.{sound-is}
@@ -47,11 +46,11 @@ module _ (l : List ℕ) (e : length l ≡ size) (b : AreBytes l) (s : sound l �
   }
 
   -- a link, by its byte, names a seated lot
-  pub link-seated : (x k d y : ℕ) → x < seats → k < levels → d < 2 → y ≡ getD l (entryAt x + 10 + 2 * k + d) 0 → y < seats
+  pub link-seated : (x k : ℕ) (d : Side) (y : ℕ) → x < seats → k < levels → y ≡ getD l (linkAt x k d) 0 → y < seats
       → T (seated (seatsIn l) y)
   unfolding meaning
-  link-seated x k d y h g a f q = let e : meaning l .link x k (sideOfNumber d) ≡ some y = link-read l x k d y h g a f ∙ linkOf-some y q in
-      link-linked bytes-sound {x = x} {k = k} {d = sideOfNumber d} e .0 .two
+  link-seated x k d y h g f q = let e : meaning l .link x k d ≡ some y = link-read l x k d y h g f ∙ linkOf-some y q in
+      link-linked bytes-sound {x = x} {k = k} {d = d} e .0 .two
 
   -- so the test of the links is the check of specs/
   links-right : linksOk seats width (members oneComponent (seatsIn l)) (meaning l .link) ≡ check seats width (members oneComponent (seatsIn l)) (meaning l .link)

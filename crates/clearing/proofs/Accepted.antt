@@ -56,23 +56,23 @@ module _ (M : Meaning) where
   pub turn-ended : M .seats .phase ≡ clearing → bytesOf (ended M) ≡ bytesOf (accept seats width M turn)
   unfolding afterTurn turnLinks turnSends freedTo relinked
   turn-ended e = bytes-same (record {
-    phase = λ _. refl;
-    state = λ x p _. rw (lt-ltb x seats p);
-    number = λ x j p g _. rw (lt-ltb x seats p);
-    vector = λ x p _. rw (lt-ltb x seats p);
-    link = λ x k d p g _. rw (lt-ltb (linkPlace x k (sideNumber d)) (linkPlace seats 0 0) (omega (arith, sideNumber-lt d)));
-    pending = λ i p _. ap (λ (q : Msg → Bool). q (messageAt seats width i)) (sym (after-nothing (M .pending)));
+    phase = refl;
+    state = λ x p. rw (lt-ltb x seats p);
+    number = λ x p. rw (lt-ltb x seats p);
+    vector = λ x p. rw (lt-ltb x seats p);
+    link = λ x k d p g. rw (lt-ltb (linkPlace x k (sideNumber d)) (linkPlace seats 0 0) (omega (arith, sideNumber-lt d)));
+    pending = λ i p. ap (λ (q : Msg → Bool). q (messageAt seats width i)) (sym (after-nothing (M .pending)));
   }) ∙ in-phase clearing e
 
   pub turn-begun : M .seats .phase ≡ open-phase → any seats (leaves (M .seats)) ≡ true → bytesOf (begun M) ≡ bytesOf (accept seats width M turn)
   unfolding afterTurn turnLinks turnSends
   turn-begun e t = bytes-same (record {
-    phase = λ _. rw t;
-    state = λ x p _. refl;
-    number = λ x j p g _. refl;
-    vector = λ x p _. refl;
-    link = λ x k d p g _. refl;
-    pending = λ i p _. refl;
+    phase = rw t;
+    state = λ x p. refl;
+    number = λ x p. refl;
+    vector = λ x p. refl;
+    link = λ x k d p g. refl;
+    pending = λ i p. refl;
   }) ∙ in-phase open-phase e
 
   nothing-sent : any seats (leaves (M .seats)) ≡ false → pendingAfter (farewells seats width (M .seats) (M .link)) none (M .pending) ≡ M .pending
@@ -82,12 +82,12 @@ module _ (M : Meaning) where
   pub turn-nothing : M .seats .phase ≡ open-phase → any seats (leaves (M .seats)) ≡ false → bytesOf M ≡ bytesOf (accept seats width M turn)
   unfolding afterTurn turnLinks turnSends
   turn-nothing e t = bytes-same (record {
-    phase = λ _. e ∙ rw t;
-    state = λ x p _. refl;
-    number = λ x j p g _. refl;
-    vector = λ x p _. refl;
-    link = λ x k d p g _. refl;
-    pending = λ i p _. ap (λ (q : Msg → Bool). q (messageAt seats width i)) (sym (nothing-sent t));
+    phase = e ∙ rw t;
+    state = λ x p. refl;
+    number = λ x p. refl;
+    vector = λ x p. refl;
+    link = λ x k d p g. refl;
+    pending = λ i p. ap (λ (q : Msg → Bool). q (messageAt seats width i)) (sym (nothing-sent t));
   }) ∙ in-phase open-phase e
 
 -- the phase by its byte

@@ -15,7 +15,7 @@ use Rattle.protocol.specs.Rules.{SeatState, free, staying, leaving}
 use Rattle.protocol.specs.State.{Meaning, isLeaving, leaves}
 use Rattle.protocol.specs.Page.{at}
 use Rattle.protocol.proofs.Calls.{at-same, at-other}
-use Rattle.record.specs.Layout.{seats, stateAt, numberFrom, vectorAt}
+use Rattle.record.specs.Layout.{seats, numberSize, vectorSize, stateAt, numberFrom, vectorFrom}
 use Rattle.record.specs.Meaning.{seatsIn, bytesOf}
 use Rattle.record.proofs.Frame.{bytes-same}
 use Rattle.record.proofs.Update.{withState, withNumber, withVector, bytes-withState, bytes-withNumber, bytes-withVector}
@@ -46,12 +46,12 @@ module _ (M : Meaning) (s : ℕ) (h : s < seats) where
       → bytesOf (freedTo (s + 1) M) ≡ bytesOf (withVector (withNumber (withState (freedTo s M) s free) s 0) s 0)
   unfolding freedTo
   fields t = bytes-same (record {
-    phase = λ _. refl;
-    state = λ x p _. state x (eq-or-ne x s);
-    number = λ x j p g _. value (M .seats .number) x (eq-or-ne x s);
-    vector = λ x p _. value (M .seats .vector) x (eq-or-ne x s);
-    link = λ x k d p g _. refl;
-    pending = λ i p _. refl;
+    phase = refl;
+    state = λ x p. state x (eq-or-ne x s);
+    number = λ x p. value (M .seats .number) x (eq-or-ne x s);
+    vector = λ x p. value (M .seats .vector) x (eq-or-ne x s);
+    link = λ x k d p g. refl;
+    pending = λ i p. refl;
   })
     where
       state : (x : ℕ) → (x ≡ s) ⊎ (x ≡ s → ⊥) → freedTo (s + 1) M .seats .state x ≡ at s free (freedTo s M .seats .state) x
@@ -66,23 +66,23 @@ module _ (M : Meaning) (s : ℕ) (h : s < seats) where
       value f x (inr e) = rw (lt-more x s e) (sym (at-other s 0 (λ y. cond (ltb y s && leaves (M .seats) y) 0 (f y)) x e))
 
   free-leaver : leaves (M .seats) s ≡ true → bytesOf (freedTo (s + 1) M)
-      ≡ set (putNumber (set (bytesOf (freedTo s M)) (stateAt s) 0) (numberFrom s) 8 0) (vectorAt s) 0
+      ≡ putNumber (putNumber (set (bytesOf (freedTo s M)) (stateAt s) 0) (numberFrom s) numberSize 0) (vectorFrom s) vectorSize 0
   free-leaver t =
       fields t
       ∙ bytes-withVector (withNumber (withState (freedTo s M) s free) s 0) s 0 h
-      ∙ ap (λ (l : List ℕ). set l (vectorAt s) 0) (bytes-withNumber (withState (freedTo s M) s free) s 0 h
-      ∙ ap (λ (l : List ℕ). putNumber l (numberFrom s) 8 0) (bytes-withState (freedTo s M) s free h))
+      ∙ ap (λ (l : List ℕ). putNumber l (vectorFrom s) vectorSize 0) (bytes-withNumber (withState (freedTo s M) s free) s 0 h
+      ∙ ap (λ (l : List ℕ). putNumber l (numberFrom s) numberSize 0) (bytes-withState (freedTo s M) s free h))
 
   -- another's stays
   free-other : leaves (M .seats) s ≡ false → bytesOf (freedTo (s + 1) M) ≡ bytesOf (freedTo s M)
   unfolding freedTo
   free-other t = bytes-same (record {
-    phase = λ _. refl;
-    state = λ x p _. state x (eq-or-ne x s);
-    number = λ x j p g _. value (M .seats .number) x (eq-or-ne x s);
-    vector = λ x p _. value (M .seats .vector) x (eq-or-ne x s);
-    link = λ x k d p g _. refl;
-    pending = λ i p _. refl;
+    phase = refl;
+    state = λ x p. state x (eq-or-ne x s);
+    number = λ x p. value (M .seats .number) x (eq-or-ne x s);
+    vector = λ x p. value (M .seats .vector) x (eq-or-ne x s);
+    link = λ x k d p g. refl;
+    pending = λ i p. refl;
   })
     where
       state : (x : ℕ) → (x ≡ s) ⊎ (x ≡ s → ⊥) → freedTo (s + 1) M .seats .state x ≡ freedTo s M .seats .state x
@@ -100,9 +100,9 @@ module _ (M : Meaning) (s : ℕ) (h : s < seats) {l : List ℕ} (e : l ≡ bytes
   leaves-now = ap (λ (m : List ℕ). leaves (seatsIn m) s) e ∙ leaves-next M s h
 
   pub free-lot : leaves (seatsIn l) s ≡ true
-      → set (putNumber (set l (stateAt s) 0) (numberFrom s) 8 0) (vectorAt s) 0 ≡ bytesOf (freedTo (s + 1) M)
+      → putNumber (putNumber (set l (stateAt s) 0) (numberFrom s) numberSize 0) (vectorFrom s) vectorSize 0 ≡ bytesOf (freedTo (s + 1) M)
   free-lot t =
-      ap (λ (m : List ℕ). set (putNumber (set m (stateAt s) 0) (numberFrom s) 8 0) (vectorAt s) 0) e
+      ap (λ (m : List ℕ). putNumber (putNumber (set m (stateAt s) 0) (numberFrom s) numberSize 0) (vectorFrom s) vectorSize 0) e
       ∙ sym (free-leaver M s h (sym leaves-now ∙ t))
 
   pub keep-lot : leaves (seatsIn l) s ≡ false → l ≡ bytesOf (freedTo (s + 1) M)
@@ -112,10 +112,10 @@ module _ (M : Meaning) (s : ℕ) (h : s < seats) {l : List ℕ} (e : l ≡ bytes
 pub freedTo-none : (M : Meaning) → bytesOf (freedTo 0 M) ≡ bytesOf M
 unfolding freedTo
 freedTo-none M = bytes-same (record {
-  phase = λ _. refl;
-  state = λ x p _. rw (le-ltb x 0 (omega arith));
-  number = λ x j p g _. rw (le-ltb x 0 (omega arith));
-  vector = λ x p _. rw (le-ltb x 0 (omega arith));
-  link = λ x k d p g _. refl;
-  pending = λ i p _. refl;
+  phase = refl;
+  state = λ x p. rw (le-ltb x 0 (omega arith));
+  number = λ x p. rw (le-ltb x 0 (omega arith));
+  vector = λ x p. rw (le-ltb x 0 (omega arith));
+  link = λ x k d p g. refl;
+  pending = λ i p. refl;
 })

@@ -1,5 +1,5 @@
 -- Messages sent one after the other, and GOING from a lot to a link. Assumes nothing.
-use Prim.Native.Nat.{ℕ, zero, suc, _+_, _-_, _*_, _≤_, _<_}
+use Prim.Native.Nat.{ℕ, zero, suc, _+_, _-_, _≤_, _<_}
 use mathlib.Core.Path.{_≡_, refl, sym, ap, _∙_}
 use mathlib.Core.Option.{Option, none, some}
 use mathlib.Core.Bool.{true, false}
@@ -65,7 +65,7 @@ each-start M f = saying-nothing M
 -- GOING from y to its link b, and no link
 module _ (M : Meaning) (c : Linked M) (y k : ℕ) (h : y < seats) (g : k < levels) {l : List ℕ} (e : l ≡ bytesOf M) where
   link-byte : (d : Side) (o : Option ℕ) → M .link y k d ≡ o → getD l (linkAt y k d) 0 ≡ linkByte o
-  link-byte d o q = ap (λ (m : List ℕ). getD m (linkAt y k d) 0) e ∙ read-link M y k d h g ∙ ap linkByte q
+  link-byte d o q = ap (λ (m : List ℕ). getD m (linkAt y k d) 0) e ∙ read-link M y h k d g (λ z q. c y k z d q) ∙ ap linkByte q
 
   sent : (d : Side) (b : ℕ) → b ≡ getD l (linkAt y k d) 0 → b < seats
       → setBit l pendingFrom (place seats width (going b k (opp d))) ≡ bytesOf (saying M (farewell (M .link) y k d))
@@ -88,13 +88,13 @@ module _ (M : Meaning) (c : Linked M) (y k : ℕ) (h : y < seats) (g : k < level
       by (some z) q = absurd (omega (arith, f ∙ link-byte d (some z) q, c y k z d q))
 
   -- the side as a number
-  pub tell-sent : (d b : ℕ) → d < 2 → b ≡ getD l (entryAt y + 10 + 2 * k + d) 0 → b < seats
+  pub tell-sent : (d b : ℕ) → d < 2 → b ≡ getD l (linkAt y k (sideOfNumber d)) 0 → b < seats
       → setBit l pendingFrom (place seats width (going b k (sideOfNumber (1 - d)))) ≡ bytesOf (saying M (farewell (M .link) y k (sideOfNumber d)))
   tell-sent zero b q f p = sent left b f p
   tell-sent (suc zero) b q f p = sent right b f p
   tell-sent (suc (suc d)) b q f p = absurd (omega arith)
 
-  pub tell-none : (d b : ℕ) → d < 2 → b ≡ getD l (entryAt y + 10 + 2 * k + d) 0 → seats ≤ b
+  pub tell-none : (d b : ℕ) → d < 2 → b ≡ getD l (linkAt y k (sideOfNumber d)) 0 → seats ≤ b
       → l ≡ bytesOf (saying M (farewell (M .link) y k (sideOfNumber d)))
   tell-none zero b q f p = unsent left b f p
   tell-none (suc zero) b q f p = unsent right b f p

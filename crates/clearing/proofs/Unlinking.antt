@@ -21,12 +21,13 @@ use Rattle.protocol.specs.Freeing.{unlinked}
 use Rattle.protocol.specs.pages.Turn.{turnLinks}
 use Rattle.protocol.proofs.Calls.{applied-at, applied-frame}
 use Rattle.protocol.proofs.Numbering.{sideNumber-lt}
-use Rattle.record.specs.Layout.{seats, levels, entryAt, linkAt, noLink}
+use Rattle.record.specs.Layout.{seats, levels, linkAt, noLink}
 use Rattle.record.specs.Meaning.{linkByte, bytesOf}
 use Rattle.record.proofs.Places.{side-sideNumber}
 use Rattle.graph.specs.Side.{sideOfNumber}
+use Rattle.record.proofs.Values.{NamesSeat}
 use Rattle.record.proofs.Round.{read-link}
-use Rattle.record.proofs.Frame.{agree-links, bytes-same}
+use Rattle.record.proofs.Frame.{same-links, bytes-same}
 use Rattle.record.proofs.Update.{bytes-withLink}
 use Rattle.clearing.proofs.Leaving.{goes-bytes}
 use Rattle.clearing.specs.inner.Steps.{Linked, linkGoes, linkPlace, relinked}
@@ -86,37 +87,37 @@ old M x k d = relinked (linkPlace x k (sideNumber d)) M
 abbrev new : Meaning → (x k : ℕ) → Side → Meaning
 new M x k d = relinked (linkPlace x k (sideNumber d) + 1) M
 
-module _ (M : Meaning) (x k : ℕ) (d : Side) (h : x < seats) (g : k < levels) where
+module _ (M : Meaning) (c : Linked M) (x k : ℕ) (d : Side) (h : x < seats) (g : k < levels) where
   old-link : old M x k d .link x k d ≡ M .link x k d
   unfolding relinked
   old-link = rw (le-ltb (linkPlace x k (sideNumber d)) (linkPlace x k (sideNumber d)) (omega arith))
 
   old-byte : getD (bytesOf (old M x k d)) (linkAt x k d) 0 ≡ linkByte (M .link x k d)
-  old-byte = read-link (old M x k d) x k d h g ∙ ap linkByte old-link
+  old-byte = read-link (old M x k d) x h k d g (λ y q. c x k y d (sym old-link ∙ q)) ∙ ap linkByte old-link
 
   -- one byte is set
-  relink : (o : Option ℕ) → turnLinks clearing (M .seats) (M .link) x k d ≡ o
+  relink : (o : Option ℕ) → NamesSeat o → turnLinks clearing (M .seats) (M .link) x k d ≡ o
       → bytesOf (new M x k d) ≡ set (bytesOf (old M x k d)) (linkAt x k d) (linkByte o)
   unfolding relinked
-  relink o e =
-      bytes-same (agree-links refl refl (λ y j s p q _. by y j s q (eq-or-ne (linkPlace y j (sideNumber s)) n)))
-      ∙ bytes-withLink (old M x k d) x k d o h g
+  relink o n e =
+      bytes-same (same-links refl refl (λ y j s p q. by y j s q (eq-or-ne (linkPlace y j (sideNumber s)) i)))
+      ∙ bytes-withLink (old M x k d) x k d o h g n
     where
-      n : ℕ
-      n = linkPlace x k (sideNumber d)
+      i : ℕ
+      i = linkPlace x k (sideNumber d)
 
       here : new M x k d .link x k d ≡ applied x (put k d o) (old M x k d .link) x k d
-      here = rw (lt-ltb n (n + 1) (omega arith)) (e ∙ sym (applied-at x k d o (old M x k d .link)))
+      here = rw (lt-ltb i (i + 1) (omega arith)) (e ∙ sym (applied-at x k d o (old M x k d .link)))
 
-      by : (y j : ℕ) (s : Side) → j < levels → (linkPlace y j (sideNumber s) ≡ n) ⊎ (linkPlace y j (sideNumber s) ≡ n → ⊥)
+      by : (y j : ℕ) (s : Side) → j < levels → (linkPlace y j (sideNumber s) ≡ i) ⊎ (linkPlace y j (sideNumber s) ≡ i → ⊥)
           → new M x k d .link y j s ≡ applied x (put k d o) (old M x k d .link) y j s
       by y j s q (inl f) =
-          let i = place-once x k y j d s g q f in
-          let a = i .0 in
-          let b = i .1 in
-          let c = i .2 in
+          let p = place-once x k y j d s g q f in
+          let a = p .0 in
+          let b = p .1 in
+          let c = p .2 in
           rw (a, b, c) here
-      by y j s q (inr f) = rw (lt-more (linkPlace y j (sideNumber s)) n f) (sym (⊎-elim
+      by y j s q (inr f) = rw (lt-more (linkPlace y j (sideNumber s)) i f) (sym (⊎-elim
           (λ w. w)
           (λ w.
           let a = w .1 in
@@ -137,13 +138,13 @@ module _ (M : Meaning) (x k : ℕ) (d : Side) (h : x < seats) (g : k < levels) w
   to-none : (b : ℕ) → b ≡ getD (bytesOf (old M x k d)) (linkAt x k d) 0 → linkGoes (bytesOf (old M x k d)) x b ≡ true
       → bytesOf (new M x k d) ≡ set (bytesOf (old M x k d)) (linkAt x k d) noLink
   unfolding turnLinks
-  to-none b e t = relink none (turn-none (M .seats) x (M .link x k d) (sym (goes b e) ∙ t))
+  to-none b e t = relink none (λ y q. none-some refl q) (turn-none (M .seats) x (M .link x k d) (sym (goes b e) ∙ t))
 
-  to-same : Linked M → (b : ℕ) → b ≡ getD (bytesOf (old M x k d)) (linkAt x k d) 0 → linkGoes (bytesOf (old M x k d)) x b ≡ false
+  to-same : (b : ℕ) → b ≡ getD (bytesOf (old M x k d)) (linkAt x k d) 0 → linkGoes (bytesOf (old M x k d)) x b ≡ false
       → bytesOf (new M x k d) ≡ bytesOf (old M x k d)
   unfolding turnLinks
-  to-same c b e t =
-      relink (M .link x k d) (turn-kept (M .seats) x (M .link x k d) (λ y q. c x k y d q) (sym (goes b e) ∙ t))
+  to-same b e t =
+      relink (M .link x k d) (λ y q. c x k y d q) (turn-kept (M .seats) x (M .link x k d) (λ y q. c x k y d q) (sym (goes b e) ∙ t))
       ∙ ap (set (bytesOf (old M x k d)) (linkAt x k d)) (sym old-byte)
       ∙ set-getD (bytesOf (old M x k d)) (linkAt x k d) 0
 
@@ -153,20 +154,20 @@ module _ (M : Meaning) (c : Linked M) (x k : ℕ) (h : x < seats) (g : k < level
       → set l (linkAt x k d) noLink ≡ bytesOf (new M x k d)
   cut d e b f t =
       ap (λ (m : List ℕ). set m (linkAt x k d) noLink) e
-      ∙ sym (to-none M x k d h g b (f ∙ ap (λ (m : List ℕ). getD m (linkAt x k d) 0) e) (sym (ap (λ (m : List ℕ). linkGoes m x b) e) ∙ t))
+      ∙ sym (to-none M c x k d h g b (f ∙ ap (λ (m : List ℕ). getD m (linkAt x k d) 0) e) (sym (ap (λ (m : List ℕ). linkGoes m x b) e) ∙ t))
 
   uncut : (d : Side) → l ≡ bytesOf (old M x k d) → (b : ℕ) → b ≡ getD l (linkAt x k d) 0 → linkGoes l x b ≡ false
       → l ≡ bytesOf (new M x k d)
   uncut d e b f t =
-      e ∙ sym (to-same M x k d h g c b (f ∙ ap (λ (m : List ℕ). getD m (linkAt x k d) 0) e) (sym (ap (λ (m : List ℕ). linkGoes m x b) e) ∙ t))
+      e ∙ sym (to-same M c x k d h g b (f ∙ ap (λ (m : List ℕ). getD m (linkAt x k d) 0) e) (sym (ap (λ (m : List ℕ). linkGoes m x b) e) ∙ t))
 
-  pub cut-link : (d b : ℕ) → d < 2 → l ≡ bytesOf (relinked (linkPlace x k d) M) → b ≡ getD l (entryAt x + 10 + 2 * k + d) 0
-      → linkGoes l x b ≡ true → set l (entryAt x + 10 + 2 * k + d) noLink ≡ bytesOf (relinked (linkPlace x k d + 1) M)
+  pub cut-link : (d b : ℕ) → d < 2 → l ≡ bytesOf (relinked (linkPlace x k d) M) → b ≡ getD l (linkAt x k (sideOfNumber d)) 0
+      → linkGoes l x b ≡ true → set l (linkAt x k (sideOfNumber d)) noLink ≡ bytesOf (relinked (linkPlace x k d + 1) M)
   cut-link zero b q e f t = cut left e b f t
   cut-link (suc zero) b q e f t = cut right e b f t
   cut-link (suc (suc d)) b q e f t = absurd (omega arith)
 
-  pub uncut-link : (d b : ℕ) → d < 2 → l ≡ bytesOf (relinked (linkPlace x k d) M) → b ≡ getD l (entryAt x + 10 + 2 * k + d) 0
+  pub uncut-link : (d b : ℕ) → d < 2 → l ≡ bytesOf (relinked (linkPlace x k d) M) → b ≡ getD l (linkAt x k (sideOfNumber d)) 0
       → linkGoes l x b ≡ false → l ≡ bytesOf (relinked (linkPlace x k d + 1) M)
   uncut-link zero b q e f t = uncut left e b f t
   uncut-link (suc zero) b q e f t = uncut right e b f t
@@ -176,7 +177,7 @@ module _ (M : Meaning) (c : Linked M) (x k : ℕ) (h : x < seats) (g : k < level
 pub relinked-none : (M : Meaning) → bytesOf (relinked 0 M) ≡ bytesOf M
 unfolding relinked
 relinked-none M =
-    bytes-same (agree-links refl refl (λ y j s p q _. rw (le-ltb (linkPlace y j (sideNumber s)) 0 (omega arith))))
+    bytes-same (same-links refl refl (λ y j s p q. rw (le-ltb (linkPlace y j (sideNumber s)) 0 (omega arith))))
 
 -- links that are kept name seats as before
 pub relinked-linked : (M : Meaning) (n : ℕ) → Linked M → Linked (relinked n M)

@@ -1,6 +1,6 @@
 // Turn (document 01, "Calls"): into phase clearing, or out of it.
 ghost use mathlib.Core.Path.{_≡_};
-ghost use Prim.Native.Nat.{_+_, _*_, _-_, _<_};
+ghost use Prim.Native.Nat.{_+_, _-_, _<_};
 ghost use lib.ListN.{length, getD};
 ghost use Rattle.graph.specs.Vector.{width};
 ghost use Rattle.base.specs.Loops.{any};
@@ -49,7 +49,7 @@ fn has_leaver(rec: &[u8]) -> bool
 // The link of seat s at level k on side d as a number.
 fn link(rec: &[u8], s: usize, k: usize, d: usize) -> usize
     requires { ⌜ (length (now rec) ≡ size) × (s < seats) × (k < levels) × (d < 2) ⌝ }
-    ensures { λ r. ⌜ r ≡ getD (now (rec .entry)) (entryAt s + 10 + 2 * k + d) 0 ⌝ }
+    ensures { λ r. ⌜ r ≡ getD (now (rec .entry)) (linkAt s k (sideOfNumber d)) 0 ⌝ }
 {
     record::link(rec, s, k, d) as usize
 }

@@ -1,7 +1,7 @@
 -- A message taken and its rule done leave the bytes of the meaning after its delivery, in a sound record where it is pending.
 -- Assumes nothing.
 use Prim.Native.Nat.{ℕ, _<_}
-use mathlib.Core.Path.{_≡_, sym, ap, _∙_}
+use mathlib.Core.Path.{_≡_, refl, sym, ap, _∙_, subst}
 use mathlib.Core.Option.{Option, none, some}
 use mathlib.Core.Bool.{Bool, true, false, cond}
 use mathlib.Core.List.{List, [], _∷_, List·Memᴰ, List·Memᴰ·not-nil}
@@ -9,7 +9,7 @@ use lib.Dec.{T, eqb}
 use Rattle.memory.specs.Bits.{clearBit}
 use Rattle.graph.specs.Side.{Side, onSide}
 use Rattle.graph.specs.Vector.{width}
-use Rattle.base.proofs.Tests.{T-true, true-T, or-left}
+use Rattle.base.proofs.Tests.{T-true, true-T, or-left, some-inj, none-some}
 use Rattle.protocol.specs.Message.{Msg, meet, probe, pull, going, seek, found, none-found, Name, nameOf, named, among}
 use Rattle.protocol.specs.Numbering.{exists, place}
 use Rattle.protocol.specs.Rules.{Entry, Change, keep, set, Effect, sending, setting, meeting, effect}
@@ -27,6 +27,7 @@ use Rattle.protocol.proofs.Delivery.{accept-deliver}
 use Rattle.protocol.proofs.Local.{pending-exactly}
 use Rattle.record.specs.Layout.{seats, levels, pendingFrom}
 use Rattle.record.specs.Meaning.{meaning, bytesOf}
+use Rattle.record.proofs.Values.{NamesSeat}
 use Rattle.record.proofs.Form.{Form, exists-pending}
 use Rattle.record.proofs.Round.{bytes-meaning, meaning-bytes}
 use Rattle.record.proofs.Pending.{after-taken}
@@ -38,32 +39,39 @@ use Rattle.rules.specs.inner.Done.{changed, done, ruled}
 use Rattle.messages.proofs.Named.{two-below, three-below}
 use Rattle.messages.proofs.Placed.{placed}
 
--- a change at a level that exists
+-- a change at a level that exists to a link that names a seat
 AtLevel : Change → Type 0
 AtLevel keep = Unit {0}
-AtLevel (set k d o) = k < levels
+AtLevel (set k d o) = (k < levels) × NamesSeat o
 
-meeting-level : (num vec : ℕ → ℕ) (e : Entry) (t a l : ℕ) (d : Side) → l < levels → (o : Option ℕ)
+-- the link to a seat, and no link
+names-some : {a : ℕ} → a < seats → NamesSeat (some a)
+names-some h y e = subst (λ (z : ℕ). z < seats) (some-inj e) h
+
+names-none : NamesSeat none
+names-none y e = none-some refl e
+
+meeting-level : (num vec : ℕ → ℕ) (e : Entry) (t a l : ℕ) (d : Side) → a < seats → l < levels → (o : Option ℕ)
     → AtLevel (meeting width num vec e t a l d o .change)
 unfolding AtLevel meeting setting
-meeting-level num vec e t a l d h none = h
-meeting-level num vec e t a l d h (some o) = by (eqb o a) (onSide d (num o) (num a))
+meeting-level num vec e t a l d g h none = (h, names-some g)
+meeting-level num vec e t a l d g h (some o) = by (eqb o a) (onSide d (num o) (num a))
   where
     by : (b c : Bool) → AtLevel (cond b (sending []) (cond c (sending (meet o a l ∷ [])) (setting width num vec e t a l d)) .change)
     by true c = tt
     by false true = tt
-    by false false = h
+    by false false = (h, names-some g)
 
 -- the change of a rule is at the message's level
 rule-level : (M : Meaning) (m : Msg) → T (exists seats width m) → AtLevel (rule width M m .change)
 unfolding AtLevel rule effect exists
-rule-level M (meet t a l) x = meeting-level _ _ _ t a l _ (three-below t a l _ _ _ x .2) _
+rule-level M (meet t a l) x = let (_, g, h) = three-below t a l _ _ _ x in meeting-level _ _ _ t a l _ g h _
 rule-level M (probe t a l) x = tt
 rule-level M (pull t b l d) x = tt
 rule-level M (going t l d) x = tt
 rule-level M (seek t a l) x = tt
-rule-level M (found t a l) x = three-below t a l _ _ _ x .2
-rule-level M (none-found t l d) x = two-below t l _ _ x .1
+rule-level M (found t a l) x = let (_, g, h) = three-below t a l _ _ _ x in (h, names-some g)
+rule-level M (none-found t l d) x = (two-below t l _ _ x .1, names-none)
 
 -- `to` is a seat
 to-seat : (m : Msg) → T (exists seats width m) → nameOf m .to < seats
@@ -79,7 +87,7 @@ to-seat (none-found t l d) x = two-below t l _ _ x .0
 bytes-changed : (N : Meaning) (t : ℕ) (c : Change) → t < seats → AtLevel c → bytesOf (withChange N t c) ≡ changed t c (bytesOf N)
 unfolding AtLevel changed
 bytes-changed N t keep h g = bytes-keep N t
-bytes-changed N t (set k d o) h g = bytes-withLink N t k d o h g
+bytes-changed N t (set k d o) h g = bytes-withLink N t k d o h (g .0) (g .1)
 
 without-sound : {M : Meaning} → Sound seats width M → (m : Msg) → Sound seats width (withoutMessage M m)
 without-sound {M} h m = record {

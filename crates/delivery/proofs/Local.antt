@@ -1,6 +1,6 @@
 -- What an accepted delivery changes in the bytes (document 01, "Messages"): of all entries only that of `to`, and of the pending bits
 -- exactly those of the message taken and of the messages that its rule sends. Assumes nothing.
-use Prim.Native.Nat.{ℕ, _<_}
+use Prim.Native.Nat.{ℕ, _+_, _<_}
 use mathlib.Core.Path.{_≡_, refl, sym, ap, _∙_}
 use mathlib.Core.Logic.{⊎-elim}
 use mathlib.Core.Option.{Option, none, some}
@@ -26,11 +26,14 @@ use Rattle.protocol.proofs.Numbering.{sideNumber-lt}
 use Rattle.protocol.proofs.Accepted.{deliver-row}
 use Rattle.protocol.proofs.Local.{one-entry, pending-exactly}
 use Rattle.record.specs.Layout.{seats, levels, entrySize, entryAt, linkAt, pendingFrom, size}
-use Rattle.record.specs.Meaning.{meaning, bytesOf}
+use Rattle.record.specs.Cell.{Cell, phaseCell, stateCell, numberCell, vectorCell, linkCell, pendingCell, cellFrom, cellSize}
+use Rattle.record.specs.inner.Cell.{InRecord}
+use Rattle.record.specs.Meaning.{meaning, linkByte, valueOf, bytesOf}
 use Rattle.record.proofs.Places.{getD-bytesOf}
 use Rattle.record.proofs.Form.{Form, meaning-pending}
 use Rattle.record.proofs.Round.{bytes-meaning, read-message}
-use Rattle.record.proofs.Frame.{Agree, frame, Outside}
+use Rattle.record.proofs.Cells.{Outside}
+use Rattle.record.proofs.Frame.{frame}
 use Rattle.record.proofs.Sound.{sound-is}
 use Rattle.record.proofs.Refused.{Passed, rows-passed}
 use Rattle.record.proofs.Accepted.{call-later}
@@ -71,19 +74,17 @@ module _ (l : List ℕ) (b : AreBytes l) (m : Msg) (e : called l (deliver (nameO
   abbrev Other : ℕ → Type 0
   Other i = (i < pendingFrom) × Outside (entryAt (nameOf m .to)) entrySize i
 
-  agree : Agree after M Other
+  agree : (c : Cell) (j : ℕ) → InRecord c → j < cellSize c → Other (cellFrom c + j) → valueOf after c ≡ valueOf M c
   unfolding accept seatsAfter
-  agree = record {
-    phase = λ q. refl;
-    state = λ s h q. refl;
-    number = λ s j h g q. refl;
-    vector = λ s h q. refl;
-    link = λ s k d h g q. ap (λ (x : Entry). x .link k d) (one-entry seats width M m s (λ p. apart s k d g p (q .1)));
-    pending = λ i h q. absurd (omega (arith, q .0));
-  }
+  agree phaseCell j p h q = refl
+  agree (stateCell s) j p h q = refl
+  agree (numberCell s) j p h q = refl
+  agree (vectorCell s) j p h q = refl
+  agree (linkCell s k d) j p h q = ap (λ (x : Entry). linkByte (x .link k d)) (one-entry seats width M m s (λ e. apart s k d (p .1) e (q .1)))
     where
-      apart : (s k : ℕ) (d : Side) → k < levels → s ≡ nameOf m .to → Outside (entryAt (nameOf m .to)) entrySize (linkAt s k d) → ⊥
-      apart s k d g p q = let o = sideNumber-lt d in ⊎-elim (λ u. omega arith) (λ u. omega arith) q
+      apart : (s k : ℕ) (d : Side) → k < levels → s ≡ nameOf m .to → Outside (entryAt (nameOf m .to)) entrySize (linkAt s k d + j) → ⊥
+      apart s k d g e u = let o = sideNumber-lt d in ⊎-elim (λ v. omega arith) (λ v. omega arith) u
+  agree (pendingCell b) j p h q = absurd (omega (arith, q .0))
 
   -- no byte of the phase or of another entry changes
   pub other-bytes : (i : ℕ) → i < pendingFrom → Outside (entryAt (nameOf m .to)) entrySize i
@@ -92,7 +93,7 @@ module _ (l : List ℕ) (b : AreBytes l) (m : Msg) (e : called l (deliver (nameO
       let w : i < size = omega arith in
       ap (λ (x : List ℕ). getD x i 0) bytes-after
       ∙ getD-bytesOf after i w
-      ∙ frame agree i w (h, o)
+      ∙ frame Other agree i w (h, o)
       ∙ sym (getD-bytesOf M i w)
       ∙ ap (λ (x : List ℕ). getD x i 0) (bytes-meaning form)
 

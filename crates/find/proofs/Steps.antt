@@ -15,7 +15,7 @@ use Rattle.graph.specs.Graph.{Links}
 use Rattle.graph.specs.Vector.{width}
 use Rattle.graph.specs.Side.{sideNumber}
 use Rattle.protocol.specs.State.{seated}
-use Rattle.record.specs.Layout.{seats, numberFrom}
+use Rattle.record.specs.Layout.{seats, numberSize, numberFrom}
 use Rattle.record.specs.Meaning.{seatsIn, meaning}
 use Rattle.graph.specs.Side.{sideOfNumber}
 use Rattle.record.proofs.Places.{side-sideNumber}
@@ -117,7 +117,7 @@ module _ (l : List ℕ) (x : ℕ) (w : Walk) (h : Ready l x w) where
 -- the number of a lot fits, so a walk from it has room for its hops
 pub start-room : (l : List ℕ) (x s : ℕ) → AreBytes l → s < seats → x < 2 ^ 64 → gap (seatsIn l .number s) x < 2 ^ 64
 unfolding seatsIn
-start-room l x s b h p = rw (lt-ltb s seats h) (omega (arith, numberAt-lt l (numberFrom s) 8 b))
+start-room l x s b h p = rw (lt-ltb s seats h) (omega (arith, numberAt-lt l (numberFrom s) numberSize b))
 
 -- the walk from the top level at seat s, and what it leads to
 module _ (l : List ℕ) (x s : ℕ) (f : Fit l) (m : T (seated (seatsIn l) s)) where

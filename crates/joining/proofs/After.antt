@@ -17,7 +17,7 @@ use Rattle.protocol.specs.State.{isFree}
 use Rattle.protocol.specs.Calls.{join, leave}
 use Rattle.protocol.specs.Calls.{seatsAfter, linksAfter, sends, takes, accept}
 use Rattle.protocol.proofs.Accepted.{join-rows, leave-rows}
-use Rattle.record.specs.Layout.{seats, stateAt, numberFrom, vectorAt, pendingFrom}
+use Rattle.record.specs.Layout.{seats, numberSize, vectorSize, stateAt, numberFrom, vectorFrom, pendingFrom}
 use Rattle.record.specs.Meaning.{meaning, bytesOf}
 use Rattle.record.proofs.Round.{bytes-meaning}
 use Rattle.record.proofs.Pending.{after-nothing}
@@ -28,7 +28,7 @@ use Rattle.record.proofs.Accepted.{Accepted}
 
 -- the bytes with a staying lot on seat s
 abbrev pub withLotBytes : List ℕ → (s n v : ℕ) → List ℕ
-withLotBytes l s n v = set (putNumber (set l (stateAt s) 1) (numberFrom s) 8 n) (vectorAt s) v
+withLotBytes l s n v = putNumber (putNumber (set l (stateAt s) 1) (numberFrom s) numberSize n) (vectorFrom s) vectorSize v
 
 module _ {l : List ℕ} {s n v c : ℕ} (a : Accepted l (join s n v c)) where
   pub join-seat : s < seats

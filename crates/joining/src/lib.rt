@@ -15,7 +15,7 @@ ghost use Rattle.protocol.specs.State.{taken, seated, empty};
 ghost use Rattle.protocol.specs.Calls.{join as joining, leave as leaving, refusal};
 ghost use Rattle.protocol.specs.pages.Join.{nobodyToContact};
 ghost use Rattle.protocol.specs.Calls.{accept};
-ghost use Rattle.record.specs.Layout.{seats, levels, size, stateAt, numberFrom, vectorAt, pendingFrom};
+ghost use Rattle.record.specs.Layout.{seats, levels, numberSize, vectorSize, size, stateAt, numberFrom, vectorFrom, pendingFrom};
 ghost use Rattle.record.specs.Meaning.{seatsIn, meaning, bytesOf};
 ghost use Rattle.record.specs.Call.{callRefusal, called};
 ghost use Rattle.record.specs.Answer.{reply, replyOf};
@@ -138,7 +138,8 @@ fn leave_row(rec: &[u8], seat: usize) -> u8
 // Writes state, number and vector of seat s.
 fn write_lot(rec: &mut [u8], s: usize, number: u64, vector: u8)
     requires { ⌜ (length (now rec) ≡ size) × (s < seats) ⌝ }
-    ensures { λ _. ⌜ now (rec .exit) ≡ set (putNumber (set (now (rec .entry)) (stateAt s) 1) (numberFrom s) 8 number) (vectorAt s) vector ⌝ }
+    ensures { λ _. ⌜ now (rec .exit)
+        ≡ putNumber (putNumber (set (now (rec .entry)) (stateAt s) 1) (numberFrom s) numberSize number) (vectorFrom s) vectorSize vector ⌝ }
 {
     record::set_state(rec, s, STAYING);
     record::set_number(rec, s, number);

@@ -24,6 +24,15 @@ unfolding numberAt
 numberAt-lt l a zero b = omega arith
 numberAt-lt l a (suc n) b = omega (arith, numberAt-lt l a n b, b (a + n), pow-suc 256 n)
 
+-- a number of one byte, read and written
+pub numberAt-one : (l : List ℕ) (a : ℕ) → numberAt l a 1 ≡ getD l a 0
+unfolding numberAt
+numberAt-one l a = let e : a + 0 ≡ a = omega arith in rw e (omega arith)
+
+pub putNumber-one : (l : List ℕ) (a v : ℕ) → v < 256 → putNumber l a 1 v ≡ set l a v
+unfolding putNumber
+putNumber-one l a v h = let e : v % 256 ≡ v = omega arith in let f : a + 0 ≡ a = omega arith in rw (e, f)
+
 -- a number is of its own bytes alone
 pub numberAt-agrees : (l m : List ℕ) (a n : ℕ) → ((j : ℕ) → j < n → getD l (a + j) 0 ≡ getD m (a + j) 0) → numberAt l a n ≡ numberAt m a n
 unfolding numberAt

@@ -4,7 +4,7 @@ use mathlib.Core.Path.{_≡_, refl, sym, ap, _∙_}
 use mathlib.Core.Logic.{⊎-elim, inl, inr}
 use mathlib.Core.List.{List}
 use native.Mathlib.Omega.{arith}
-use native.Mathlib.Nat.{mul-suc, mul-comm, mul-assoc, add-mul, pow-suc, div-div-eq-div-mul}
+use native.Mathlib.Nat.{mul-suc, mul-comm, zero-div, mul-assoc, add-mul, pow-suc, div-div-eq-div-mul}
 use native.Mathlib.Numerals.{add-one}
 use lib.Bits.{bitOr, or-shifted}
 use lib.ListN.{length, getD, set}
@@ -17,6 +17,11 @@ use Rattle.memory.proofs.Bytes.{length-putNumber, getD-putNumber-other}
 pub digit-lt : (n v j : ℕ) → digit n v j < 256
 unfolding digit
 digit-lt n v j = omega arith
+
+-- the bytes of 0
+pub digit-zero : (n j : ℕ) → digit n 0 j ≡ 0
+unfolding digit
+digit-zero n j = rw zero-div
 
 -- the last byte, and those before it
 pub digit-last : (n v : ℕ) → digit (suc n) v n ≡ v % 256

@@ -123,7 +123,7 @@ module _ (N W : ℕ) where
   side-lt d p r = digits-lt (digits-lt p r) (sideNumber-lt d)
 
   in-place-lt : {m : Msg} → Exists N W m → place N W m < count N W
-  unfolding place count
+  unfolding place
   in-place-lt (in-meet p q r) = omega (arith, pair-lt p q r)
   in-place-lt (in-probe p q r) = omega (arith, pair-lt p q r)
   in-place-lt (in-pull {b = b} {d = d} p r) = omega (arith, pull-lt b d p r)
@@ -193,7 +193,7 @@ module _ (N W : ℕ) where
   Stands i m = Exists N W m × (place N W m ≡ i)
 
   stands : (i : ℕ) → i < count N W → Stands i (messageAt N W i)
-  unfolding messageAt count place
+  unfolding messageAt place
   stands =
       let after : ℕ → (ℕ → Msg → Type 0) → ℕ → Msg → Type 0 = λ n P i. P (n + i) in
       let P₂ = after (pairs N W (suc W)) Stands in

@@ -14,7 +14,6 @@ abbrev width : ℕ
 width = 8
 
 count-64-8 : count seats width ≡ 147712
-unfolding count
 count-64-8 = refl
 
 firsts : List Msg

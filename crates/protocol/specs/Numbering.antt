@@ -29,7 +29,7 @@ module _ (N W : ℕ) where
   exists (none-found t l d) = ltb t N && ltb l (suc W)
 
   -- the count of messages that exist
-  unfoldable pub count : ℕ
+  abbrev pub count : ℕ
   count = pairs (suc W) + (pairs W + (pulls + (sides + (pairs (suc W) + (pairs (suc W) + sides)))))
 
   -- the place of a message: how many are smaller by their five numbers in order

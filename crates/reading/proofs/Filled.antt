@@ -1,17 +1,23 @@
 -- A loop that fills a range of bytes, and a loop that fills the links of each entry of bytes that are 0: it ends at the bytes that open
 -- writes. Assumes nothing.
-use Prim.Native.Nat.{ℕ, _+_, _-_, _*_, _<_}
-use mathlib.Core.Path.{_≡_, refl, ap, _∙_}
-use mathlib.Core.Logic.{inl, inr, ⊎-elim}
+use Prim.Native.Nat.{ℕ, _+_, _-_, _*_, _/_, _%_, _<_}
+use mathlib.Core.Path.{_≡_, refl, sym, ap, _∙_}
+use mathlib.Core.Logic.{inl, inr, ⊎-elim, _≢_}
 use mathlib.Core.List.{List}
 use native.Mathlib.Omega.{arith}
 use lib.ListN.{length, getD, set, length-set, List·getD-eq-default}
 use lib.Seq.{getD-set-same, getD-set-other}
 use Rattle.base.proofs.Cases.{lt-or-ge, eq-or-ne}
-use Rattle.graph.specs.Side.{sideNumber}
+use Rattle.memory.specs.Bytes.{digit}
+use Rattle.memory.proofs.Digits.{digit-zero, digit-last}
+use Rattle.graph.specs.Side.{Side, sideNumber, sideOfNumber}
 use Rattle.protocol.proofs.Numbering.{sideNumber-lt}
-use Rattle.record.specs.Layout.{seats, levels, noLink, entryAt, size}
-use Rattle.record.specs.inner.Opened.{IsOpened}
+use Rattle.record.specs.Layout.{seats, levels, noLink, linkSize, linksSize, linksFrom, size}
+use Rattle.record.specs.Cell.{Cell, phaseCell, stateCell, numberCell, vectorCell, linkCell, pendingCell, cellFrom, cellSize}
+use Rattle.record.specs.inner.Cell.{InRecord, Holds}
+use Rattle.record.specs.inner.Opened.{openedValue, IsOpened}
+use Rattle.record.proofs.Places.{sideNumber-side}
+use Rattle.record.proofs.Cells.{cell-once}
 use Rattle.reading.specs.inner.Filled.{Filled}
 
 pub filled-none : (l : List ℕ) (a v : ℕ) → Filled l a 0 v l
@@ -42,41 +48,53 @@ all-zero l n {m} e f i = ⊎-elim
 -- the links of the seats below s are none, and every other byte is 0
 pub record NoLinks (s : ℕ) (l : List ℕ) : Type 0 where
   pub sized : length l ≡ size
-  pub links : (x j : ℕ) → x < s → j < 2 * levels → getD l (entryAt x + 10 + j) 0 ≡ noLink
-  pub others : (i : ℕ) → ((x j : ℕ) → x < s → j < 2 * levels → i ≡ entryAt x + 10 + j → ⊥) → getD l i 0 ≡ 0
+  pub links : (x j : ℕ) → x < s → j < linksSize → getD l (linksFrom x + j) 0 ≡ noLink
+  pub others : (i : ℕ) → ((x j : ℕ) → x < s → j < linksSize → i ≡ linksFrom x + j → ⊥) → getD l i 0 ≡ 0
 
 pub links-none : {l : List ℕ} → length l ≡ size → ((i : ℕ) → getD l i 0 ≡ 0) → NoLinks 0 l
 links-none e z = record { sized = e; links = λ x j h g. absurd (omega arith); others = λ i h. z i }
 
-pub links-more : {l m : List ℕ} (s : ℕ) → NoLinks s l → Filled l (entryAt s + 10) (2 * levels) noLink m → NoLinks (s + 1) m
+pub links-more : {l m : List ℕ} (s : ℕ) → NoLinks s l → Filled l (linksFrom s) (linksSize) noLink m → NoLinks (s + 1) m
 links-more {l} {m} s b f = record {
   sized = f .sized ∙ b .sized;
   links = λ x j h g. ⊎-elim
-      (λ p. f .beside (entryAt x + 10 + j) (inl (omega arith)) ∙ b .links x j p g)
-      (λ p. let e : x ≡ s = omega arith in ap (λ (y : ℕ). getD m (entryAt y + 10 + j) 0) e ∙ f .within j g)
+      (λ p. f .beside (linksFrom x + j) (inl (omega arith)) ∙ b .links x j p g)
+      (λ p. let e : x ≡ s = omega arith in ap (λ (y : ℕ). getD m (linksFrom y + j) 0) e ∙ f .within j g)
       (lt-or-ge x s);
   others = λ i h. ⊎-elim
       (λ p. f .beside i (inl p) ∙ b .others i (λ x j q g e. h x j (omega arith) g e))
       (λ p. ⊎-elim
-      (λ q. absurd (h s (i - (entryAt s + 10)) (omega arith) (omega arith) (omega arith)))
+      (λ q. absurd (h s (i - (linksFrom s)) (omega arith) (omega arith) (omega arith)))
       (λ q. f .beside i (inr q) ∙ b .others i (λ x j r g e. h x j (omega arith) g e))
-      (lt-or-ge i (entryAt s + 10 + 2 * levels)))
-      (lt-or-ge i (entryAt s + 10));
+      (lt-or-ge i (linksFrom s + linksSize)))
+      (lt-or-ge i (linksFrom s));
 }
 
--- a byte of an entry before its links is no link
-apart : (s i x j : ℕ) → i < 10 → j < 2 * levels → entryAt s + i ≡ entryAt x + 10 + j → ⊥
-apart s i x j h g e = ⊎-elim (λ p. omega arith) (λ p. omega arith) (lt-or-ge s x)
+-- a byte of another cell is no link
+not-link : (c : Cell) (j : ℕ) → InRecord c → j < cellSize c → ((x k : ℕ) (d : Side) → c ≢ linkCell x k d) → (x i : ℕ) → x < seats
+    → i < linksSize → cellFrom c + j ≡ linksFrom x + i → ⊥
+not-link c j p q ne x i h g e =
+    let s = sideNumber-side (i % 2) (omega arith) in
+    ne x (i / 2) (sideOfNumber (i % 2)) (cell-once c (linkCell x (i / 2) (sideOfNumber (i % 2))) j 0 p (h, omega arith) q (omega arith) (omega arith))
 
 pub links-all : {l : List ℕ} → NoLinks seats l → IsOpened l
-links-all {l} b = record {
-  sized = b .sized;
-  phase = b .others 0 (λ x j h g e. omega arith);
-  states = λ s h. b .others (entryAt s) (λ x j p g e. apart s 0 x j (omega arith) g (omega arith));
-  numbers = λ s i h q. b .others (entryAt s + 1 + i) (λ x j p g e. apart s (1 + i) x j (omega arith) g (omega arith));
-  vectors = λ s h. b .others (entryAt s + 9) (λ x j p g e. apart s 9 x j (omega arith) g e);
-  links = λ s k d h q.
-      let o = sideNumber-lt d in
-      ap (λ (i : ℕ). getD l i 0) (omega arith) ∙ b .links s (2 * k + sideNumber d) h (omega arith);
-  pending = λ i h. b .others (1793 + i) (λ x j p g e. omega arith);
-}
+links-all {l} b = record { sized = b .sized; cells = cells }
+  where
+    zeros : (c : Cell) → InRecord c → ((x k : ℕ) (d : Side) → c ≢ linkCell x k d) → Holds l c 0
+    zeros c p ne j q = b .others (cellFrom c + j) (λ x i h g e. not-link c j p q ne x i h g e) ∙ sym (digit-zero (cellSize c) j)
+
+    link : (s k : ℕ) (d : Side) → s < seats → k < levels → Holds l (linkCell s k d) noLink
+    link s k d p g j q =
+        let o = sideNumber-lt d in
+        let here : j ≡ 0 = omega arith in
+        ap (λ (i : ℕ). getD l i 0) (omega arith)
+        ∙ b .links s (2 * k + sideNumber d) p (omega arith)
+        ∙ sym (ap (digit linkSize noLink) here ∙ digit-last 0 noLink)
+
+    cells : (c : Cell) → InRecord c → Holds l c (openedValue c)
+    cells phaseCell p = zeros phaseCell p (λ x k d e. let z : _≡_ {A = ℕ} 0 1 = cc in omega arith)
+    cells (stateCell s) p = zeros (stateCell s) p (λ x k d e. let z : _≡_ {A = ℕ} 0 1 = cc in omega arith)
+    cells (numberCell s) p = zeros (numberCell s) p (λ x k d e. let z : _≡_ {A = ℕ} 0 1 = cc in omega arith)
+    cells (vectorCell s) p = zeros (vectorCell s) p (λ x k d e. let z : _≡_ {A = ℕ} 0 1 = cc in omega arith)
+    cells (linkCell s k d) p = link s k d (p .0) (p .1)
+    cells (pendingCell i) p = zeros (pendingCell i) p (λ x k d e. let z : _≡_ {A = ℕ} 0 1 = cc in omega arith)

@@ -1,5 +1,5 @@
 -- What the readings of an accepted record give, by its bytes; and a refused reading as its answer. Assumes nothing.
-use Prim.Native.Nat.{ℕ, zero, suc, _+_, _*_, _<_}
+use Prim.Native.Nat.{ℕ, zero, suc, _<_}
 use mathlib.Core.Path.{_≡_, refl, ap, _∙_}
 use mathlib.Core.Logic.{_≢_, inl, inr, ⊎-elim}
 use mathlib.Core.Bool.{Bool, true, false}
@@ -13,7 +13,7 @@ use Rattle.base.specs.Loops.{oneIf, count}
 use Rattle.protocol.specs.Message.{Name, named}
 use Rattle.protocol.specs.State.{seated}
 use Rattle.protocol.specs.State.{isPending}
-use Rattle.record.specs.Layout.{seats, levels, messages, phaseAt, entryAt, stateAt, numberFrom, vectorAt, linkAt, pendingFrom}
+use Rattle.record.specs.Layout.{seats, levels, numberSize, vectorSize, messages, phaseAt, stateAt, numberFrom, vectorFrom, linkAt, pendingFrom}
 use Rattle.record.specs.Meaning.{meaning, seatsIn, linkByte}
 use Rattle.graph.specs.Side.{sideOfNumber}
 use Rattle.record.specs.Reading.{recordRefusal, lotRefusal, linkRefusal, readLot, readLink, readMessage, readCounts}
@@ -41,7 +41,7 @@ module _ (l : List ℕ) where
   lot-refused s (suc n) e h = rw (← e, ne-eqb (suc n) 0 h)
 
   pub lot-values : (s : ℕ) → Held l s
-      → lot.Seated (getD l (stateAt s) 0) (numberAt l (numberFrom s) 8) (getD l (vectorAt s) 0) ≡ lotAnswered (readLot l s)
+      → lot.Seated (getD l (stateAt s) 0) (numberAt l (numberFrom s) numberSize) (numberAt l (vectorFrom s) vectorSize) ≡ lotAnswered (readLot l s)
   unfolding lotAnswered lotOf
   lot-values s a =
       let h = a .seat in
@@ -56,15 +56,14 @@ module _ (l : List ℕ) where
   link-refused s k d (suc n) e h = rw (← e, ne-eqb (suc n) 0 h)
 
   pub link-values : (s k d : ℕ) → Lot l s → k < levels → d < 2
-      → link.Link (getD l (entryAt s + 10 + 2 * k + d) 0) ≡ linkAnswered (readLink l s k d)
+      → link.Link (getD l (linkAt s k (sideOfNumber d)) 0) ≡ linkAnswered (readLink l s k d)
   unfolding linkAnswered linkOf
   link-values s k d a g q =
       let h = a .seat in
       let side = sideOfNumber d in
       let read = link-read l (a .accepted .sized) (a .accepted .fine) s h (rw (meaning-seats l) (a .lot)) k side g in
       let byte = linkByte-linkOf (getD l (linkAt s k side) 0) (⊎-elim (λ e. inl e) (λ f. inr (f .0)) (fits (a .accepted) .links s k side h g)) in
-      let value : linkByte (meaning l .link s k side) ≡ getD l (entryAt s + 10 + 2 * k + d) 0
-      = ap linkByte (meaning-link l s k side h g) ∙ byte ∙ ap (λ (n : ℕ). getD l (entryAt s + 10 + 2 * k + n) 0) (sideNumber-side d q) in
+      let value : linkByte (meaning l .link s k side) ≡ getD l (linkAt s k side) 0 = ap linkByte (meaning-link l s k side h g) ∙ byte in
       rw (← value, rw (sideNumber-side d q) at read)
 
   -- a message

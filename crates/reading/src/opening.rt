@@ -7,7 +7,7 @@ ghost use Rattle.record.specs.inner.Opened.{IsOpened};
 ghost use Rattle.reading.specs.inner.Filled.{Filled};
 use record::ENTRIES;
 use record::ENTRY;
-use record::LEVELS;
+use record::LINKS;
 use record::LINKS_AT;
 use record::NONE;
 use record::SEATS;
@@ -28,6 +28,6 @@ pub fn no_links(rec: &mut [u8])
     ensures { λ _. ⌜ IsOpened (now (rec .exit)) ⌝ }
 {
     for s in 0..SEATS {
-        fill(rec, ENTRIES + ENTRY * s + LINKS_AT, 2 * LEVELS, NONE);
+        fill(rec, ENTRIES + ENTRY * s + LINKS_AT, LINKS, NONE);
     }
 }

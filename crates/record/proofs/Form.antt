@@ -1,15 +1,19 @@
--- The form that the bytes of a meaning have, and what bytes mean, field by field: at seats, levels and messages that exist, and at others.
--- Assumes nothing.
-use Prim.Native.Nat.{ℕ, _≤_, _<_}
-use mathlib.Core.Path.{_≡_, refl, ap, _∙_}
-use mathlib.Core.Logic.{_⊎_}
+-- The form that the bytes of a meaning have, cell by cell, and what bytes mean, part by part: at seats, levels and messages that exist, and
+-- at others. Assumes nothing.
+use Prim.Native.Nat.{ℕ, _+_, _*_, _^_, _≤_, _<_}
+use mathlib.Core.Path.{_≡_, refl, sym, ap, _∙_}
+use mathlib.Core.Logic.{_⊎_, ⊎-elim}
 use mathlib.Core.Option.{none}
 use mathlib.Core.List.{List}
+use native.Mathlib.Omega.{arith}
 use lib.Dec.{T, ltb}
 use lib.ListN.{length, getD}
 use borrow.Author.Tests.{lt-ltb, le-ltb}
 use Rattle.memory.specs.Bytes.{AreBytes, numberAt}
 use Rattle.memory.specs.Bits.{bitSet}
+use Rattle.memory.proofs.Bytes.{numberAt-one}
+use Rattle.memory.proofs.Packed.{packed-same}
+use Rattle.memory.proofs.Bitmap.{byte-packed}
 use Rattle.base.proofs.Cases.{and-false}
 use Rattle.graph.specs.Side.{Side}
 use Rattle.graph.specs.Vector.{width}
@@ -17,16 +21,37 @@ use Rattle.base.proofs.Tests.{T-true, and-fst}
 use Rattle.protocol.specs.Message.{Msg}
 use Rattle.protocol.specs.Numbering.{exists, place, messageAt}
 use Rattle.protocol.specs.Rules.{free}
-use Rattle.record.specs.Layout.{seats, levels, noLink, messages, phaseAt, stateAt, numberFrom, vectorAt, linkAt, pendingFrom, size}
-use Rattle.record.specs.Meaning.{phaseOf, stateOf, linkOf, seatsIn, meaning}
+use Rattle.protocol.specs.Sound.{numberBits}
+use Rattle.record.specs.Layout.{seats, levels, byteBits, numberSize, vectorSize, noLink, messages, phaseAt, stateAt, numberFrom, vectorFrom, linkAt}
+use Rattle.record.specs.Layout.{pendingFrom, size}
+use Rattle.record.specs.Cell.{Cell, phaseCell, stateCell, numberCell, vectorCell, linkCell, pendingCell, cellSize}
+use Rattle.record.specs.inner.Cell.{InRecord, cellIn}
+use Rattle.record.specs.Meaning.{phaseOf, stateOf, linkOf, seatsIn, meaning, phaseByte, stateByte, linkByte, valueOf}
 use Rattle.record.proofs.Places.{exists-at, place-at}
+use Rattle.record.proofs.Values.{phaseByte-phaseOf, stateByte-stateOf, linkByte-linkOf}
+
+-- the numbers that a cell can hold
+abbrev pub CellFits : Cell → (v : ℕ) → Type 0
+CellFits phaseCell v = v < 2
+CellFits (stateCell s) v = v < 3
+CellFits (numberCell s) v = v < 2 ^ numberBits
+CellFits (vectorCell s) v = v < 2 ^ width
+CellFits (linkCell s k d) v = (v ≡ noLink) ⊎ (v < seats)
+CellFits (pendingCell b) v = v < 2 ^ byteBits
+
+-- its bytes have room for them
+pub fits-lt : (c : Cell) (v : ℕ) → CellFits c v → v < 256 ^ cellSize c
+fits-lt phaseCell v h = omega arith
+fits-lt (stateCell s) v h = omega arith
+fits-lt (numberCell s) v h = h
+fits-lt (vectorCell s) v h = h
+fits-lt (linkCell s k d) v h = ⊎-elim (λ e. omega arith) (λ e. omega arith) h
+fits-lt (pendingCell b) v h = h
 
 pub record Form (l : List ℕ) : Type 0 where
   pub sized : length l ≡ size
   pub bytes : AreBytes l
-  pub phase : getD l phaseAt 0 < 2
-  pub states : (s : ℕ) → s < seats → getD l (stateAt s) 0 < 3
-  pub links : (s k : ℕ) (d : Side) → s < seats → k < levels → (getD l (linkAt s k d) 0 ≡ noLink) ⊎ (getD l (linkAt s k d) 0 < seats)
+  pub cells : (c : Cell) → InRecord c → CellFits c (cellIn l c)
 
 module _ (l : List ℕ) where
   pub meaning-seats : meaning l .seats ≡ seatsIn l
@@ -42,11 +67,11 @@ module _ (l : List ℕ) where
   unfolding meaning seatsIn
   meaning-state s h = rw (lt-ltb s seats h)
 
-  pub meaning-number : (s : ℕ) → s < seats → meaning l .seats .number s ≡ numberAt l (numberFrom s) 8
+  pub meaning-number : (s : ℕ) → s < seats → meaning l .seats .number s ≡ numberAt l (numberFrom s) numberSize
   unfolding meaning seatsIn
   meaning-number s h = rw (lt-ltb s seats h)
 
-  pub meaning-vector : (s : ℕ) → s < seats → meaning l .seats .vector s ≡ getD l (vectorAt s) 0
+  pub meaning-vector : (s : ℕ) → s < seats → meaning l .seats .vector s ≡ numberAt l (vectorFrom s) vectorSize
   unfolding meaning seatsIn
   meaning-vector s h = rw (lt-ltb s seats h)
 
@@ -86,3 +111,21 @@ module _ (l : List ℕ) where
   pub exists-pending : (m : Msg) → T (meaning l .pending m) → T (exists seats width m)
   unfolding meaning
   exists-pending m t = and-fst (exists seats width m) (bitSet l pendingFrom (place seats width m)) t
+
+-- a cell's value in the meaning of bytes of the form is what it holds
+pub value-meaning : {l : List ℕ} → Form l → (c : Cell) → InRecord c → valueOf (meaning l) c ≡ cellIn l c
+value-meaning {l} f phaseCell p =
+    ap phaseByte (meaning-phase l ∙ ap phaseOf (sym (numberAt-one l phaseAt))) ∙ phaseByte-phaseOf (cellIn l phaseCell) (f .cells phaseCell p)
+value-meaning {l} f (stateCell s) p =
+    ap stateByte (meaning-state l s p ∙ ap stateOf (sym (numberAt-one l (stateAt s))))
+    ∙ stateByte-stateOf (cellIn l (stateCell s)) (f .cells (stateCell s) p)
+value-meaning {l} f (numberCell s) p = meaning-number l s p
+value-meaning {l} f (vectorCell s) p = meaning-vector l s p
+value-meaning {l} f (linkCell s k d) p =
+    ap linkByte (meaning-link l s k d (p .0) (p .1) ∙ ap linkOf (sym (numberAt-one l (linkAt s k d))))
+    ∙ linkByte-linkOf (cellIn l (linkCell s k d)) (f .cells (linkCell s k d) p)
+value-meaning {l} f (pendingCell b) p =
+    packed-same byteBits (λ j. meaning l .pending (messageAt seats width (b * byteBits + j))) (λ j. bitSet l pendingFrom (b * byteBits + j))
+    (λ j q. meaning-bit l (b * byteBits + j) (omega arith))
+    ∙ sym (byte-packed l pendingFrom b (f .bytes))
+    ∙ sym (numberAt-one l (pendingFrom + b))

@@ -1,5 +1,6 @@
 -- Why bytes and meaning agree.
 pub mod Places
+pub mod Cells
 pub mod Values
 pub mod Form
 pub mod Links
@@ -8,7 +9,6 @@ pub mod Frame
 pub mod Pending
 pub mod Update
 pub mod Sent
-pub mod Part
 pub mod Entry
 pub mod Clauses
 pub mod Sound

@@ -1,16 +1,14 @@
 -- Links of the meaning, from their bytes and the numbers of sides. Assumes nothing.
-use Prim.Native.Nat.{ℕ, zero, suc, _+_, _-_, _*_, _≤_, _<_}
+use Prim.Native.Nat.{ℕ, zero, suc, _-_, _≤_, _<_}
 use mathlib.Core.Path.{_≡_, refl, sym, ap, _∙_}
 use mathlib.Core.Option.{none, some}
 use mathlib.Core.List.{List}
 use native.Mathlib.Omega.{arith}
 use lib.ListN.{getD}
 use borrow.Author.Tests.{lt-ltb, le-ltb}
-use Rattle.graph.specs.Side.{opp}
-use Rattle.record.specs.Layout.{seats, levels, entryAt}
+use Rattle.graph.specs.Side.{Side, opp, sideOfNumber}
+use Rattle.record.specs.Layout.{seats, levels, linkAt}
 use Rattle.record.specs.Meaning.{linkOf, meaning}
-use Rattle.graph.specs.Side.{sideOfNumber}
-use Rattle.record.proofs.Places.{sideNumber-side}
 use Rattle.record.proofs.Form.{meaning-link}
 
 -- a link's byte
@@ -29,7 +27,5 @@ side-opp (suc zero) h = refl
 side-opp (suc (suc d)) h = absurd (omega arith)
 
 -- y is the byte of a link
-pub link-read : (l : List ℕ) (s k d y : ℕ) → s < seats → k < levels → d < 2 → y ≡ getD l (entryAt s + 10 + 2 * k + d) 0
-    → meaning l .link s k (sideOfNumber d) ≡ linkOf y
-link-read l s k d y h g b e =
-    meaning-link l s k (sideOfNumber d) h g ∙ ap (λ (n : ℕ). linkOf (getD l (entryAt s + 10 + 2 * k + n) 0)) (sideNumber-side d b) ∙ ap linkOf (sym e)
+pub link-read : (l : List ℕ) (s k : ℕ) (d : Side) (y : ℕ) → s < seats → k < levels → y ≡ getD l (linkAt s k d) 0 → meaning l .link s k d ≡ linkOf y
+link-read l s k d y h g e = meaning-link l s k d h g ∙ ap linkOf (sym e)

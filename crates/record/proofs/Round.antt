@@ -1,5 +1,5 @@
 -- Bytes and meaning undo each other: bytes of the form are those of their meaning, and a sound meaning is that of its bytes. Assumes nothing.
-use Prim.Native.Nat.{ℕ, _+_, _*_, _/_, _%_, _^_, _≤_, _<_}
+use Prim.Native.Nat.{ℕ, _+_, _*_, _/_, _^_, _≤_, _<_}
 use mathlib.Core.Path.{_≡_, refl, sym, ap, _∙_}
 use mathlib.Core.Logic.{_⊎_, ⊎-elim}
 use mathlib.Core.Option.{Option, none, some}
@@ -9,12 +9,12 @@ use native.Mathlib.Omega.{arith}
 use lib.Dec.{T}
 use lib.ListN.{getD, List·getD-eq-default}
 use Rattle.memory.specs.Bytes.{AreBytes, numberAt, digit}
-use Rattle.memory.specs.Bits.{hasBit, bitSet}
+use Rattle.memory.specs.Bits.{bitSet}
 use Rattle.base.proofs.Cases.{lt-or-ge}
-use Rattle.base.proofs.Tabulate.{tabulate-is}
-use Rattle.memory.proofs.Digits.{digit-lt, numberAt-digits, digit-numberAt}
-use Rattle.memory.proofs.Packed.{packed-lt, packed-bits, packed-same}
-use Rattle.memory.proofs.Bitmap.{byte-packed}
+use Rattle.memory.proofs.Bytes.{numberAt-one}
+use Rattle.memory.proofs.Digits.{digit-lt, digit-numberAt}
+use Rattle.memory.proofs.Packed.{packed-lt}
+use Rattle.memory.proofs.Bitmap.{bitSet-packed}
 use Rattle.graph.specs.Side.{Side}
 use Rattle.graph.specs.Vector.{width}
 use Rattle.base.proofs.Tests.{dec-T, not-T-false}
@@ -23,40 +23,26 @@ use Rattle.protocol.specs.Numbering.{exists, place, messageAt}
 use Rattle.protocol.specs.Rules.{SeatState, free, staying, leaving}
 use Rattle.protocol.specs.State.{Meaning, isFree}
 use Rattle.protocol.specs.Sound.{Sound, numberBits}
-use Rattle.protocol.proofs.Numbering.{sideNumber-lt, messageAt-place}
+use Rattle.protocol.proofs.Numbering.{messageAt-place}
 use Rattle.protocol.proofs.SoundFacts.{two-level, link-linked, pending-exists, seated-below}
-use Rattle.record.specs.Layout.{seats, levels, noLink, messages, phaseAt, stateAt, numberFrom, vectorAt, linkAt}
-use Rattle.record.specs.Layout.{pendingFrom, pendingSize, size}
+use Rattle.record.specs.Layout.{seats, levels, byteBits, numberSize, vectorSize, messages, phaseAt, stateAt, numberFrom, vectorFrom, linkAt}
+use Rattle.record.specs.Layout.{pendingFrom, size}
+use Rattle.record.specs.Cell.{Cell, phaseCell, stateCell, numberCell, vectorCell, linkCell, pendingCell, cellFrom, cellSize}
+use Rattle.record.specs.inner.Cell.{InRecord, cellIn}
 use Rattle.record.specs.Meaning.{phaseOf, stateOf, linkOf, seatsIn, meaning}
-use Rattle.record.specs.Meaning.{phaseByte, stateByte, linkByte, pendingByte, byteOf, bytesOf}
-use Rattle.record.proofs.Values.{phaseByte-phaseOf, phaseOf-phaseByte, stateByte-stateOf, stateOf-stateByte}
-use Rattle.record.proofs.Values.{linkByte-linkOf, linkOf-linkByte}
-use Rattle.record.proofs.Values.{phaseByte-lt, stateByte-lt, linkByte-lt, isFree-free}
-use Rattle.record.proofs.Places.{place-within, by-place, at-phase, at-state, at-number, at-vector, at-link, at-pending}
-use Rattle.record.proofs.Places.{length-bytesOf, getD-bytesOf}
-use Rattle.record.proofs.Form.{Form, meaning-phase, meaning-state, meaning-number, meaning-vector, meaning-link}
-use Rattle.record.proofs.Form.{meaning-pending, meaning-bit}
-use Rattle.record.proofs.Form.{no-seat-state, no-seat-number, no-seat-vector, no-seat-link, no-level-link, exists-pending}
+use Rattle.record.specs.Meaning.{phaseByte, stateByte, linkByte, valueOf, byteOf, bytesOf}
+use Rattle.record.proofs.Values.{NamesSeat, phaseOf-phaseByte, stateOf-stateByte, linkOf-linkByte}
+use Rattle.record.proofs.Values.{phaseByte-lt, stateByte-lt, linkByte-lt, linkByte-byte, isFree-free}
+use Rattle.record.proofs.Places.{place-within, length-bytesOf, getD-bytesOf}
+use Rattle.record.proofs.Cells.{by-cell, byte-cell, cell-read}
+use Rattle.record.proofs.Frame.{bytes-are}
+use Rattle.record.proofs.Form.{CellFits, fits-lt, Form, value-meaning, meaning-state, meaning-number, meaning-vector, meaning-link}
+use Rattle.record.proofs.Form.{meaning-pending, no-seat-state, no-seat-number, no-seat-vector, no-seat-link, no-level-link, exists-pending}
 
 -- the bytes of the meaning of bytes are those bytes
 pub bytes-meaning : {l : List ℕ} → Form l → bytesOf (meaning l) ≡ l
-unfolding bytesOf pendingByte
-bytes-meaning {l} f = tabulate-is size (byteOf (meaning l)) l (f .sized) (by-place (λ i. byteOf M i ≡ getD l i 0)
-    (at-phase M ∙ ap phaseByte (meaning-phase l) ∙ phaseByte-phaseOf (getD l phaseAt 0) (f .phase))
-    (λ s p. at-state M s p ∙ ap stateByte (meaning-state l s p) ∙ stateByte-stateOf (getD l (stateAt s) 0) (f .states s p))
-    (λ s j p q. at-number M s j p q ∙ ap (λ (n : ℕ). digit 8 n j) (meaning-number l s p) ∙ digit-numberAt l (numberFrom s) 8 j (f .bytes) q)
-    (λ s p. at-vector M s p ∙ meaning-vector l s p)
-    (λ s k d p q. at-link M s k d p q ∙ ap linkByte (meaning-link l s k d p q) ∙ linkByte-linkOf (getD l (linkAt s k d) 0) (f .links s k d p q))
-    (λ b p. at-pending M b p ∙ bits b p))
-  where
-    M : Meaning
-    M = meaning l
-
-    bits : (b : ℕ) → b < pendingSize → pendingByte (meaning l) b ≡ getD l (pendingFrom + b) 0
-    bits b p =
-        packed-same 8 (λ j. meaning l .pending (messageAt seats width (b * 8 + j))) (λ j. bitSet l pendingFrom (b * 8 + j))
-        (λ j q. meaning-bit l (b * 8 + j) (omega arith))
-        ∙ sym (byte-packed l pendingFrom b (f .bytes))
+bytes-meaning {l} f = bytes-are (meaning l) (f .sized) (λ c p j q.
+    sym (digit-numberAt l (cellFrom c) (cellSize c) j (f .bytes) q) ∙ ap (λ (v : ℕ). digit (cellSize c) v j) (sym (value-meaning f c p)))
 
 -- equal meaning is equal bytes
 pub same-bytes : {l m : List ℕ} → Form l → Form m → meaning l ≡ meaning m → l ≡ m
@@ -65,46 +51,38 @@ same-bytes f g e = sym (bytes-meaning f) ∙ ap bytesOf e ∙ bytes-meaning g
 -- the bytes of any meaning, read
 module _ (M : Meaning) where
   pub read-phase : getD (bytesOf M) phaseAt 0 ≡ phaseByte (M .seats .phase)
-  read-phase = getD-bytesOf M phaseAt (omega arith) ∙ at-phase M
+  read-phase = sym (numberAt-one (bytesOf M) phaseAt) ∙ cell-read M phaseCell tt (omega (arith, phaseByte-lt (M .seats .phase)))
 
-  pub read-state : (s : ℕ) → s < seats → getD (bytesOf M) (stateAt s) 0 ≡ stateByte (M .seats .state s)
-  read-state s h = getD-bytesOf M (stateAt s) (omega arith) ∙ at-state M s h
+  module _ (s : ℕ) (h : s < seats) where
+    pub read-state : getD (bytesOf M) (stateAt s) 0 ≡ stateByte (M .seats .state s)
+    read-state = sym (numberAt-one (bytesOf M) (stateAt s)) ∙ cell-read M (stateCell s) h (omega (arith, stateByte-lt (M .seats .state s)))
 
-  pub read-number : (s : ℕ) → s < seats → M .seats .number s < 2 ^ numberBits → numberAt (bytesOf M) (numberFrom s) 8 ≡ M .seats .number s
-  read-number s h b =
-      numberAt-digits (bytesOf M) (numberFrom s) 8 (M .seats .number s) b
-      (λ j q. getD-bytesOf M (numberFrom s + j) (omega arith) ∙ at-number M s j h q)
+    pub read-number : M .seats .number s < 2 ^ numberBits → numberAt (bytesOf M) (numberFrom s) numberSize ≡ M .seats .number s
+    read-number b = cell-read M (numberCell s) h b
 
-  pub read-vector : (s : ℕ) → s < seats → getD (bytesOf M) (vectorAt s) 0 ≡ M .seats .vector s
-  read-vector s h = getD-bytesOf M (vectorAt s) (omega arith) ∙ at-vector M s h
+    pub read-vector : M .seats .vector s < 2 ^ width → numberAt (bytesOf M) (vectorFrom s) vectorSize ≡ M .seats .vector s
+    read-vector b = cell-read M (vectorCell s) h b
 
-  pub read-link : (s k : ℕ) (d : Side) → s < seats → k < levels → getD (bytesOf M) (linkAt s k d) 0 ≡ linkByte (M .link s k d)
-  read-link s k d h g = getD-bytesOf M (linkAt s k d) (omega (arith, sideNumber-lt d)) ∙ at-link M s k d h g
+    pub read-link : (k : ℕ) (d : Side) → k < levels → NamesSeat (M .link s k d) → getD (bytesOf M) (linkAt s k d) 0 ≡ linkByte (M .link s k d)
+    read-link k d g n =
+        sym (numberAt-one (bytesOf M) (linkAt s k d)) ∙ cell-read M (linkCell s k d) (h, g) (linkByte-byte (M .link s k d) n)
+
+  pub read-pending : (b : ℕ) → InRecord (pendingCell b) → getD (bytesOf M) (pendingFrom + b) 0 ≡ valueOf M (pendingCell b)
+  read-pending b h =
+      sym (numberAt-one (bytesOf M) (pendingFrom + b))
+      ∙ cell-read M (pendingCell b) h (packed-lt byteBits (λ j. M .pending (messageAt seats width (b * byteBits + j))))
 
   pub read-bit : (i : ℕ) → i < messages → bitSet (bytesOf M) pendingFrom i ≡ M .pending (messageAt seats width i)
-  unfolding pendingByte
-  read-bit i h =
-      let e : i / 8 * 8 + i % 8 ≡ i = omega arith in
-      ap (λ (x : ℕ). hasBit x (i % 8)) (getD-bytesOf M (pendingFrom + i / 8) (omega arith) ∙ at-pending M (i / 8) (omega arith))
-      ∙ packed-bits 8 (λ j. M .pending (messageAt seats width (i / 8 * 8 + j))) (i % 8) (omega arith)
-      ∙ ap (λ (n : ℕ). M .pending (messageAt seats width n)) e
+  read-bit i h = bitSet-packed (bytesOf M) pendingFrom i (λ n. M .pending (messageAt seats width n)) (read-pending (i / byteBits) (omega arith))
 
   pub read-message : (m : Msg) → T (exists seats width m) → bitSet (bytesOf M) pendingFrom (place seats width m) ≡ M .pending m
-  read-message m x =
-      read-bit (place seats width m) (place-within m x) ∙ ap (M .pending) (messageAt-place seats width m x)
+  read-message m x = read-bit (place seats width m) (place-within m x) ∙ ap (M .pending) (messageAt-place seats width m x)
 
-  -- they are bytes if vectors and links are
-  pub bytes-bytes : ((s : ℕ) → s < seats → M .seats .vector s < 256)
-      → ((s k : ℕ) (d : Side) → s < seats → k < levels → linkByte (M .link s k d) < 256) → AreBytes (bytesOf M)
-  unfolding pendingByte
-  bytes-bytes v k i = ⊎-elim
-      (λ p. rw (getD-bytesOf M i p) (by-place (λ i. byteOf M i < 256)
-      (rw (at-phase M) (omega (arith, phaseByte-lt (M .seats .phase))))
-      (λ s p. rw (at-state M s p) (omega (arith, stateByte-lt (M .seats .state s))))
-      (λ s j p q. rw (at-number M s j p q) (digit-lt 8 (M .seats .number s) j))
-      (λ s p. rw (at-vector M s p) (v s p))
-      (λ s j d p q. rw (at-link M s j d p q) (k s j d p q))
-      (λ b p. rw (at-pending M b p) (packed-lt 8 (λ j. M .pending (messageAt seats width (b * 8 + j))))) i p))
+  -- they are bytes
+  pub bytes-bytes : AreBytes (bytesOf M)
+  bytes-bytes i = ⊎-elim
+      (λ p. rw (getD-bytesOf M i p)
+      (by-cell (λ i. byteOf M i < 256) (λ c j p q. rw (byte-cell M c p j q) (digit-lt (cellSize c) (valueOf M c) j)) i p))
       (λ p. rw (List·getD-eq-default (bytesOf M) 0 {n = i} (rw (length-bytesOf M) p)) (omega arith))
       (lt-or-ge i size)
 
@@ -121,8 +99,17 @@ module _ {M : Meaning} (h : Sound seats width M) where
   pub link-seat : (x k y : ℕ) (d : Side) → M .link x k d ≡ some y → y < seats
   link-seat x k y d e = seated-below h y (link-linked h e .0 .two)
 
-  link-fits : (x k : ℕ) (d : Side) → (linkByte (M .link x k d) ≡ noLink) ⊎ (linkByte (M .link x k d) < seats)
-  link-fits x k d = linkByte-lt (M .link x k d) (λ y e. link-seat x k y d e)
+  -- the cells hold numbers that fit them
+  value-fits : (c : Cell) → InRecord c → CellFits c (valueOf M c)
+  value-fits phaseCell p = phaseByte-lt (M .seats .phase)
+  value-fits (stateCell s) p = stateByte-lt (M .seats .state s)
+  value-fits (numberCell s) p = h .numbers s
+  value-fits (vectorCell s) p = h .vectors s
+  value-fits (linkCell s k d) p = linkByte-lt (M .link s k d) (λ y e. link-seat s k y d e)
+  value-fits (pendingCell b) p = packed-lt byteBits (λ j. M .pending (messageAt seats width (b * byteBits + j)))
+
+  pub value-read : (c : Cell) → InRecord c → cellIn (bytesOf M) c ≡ valueOf M c
+  value-read c p = cell-read M c p (fits-lt c (valueOf M c) (value-fits c p))
 
   pub no-level : (x k : ℕ) (d : Side) → levels ≤ k → M .link x k d ≡ none
   no-level x k d p = by (M .link x k d) refl
@@ -145,7 +132,7 @@ module _ {M : Meaning} (h : Sound seats width M) where
 
   same-vector : (x : ℕ) → meaning (bytesOf M) .seats .vector x ≡ M .seats .vector x
   same-vector x = ⊎-elim
-      (λ p. meaning-vector (bytesOf M) x p ∙ read-vector M x p)
+      (λ p. meaning-vector (bytesOf M) x p ∙ read-vector M x p (h .vectors x))
       (λ p. no-seat-vector (bytesOf M) x p ∙ sym (h .unused x (out-free x p) .1))
       (lt-or-ge x seats)
 
@@ -153,7 +140,7 @@ module _ {M : Meaning} (h : Sound seats width M) where
   same-link x k d = ⊎-elim
       (λ p. ⊎-elim
       (λ q. meaning-link (bytesOf M) x k d p q
-      ∙ ap linkOf (read-link M x k d p q)
+      ∙ ap linkOf (read-link M x p k d q (λ y e. link-seat x k y d e))
       ∙ linkOf-linkByte (M .link x k d) (λ y e. link-seat x k y d e))
       (λ q. no-level-link (bytesOf M) x k d q ∙ sym (no-level x k d q))
       (lt-or-ge k levels))
@@ -183,8 +170,6 @@ module _ {M : Meaning} (h : Sound seats width M) where
   pub bytes-form : Form (bytesOf M)
   bytes-form = record {
     sized = length-bytesOf M;
-    bytes = bytes-bytes M (λ s p. h .vectors s) (λ s k d p q. ⊎-elim (λ e. omega arith) (λ e. omega arith) (link-fits s k d));
-    phase = rw (read-phase M) (phaseByte-lt (M .seats .phase));
-    states = λ s p. rw (read-state M s p) (stateByte-lt (M .seats .state s));
-    links = λ s k d p q. rw (read-link M s k d p q) (link-fits s k d);
+    bytes = bytes-bytes M;
+    cells = λ c p. rw (value-read c p) (value-fits c p);
   }

@@ -12,7 +12,7 @@ use Rattle.memory.specs.Bytes.{numberAt}
 use Rattle.base.proofs.Cases.{eq-or-ne}
 use Rattle.protocol.specs.Rules.{isStaying}
 use Rattle.protocol.specs.State.{isClearing, isFree, isSeated, isLeaving, taken, seated, stays, leaves}
-use Rattle.record.specs.Layout.{seats, phaseAt, stateAt, numberFrom, vectorAt}
+use Rattle.record.specs.Layout.{seats, numberSize, vectorSize, phaseAt, stateAt, numberFrom, vectorFrom}
 use Rattle.record.specs.Meaning.{phaseOf, stateOf, seatsIn}
 
 clearing-of : (b : ℕ) → isClearing (phaseOf b) ≡ not (eqb b 0)
@@ -70,10 +70,10 @@ module _ (l : List ℕ) where
     unfolding seatsIn
     leaves-byte = rw (lt-ltb s seats h, leaving-of (getD l (stateAt s) 0))
 
-    pub number-bytes : seatsIn l .number s ≡ numberAt l (numberFrom s) 8
+    pub number-bytes : seatsIn l .number s ≡ numberAt l (numberFrom s) numberSize
     unfolding seatsIn
     number-bytes = rw (lt-ltb s seats h)
 
-    pub vector-byte : seatsIn l .vector s ≡ getD l (vectorAt s) 0
+    pub vector-bytes : seatsIn l .vector s ≡ numberAt l (vectorFrom s) vectorSize
     unfolding seatsIn
-    vector-byte = rw (lt-ltb s seats h)
+    vector-bytes = rw (lt-ltb s seats h)

@@ -11,18 +11,22 @@ use lib.ListN.{getD}
 use Rattle.memory.specs.Bits.{hasBit, withBit, packed, putBit, setBit, clearBit}
 use Rattle.base.proofs.Cases.{eq-or-ne}
 use Rattle.memory.proofs.Bits.{hasBit-withBit, hasBit-withBit-other, withBit-lt}
-use Rattle.memory.proofs.Packed.{packed-lt, packed-bits, packed-is}
+use Rattle.memory.proofs.Bytes.{putNumber-one}
+use Rattle.memory.proofs.Packed.{packed-lt, packed-bits, packed-is, packed-same}
 use Rattle.graph.specs.Vector.{width}
 use Rattle.protocol.specs.Message.{Msg}
 use Rattle.protocol.specs.Numbering.{exists, place, messageAt}
 use Rattle.protocol.specs.State.{Meaning}
 use Rattle.protocol.specs.Page.{pendingAfter}
 use Rattle.protocol.proofs.Numbering.{messageAt-place}
-use Rattle.record.specs.Layout.{seats, messages, pendingFrom}
+use Rattle.record.specs.Layout.{seats, byteBits, messages, pendingFrom, pendingSize}
+use Rattle.record.specs.Cell.{Cell, phaseCell, stateCell, numberCell, vectorCell, linkCell, pendingCell}
+use Rattle.record.specs.inner.Cell.{InRecord, putCell}
 use Rattle.record.specs.inner.Sent.{sentBits}
-use Rattle.record.specs.Meaning.{pendingByte, byteOf, bytesOf}
-use Rattle.record.proofs.Places.{place-within, place-at, at-pending, getD-bytesOf}
-use Rattle.record.proofs.Frame.{agree-pending, one-byte}
+use Rattle.record.specs.Meaning.{valueOf, bytesOf}
+use Rattle.record.proofs.Places.{place-within, place-at}
+use Rattle.record.proofs.Frame.{bytes-put}
+use Rattle.record.proofs.Round.{read-pending}
 use Rattle.record.proofs.Pending.{sent-same, sent-other, taken-same, taken-other, after-nothing, after-taken, after-first}
 use Rattle.record.proofs.Update.{withPending, withMessage, withoutMessage}
 
@@ -32,41 +36,54 @@ module _ (M : Meaning) (p : Msg → Bool) (m : Msg) (x : T (exists seats width m
   other : (j : ℕ) → j < messages → j ≢ place seats width m → messageAt seats width j ≢ m
   other j h ne e = ne (sym (place-at j h) ∙ ap (place seats width) e)
 
+  -- the byte of its bit
+  within : place seats width m / byteBits < pendingSize
+  within = omega (arith, place-within m x)
+
+  -- other cells stay
+  kept : (c : Cell) → InRecord c → c ≢ pendingCell (place seats width m / byteBits) → valueOf (withPending M p) c ≡ valueOf M c
+  kept phaseCell q ne = refl
+  kept (stateCell s) q ne = refl
+  kept (numberCell s) q ne = refl
+  kept (vectorCell s) q ne = refl
+  kept (linkCell s k d) q ne = refl
+  kept (pendingCell i) q ne =
+      packed-same byteBits (λ j. p (messageAt seats width (i * byteBits + j))) (λ j. M .pending (messageAt seats width (i * byteBits + j)))
+      (λ j g. others (messageAt seats width (i * byteBits + j)) (other (i * byteBits + j) (omega arith) (λ e. ne (ap pendingCell (omega arith)))))
+
   pub bytes-withBit : bytesOf (withPending M p) ≡ putBit (bytesOf M) pendingFrom (place seats width m) b
-  unfolding pendingByte
-  bytes-withBit = one-byte a (withBit y (c % 8) b) (omega (arith, place-within m x)) new (agree-pending refl refl (λ j h q.
-      others (messageAt seats width j) (other j h (λ e. q (ap (λ (n : ℕ). pendingFrom + n / 8) e)))))
+  bytes-withBit =
+      bytes-put (pendingCell (c / byteBits)) within kept
+      ∙ ap (putCell (bytesOf M) (pendingCell (c / byteBits))) new
+      ∙ putNumber-one (bytesOf M) (pendingFrom + c / byteBits) (withBit y (c % byteBits) b) (withBit-lt byteBits y (c % byteBits) b low (omega arith))
     where
       c : ℕ
       c = place seats width m
 
-      a : ℕ
-      a = pendingFrom + c / 8
-
       y : ℕ
-      y = getD (bytesOf M) a 0
+      y = getD (bytesOf M) (pendingFrom + c / byteBits) 0
 
-      old : y ≡ packed 8 (λ j. M .pending (messageAt seats width (c / 8 * 8 + j)))
-      old = getD-bytesOf M a (omega (arith, place-within m x)) ∙ at-pending M (c / 8) (omega (arith, place-within m x))
+      old : y ≡ packed byteBits (λ j. M .pending (messageAt seats width (c / byteBits * byteBits + j)))
+      old = read-pending M (c / byteBits) within
 
-      low : y < 2 ^ 8
-      low = rw old (packed-lt 8 (λ j. M .pending (messageAt seats width (c / 8 * 8 + j))))
+      low : y < 2 ^ byteBits
+      low = rw old (packed-lt byteBits (λ j. M .pending (messageAt seats width (c / byteBits * byteBits + j))))
 
-      bit : (j : ℕ) → j < 8 → hasBit (withBit y (c % 8) b) j ≡ p (messageAt seats width (c / 8 * 8 + j))
+      bit : (j : ℕ) → j < byteBits → hasBit (withBit y (c % byteBits) b) j ≡ p (messageAt seats width (c / byteBits * byteBits + j))
       bit j l = ⊎-elim
-          (λ e. ap (hasBit (withBit y (c % 8) b)) e
-          ∙ hasBit-withBit y (c % 8) b
+          (λ e. ap (hasBit (withBit y (c % byteBits) b)) e
+          ∙ hasBit-withBit y (c % byteBits) b
           ∙ sym (ap p (ap (messageAt seats width) (omega arith) ∙ messageAt-place seats width m x) ∙ here))
-          (λ e. hasBit-withBit-other y (c % 8) j b e
+          (λ e. hasBit-withBit-other y (c % byteBits) j b e
           ∙ ap (λ (n : ℕ). hasBit n j) old
-          ∙ packed-bits 8 (λ j. M .pending (messageAt seats width (c / 8 * 8 + j))) j l
-          ∙ sym (others (messageAt seats width (c / 8 * 8 + j)) (other (c / 8 * 8 + j) (omega (arith, place-within m x)) (λ q. e (omega arith)))))
-          (eq-or-ne j (c % 8))
+          ∙ packed-bits byteBits (λ j. M .pending (messageAt seats width (c / byteBits * byteBits + j))) j l
+          ∙ (let i = c / byteBits * byteBits + j in sym (others (messageAt seats width i) (other i (omega (arith, place-within m x)) (λ q. e (omega arith))))))
+          (eq-or-ne j (c % byteBits))
 
-      new : byteOf (withPending M p) (pendingFrom + place seats width m / 8) ≡ withBit y (c % 8) b
+      new : packed byteBits (λ j. p (messageAt seats width (place seats width m / byteBits * byteBits + j))) ≡ withBit y (c % byteBits) b
       new =
-          at-pending (withPending M p) (c / 8) (omega (arith, place-within m x))
-          ∙ packed-is 8 (withBit y (c % 8) b) (λ j. p (messageAt seats width (c / 8 * 8 + j))) (withBit-lt 8 y (c % 8) b low (omega arith)) bit
+          packed-is byteBits (withBit y (c % byteBits) b) (λ j. p (messageAt seats width (c / byteBits * byteBits + j)))
+          (withBit-lt byteBits y (c % byteBits) b low (omega arith)) bit
 
 module _ (M : Meaning) (m : Msg) (x : T (exists seats width m)) where
   pub bytes-withMessage : bytesOf (withMessage M m) ≡ setBit (bytesOf M) pendingFrom (place seats width m)

@@ -1,7 +1,7 @@
 -- Sound bytes are those of the form whose meaning is sound, and the bytes of a sound meaning are sound. Assumes nothing.
-use Prim.Native.Nat.{ℕ, _^_, _<_}
+use Prim.Native.Nat.{ℕ, _+_, _^_, _<_}
 use mathlib.Core.Path.{_≡_, sym, _∙_, subst}
-use mathlib.Core.Logic.{inl, inr, ⊎-elim, _↔_}
+use mathlib.Core.Logic.{_⊎_, inl, inr, ⊎-elim, _↔_}
 use mathlib.Core.Option.{none, some}
 use mathlib.Core.Bool.{true, not}
 use mathlib.Core.List.{List}
@@ -11,7 +11,7 @@ use lib.Pow.{pow-pos}
 use lib.ListN.{length, getD}
 use Rattle.memory.specs.Bytes.{AreBytes}
 use Rattle.base.proofs.Cases.{lt-or-ge}
-use Rattle.memory.proofs.Bytes.{numberAt-lt}
+use Rattle.memory.proofs.Bytes.{numberAt-one, numberAt-lt}
 use Rattle.graph.specs.Side.{Side}
 use Rattle.graph.specs.Vector.{width}
 use Rattle.base.proofs.Tests.{some-inj, none-some}
@@ -21,12 +21,15 @@ use Rattle.protocol.specs.Rules.{SeatState}
 use Rattle.protocol.specs.State.{Meaning, isFree, taken}
 use Rattle.protocol.specs.Sound.{Sound, linkOk, messageOk, numberBits}
 use Rattle.protocol.proofs.Numbering.{messageAt-place}
-use Rattle.record.specs.Layout.{seats, levels, noLink, messages, numberFrom, vectorAt, linkAt, size}
+use Rattle.record.specs.Layout.{seats, levels, numberSize, vectorSize, noLink, messages, size}
+use Rattle.record.specs.Layout.{phaseAt, stateAt, numberFrom, vectorFrom, linkAt, pendingFrom}
+use Rattle.record.specs.Cell.{Cell, phaseCell, stateCell, numberCell, vectorCell, linkCell, pendingCell}
+use Rattle.record.specs.inner.Cell.{InRecord, cellIn}
 use Rattle.record.specs.Meaning.{linkOf, seatsIn, meaning, bytesOf}
 use Rattle.record.specs.Sound.{sound}
 use Rattle.record.proofs.Places.{place-within}
 use Rattle.record.proofs.Links.{linkOf-some}
-use Rattle.record.proofs.Form.{Form, meaning-number, meaning-vector, meaning-link, meaning-pending, meaning-bit}
+use Rattle.record.proofs.Form.{CellFits, Form, meaning-number, meaning-vector, meaning-link, meaning-pending, meaning-bit}
 use Rattle.record.proofs.Form.{no-seat-state, no-seat-number, no-seat-vector, no-seat-link, no-level-link, exists-pending}
 use Rattle.record.proofs.Round.{same-bytes, meaning-bytes, bytes-form}
 use Rattle.record.proofs.Clauses.{AsOpened, LinkFits, Fits, sound-fits}
@@ -37,14 +40,16 @@ unfolding linkOf
 linkOf-noLink b e = rw e
 
 module _ {l : List ℕ} (bytes : AreBytes l) (f : Fits l) where
+  cells-fit : (c : Cell) → InRecord c → CellFits c (cellIn l c)
+  cells-fit phaseCell p = rw (numberAt-one l phaseAt) (f .phase)
+  cells-fit (stateCell s) p = rw (numberAt-one l (stateAt s)) (f .states s p)
+  cells-fit (numberCell s) p = numberAt-lt l (numberFrom s) numberSize bytes
+  cells-fit (vectorCell s) p = numberAt-lt l (vectorFrom s) vectorSize bytes
+  cells-fit (linkCell s k d) p = rw (numberAt-one l (linkAt s k d)) (⊎-elim (λ q. inl q) (λ q. inr (q .0)) (f .links s k d (p .0) (p .1)))
+  cells-fit (pendingCell b) p = numberAt-lt l (pendingFrom + b) 1 bytes
+
   fits-form : length l ≡ size → Form l
-  fits-form e = record {
-    sized = e;
-    bytes = bytes;
-    phase = f .phase;
-    states = f .states;
-    links = λ s k d h g. ⊎-elim (λ q. inl q) (λ q. inr (q .0)) (f .links s k d h g);
-  }
+  fits-form e = record { sized = e; bytes = bytes; cells = cells-fit }
 
   seat-in : (x : ℕ) → T (taken (meaning l .seats) x) → x < seats
   seat-in x t = ⊎-elim (λ p. p) (λ p. absurd (subst (λ (s : SeatState). T (not (isFree s))) (no-seat-state l x p) t)) (lt-or-ge x seats)
@@ -57,13 +62,13 @@ module _ {l : List ℕ} (bytes : AreBytes l) (f : Fits l) where
 
   number-fits : (x : ℕ) → meaning l .seats .number x < 2 ^ numberBits
   number-fits x = ⊎-elim
-      (λ p. rw (meaning-number l x p) (numberAt-lt l (numberFrom x) 8 bytes))
+      (λ p. rw (meaning-number l x p) (numberAt-lt l (numberFrom x) numberSize bytes))
       (λ p. rw (no-seat-number l x p) (pow-pos numberBits))
       (lt-or-ge x seats)
 
   vector-fits : (x : ℕ) → meaning l .seats .vector x < 2 ^ width
   vector-fits x = ⊎-elim
-      (λ p. rw (meaning-vector l x p) (bytes (vectorAt x)))
+      (λ p. rw (meaning-vector l x p) (numberAt-lt l (vectorFrom x) vectorSize bytes))
       (λ p. rw (no-seat-vector l x p) (pow-pos width))
       (lt-or-ge x seats)
 
@@ -120,6 +125,10 @@ module _ {l : List ℕ} (bytes : AreBytes l) (f : Fits l) where
   }
 
 module _ {l : List ℕ} (f : Form l) (h : Sound seats width (meaning l)) where
+  -- a link's byte
+  link-form : (s k : ℕ) (d : Side) → s < seats → k < levels → (getD l (linkAt s k d) 0 ≡ noLink) ⊎ (getD l (linkAt s k d) 0 < seats)
+  link-form s k d p q = rw (← numberAt-one l (linkAt s k d)) (f .cells (linkCell s k d) (p, q))
+
   sound-unused : (s : ℕ) → s < seats → T (isFree (seatsIn l .state s)) → AsOpened l s
   unfolding meaning
   sound-unused s p t = let u = h .unused s t in (
@@ -128,7 +137,7 @@ module _ {l : List ℕ} (f : Form l) (h : Sound seats width (meaning l)) where
     λ k d q. ⊎-elim
         (λ e. e)
         (λ e. none-some (sym (meaning-link l s k d p q) ∙ u .2 k d) (linkOf-some (getD l (linkAt s k d) 0) e))
-        (f .links s k d p q),
+        (link-form s k d p q),
   )
 
   sound-link : (x k : ℕ) (d : Side) → x < seats → k < levels → LinkFits l x k d
@@ -136,13 +145,13 @@ module _ {l : List ℕ} (f : Form l) (h : Sound seats width (meaning l)) where
   sound-link x k d p q = let b = getD l (linkAt x k d) 0 in ⊎-elim
       (λ e. inl e)
       (λ e. inr (e, h .links x k b d (meaning-link l x k d p q ∙ linkOf-some b e)))
-      (f .links x k d p q)
+      (link-form x k d p q)
 
   form-fits : Fits l
   unfolding meaning
   form-fits = record {
-    phase = f .phase;
-    states = f .states;
+    phase = rw (← numberAt-one l phaseAt) (f .cells phaseCell tt);
+    states = λ s p. rw (← numberAt-one l (stateAt s)) (f .cells (stateCell s) p);
     unused = sound-unused;
     differ = λ x y p q s t e. omega (arith, h .differ x y s t e);
     links = sound-link;

@@ -1,16 +1,15 @@
--- Changed meanings, and what a change of the phase, or of a seat's state, number, vector or link, is in the bytes, for any meaning.
--- Assumes nothing.
-use Prim.Native.Nat.{ℕ, _+_, _<_}
-use mathlib.Core.Path.{_≡_, refl, sym, ap, _∙_}
-use mathlib.Core.Logic.{⊎-elim}
+-- Changed meanings, and what a change of the phase, or of a seat's state, number, vector or link, is in the bytes, for any meaning: its cell
+-- is put. Assumes nothing.
+use Prim.Native.Nat.{ℕ, _<_}
+use mathlib.Core.Path.{_≡_, refl, ap, _∙_}
+use mathlib.Core.Logic.{⊎-elim, _≢_}
 use mathlib.Core.Option.{Option, none, some}
 use mathlib.Core.Bool.{Bool}
-use mathlib.Core.List.{List, [], _∷_}
+use mathlib.Core.List.{[], _∷_}
 use native.Mathlib.Omega.{arith}
-use lib.ListN.{getD, set}
-use Rattle.memory.specs.Bytes.{putNumber, digit}
-use Rattle.memory.proofs.Bytes.{length-putNumber, getD-putNumber-other}
-use Rattle.memory.proofs.Digits.{getD-putNumber}
+use lib.ListN.{set}
+use Rattle.memory.specs.Bytes.{putNumber}
+use Rattle.memory.proofs.Bytes.{putNumber-one}
 use Rattle.graph.specs.Side.{Side}
 use Rattle.graph.specs.Graph.{Links}
 use Rattle.protocol.specs.Message.{Msg}
@@ -18,12 +17,13 @@ use Rattle.protocol.specs.Rules.{SeatState, Change, keep, set as put}
 use Rattle.protocol.specs.State.{Phase, Seats, Meaning}
 use Rattle.protocol.specs.Page.{at, pendingAfter}
 use Rattle.protocol.specs.pages.Deliver.{applied}
-use Rattle.protocol.proofs.Numbering.{sideNumber-lt}
 use Rattle.protocol.proofs.Calls.{at-same, at-other, applied-at, applied-frame}
-use Rattle.record.specs.Layout.{seats, levels, phaseAt, stateAt, numberFrom, vectorAt, linkAt}
-use Rattle.record.specs.Meaning.{phaseByte, stateByte, linkByte, byteOf, bytesOf}
-use Rattle.record.proofs.Places.{at-phase, at-state, at-number, at-vector, at-link, length-bytesOf}
-use Rattle.record.proofs.Frame.{agree-links, one-byte, range-bytes}
+use Rattle.record.specs.Layout.{seats, levels, numberSize, vectorSize, phaseAt, stateAt, numberFrom, vectorFrom, linkAt}
+use Rattle.record.specs.Cell.{Cell, phaseCell, stateCell, numberCell, vectorCell, linkCell, pendingCell}
+use Rattle.record.specs.inner.Cell.{InRecord, putCell}
+use Rattle.record.specs.Meaning.{phaseByte, stateByte, linkByte, valueOf, bytesOf}
+use Rattle.record.proofs.Values.{NamesSeat, phaseByte-lt, stateByte-lt, linkByte-byte}
+use Rattle.record.proofs.Frame.{bytes-put}
 
 -- the changed meanings
 abbrev pub withSeats : Meaning → Seats → Meaning
@@ -66,75 +66,75 @@ withoutMessage M m = withPending M (pendingAfter [] (some m) (M .pending))
 
 module _ (M : Meaning) where
   pub bytes-withPhase : (p : Phase) → bytesOf (withPhase M p) ≡ set (bytesOf M) phaseAt (phaseByte p)
-  bytes-withPhase p = one-byte phaseAt (phaseByte p) (omega arith) (at-phase (withPhase M p)) (record {
-    phase = λ q. absurd (q refl);
-    state = λ x g q. refl;
-    number = λ x j g l q. refl;
-    vector = λ x g q. refl;
-    link = λ x k d g l q. refl;
-    pending = λ i g q. refl;
-  })
+  bytes-withPhase p =
+      bytes-put phaseCell tt other ∙ putNumber-one (bytesOf M) phaseAt (phaseByte p) (omega (arith, phaseByte-lt p))
+    where
+      other : (c : Cell) → InRecord c → c ≢ phaseCell → valueOf (withPhase M p) c ≡ valueOf M c
+      other phaseCell q ne = absurd (ne refl)
+      other (stateCell x) q ne = refl
+      other (numberCell x) q ne = refl
+      other (vectorCell x) q ne = refl
+      other (linkCell x j e) q ne = refl
+      other (pendingCell b) q ne = refl
 
   pub bytes-withState : (s : ℕ) (v : SeatState) → s < seats → bytesOf (withState M s v) ≡ set (bytesOf M) (stateAt s) (stateByte v)
-  bytes-withState s v h = one-byte (stateAt s) (stateByte v) (omega arith) new (record {
-    phase = λ q. refl;
-    state = λ x g q. at-other s v (M .seats .state) x (λ e. q (ap stateAt e));
-    number = λ x j g l q. refl;
-    vector = λ x g q. refl;
-    link = λ x k d g l q. refl;
-    pending = λ i g q. refl;
-  })
+  bytes-withState s v h =
+      bytes-put (stateCell s) h other
+      ∙ ap (λ (w : SeatState). putCell (bytesOf M) (stateCell s) (stateByte w)) (at-same s v (M .seats .state) s refl)
+      ∙ putNumber-one (bytesOf M) (stateAt s) (stateByte v) (omega (arith, stateByte-lt v))
     where
-      new : byteOf (withState M s v) (stateAt s) ≡ stateByte v
-      new = at-state (withState M s v) s h ∙ ap stateByte (at-same s v (M .seats .state) s refl)
+      other : (c : Cell) → InRecord c → c ≢ stateCell s → valueOf (withState M s v) c ≡ valueOf M c
+      other phaseCell q ne = refl
+      other (stateCell x) q ne = ap stateByte (at-other s v (M .seats .state) x (λ e. ne (ap stateCell e)))
+      other (numberCell x) q ne = refl
+      other (vectorCell x) q ne = refl
+      other (linkCell x j e) q ne = refl
+      other (pendingCell b) q ne = refl
 
-  pub bytes-withVector : (s v : ℕ) → s < seats → bytesOf (withVector M s v) ≡ set (bytesOf M) (vectorAt s) v
-  bytes-withVector s v h = one-byte (vectorAt s) v (omega arith) new (record {
-    phase = λ q. refl;
-    state = λ x g q. refl;
-    number = λ x j g l q. refl;
-    vector = λ x g q. at-other s v (M .seats .vector) x (λ e. q (ap vectorAt e));
-    link = λ x k d g l q. refl;
-    pending = λ i g q. refl;
-  })
+  pub bytes-withNumber : (s n : ℕ) → s < seats → bytesOf (withNumber M s n) ≡ putNumber (bytesOf M) (numberFrom s) numberSize n
+  bytes-withNumber s n h =
+      bytes-put (numberCell s) h other ∙ ap (putCell (bytesOf M) (numberCell s)) (at-same s n (M .seats .number) s refl)
     where
-      new : byteOf (withVector M s v) (vectorAt s) ≡ v
-      new = at-vector (withVector M s v) s h ∙ at-same s v (M .seats .vector) s refl
+      other : (c : Cell) → InRecord c → c ≢ numberCell s → valueOf (withNumber M s n) c ≡ valueOf M c
+      other phaseCell q ne = refl
+      other (stateCell x) q ne = refl
+      other (numberCell x) q ne = at-other s n (M .seats .number) x (λ e. ne (ap numberCell e))
+      other (vectorCell x) q ne = refl
+      other (linkCell x j e) q ne = refl
+      other (pendingCell b) q ne = refl
 
-  pub bytes-withLink : (x k : ℕ) (d : Side) (o : Option ℕ) → x < seats → k < levels
-      → bytesOf (withLink M x k d o) ≡ set (bytesOf M) (linkAt x k d) (linkByte o)
-  bytes-withLink x k d o h g = one-byte (linkAt x k d) (linkByte o) (omega (arith, sideNumber-lt d)) new (agree-links refl refl (λ y j e p l q.
-      ⊎-elim (λ f. f) (λ f. absurd (q (same y j e (f .0) (f .1) (f .2)))) (applied-frame x (put k d o) (M .link) y j e)))
+  pub bytes-withVector : (s v : ℕ) → s < seats → bytesOf (withVector M s v) ≡ putNumber (bytesOf M) (vectorFrom s) vectorSize v
+  bytes-withVector s v h =
+      bytes-put (vectorCell s) h other ∙ ap (putCell (bytesOf M) (vectorCell s)) (at-same s v (M .seats .vector) s refl)
     where
-      new : byteOf (withLink M x k d o) (linkAt x k d) ≡ linkByte o
-      new = at-link (withLink M x k d o) x k d h g ∙ ap linkByte (applied-at x k d o (M .link))
+      other : (c : Cell) → InRecord c → c ≢ vectorCell s → valueOf (withVector M s v) c ≡ valueOf M c
+      other phaseCell q ne = refl
+      other (stateCell x) q ne = refl
+      other (numberCell x) q ne = refl
+      other (vectorCell x) q ne = at-other s v (M .seats .vector) x (λ e. ne (ap vectorCell e))
+      other (linkCell x j e) q ne = refl
+      other (pendingCell b) q ne = refl
 
-      same : (y j : ℕ) (e : Side) (w : Option ℕ) → y ≡ x → put k d o ≡ put j e w → linkAt y j e ≡ linkAt x k d
-      same y j e w a b =
-          let u : j ≡ k = cc in
-          let v : e ≡ d = cc in
-          rw (a, u, v)
+  pub bytes-withLink : (s k : ℕ) (d : Side) (o : Option ℕ) → s < seats → k < levels → NamesSeat o
+      → bytesOf (withLink M s k d o) ≡ set (bytesOf M) (linkAt s k d) (linkByte o)
+  bytes-withLink s k d o h g n =
+      bytes-put (linkCell s k d) (h, g) other
+      ∙ ap (λ (w : Option ℕ). putCell (bytesOf M) (linkCell s k d) (linkByte w)) (applied-at s k d o (M .link))
+      ∙ putNumber-one (bytesOf M) (linkAt s k d) (linkByte o) (linkByte-byte o n)
+    where
+      same : (x j : ℕ) (e : Side) (w : Option ℕ) → x ≡ s → put k d o ≡ put j e w → linkCell x j e ≡ linkCell s k d
+      same x j e w a b = cc
+
+      other : (c : Cell) → InRecord c → c ≢ linkCell s k d → valueOf (withLink M s k d o) c ≡ valueOf M c
+      other phaseCell q ne = refl
+      other (stateCell x) q ne = refl
+      other (numberCell x) q ne = refl
+      other (vectorCell x) q ne = refl
+      other (linkCell x j e) q ne =
+          ap linkByte (⊎-elim (λ f. f) (λ f. absurd (ne (same x j e (f .0) (f .1) (f .2)))) (applied-frame s (put k d o) (M .link) x j e))
+      other (pendingCell b) q ne = refl
 
   -- a rule that changes nothing
   pub bytes-keep : (x : ℕ) → bytesOf (withChange M x keep) ≡ bytesOf M
   unfolding applied
   bytes-keep x = refl
-
-  pub bytes-withNumber : (s n : ℕ) → s < seats → bytesOf (withNumber M s n) ≡ putNumber (bytesOf M) (numberFrom s) 8 n
-  bytes-withNumber s n h = range-bytes (numberFrom s) 8 l (length-putNumber (bytesOf M) (numberFrom s) 8 n ∙ length-bytesOf M) (record {
-    phase = λ q. refl;
-    state = λ x g q. refl;
-    number = λ x j g p q. at-other s n (M .seats .number) x (λ e. ⊎-elim (λ u. omega arith) (λ u. omega arith) q);
-    vector = λ x g q. refl;
-    link = λ x k d g p q. refl;
-    pending = λ i g q. refl;
-  }) (λ i q. getD-putNumber-other (bytesOf M) (numberFrom s) 8 n i q) new
-    where
-      l : List ℕ
-      l = putNumber (bytesOf M) (numberFrom s) 8 n
-
-      new : (j : ℕ) → j < 8 → byteOf (withNumber M s n) (numberFrom s + j) ≡ getD l (numberFrom s + j) 0
-      new j p =
-          at-number (withNumber M s n) s j h p
-          ∙ ap (λ (v : ℕ). digit 8 v j) (at-same s n (M .seats .number) s refl)
-          ∙ sym (getD-putNumber (bytesOf M) (numberFrom s) 8 n j (rw (length-bytesOf M) (omega arith)) p)

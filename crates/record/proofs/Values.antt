@@ -1,7 +1,7 @@
 -- A byte as a phase, a state and a link, and back. Assumes nothing.
 use Prim.Native.Nat.{ℕ, zero, suc, _<_}
 use mathlib.Core.Path.{_≡_, refl}
-use mathlib.Core.Logic.{_⊎_, inl, inr}
+use mathlib.Core.Logic.{_⊎_, inl, inr, ⊎-elim}
 use mathlib.Core.Option.{Option, none, some}
 use native.Mathlib.Omega.{arith}
 use lib.Dec.{T}
@@ -10,6 +10,10 @@ use Rattle.protocol.specs.Rules.{SeatState, free, staying, leaving}
 use Rattle.protocol.specs.State.{Phase, open-phase, clearing, isFree}
 use Rattle.record.specs.Layout.{seats, noLink}
 use Rattle.record.specs.Meaning.{phaseOf, stateOf, linkOf, phaseByte, stateByte, linkByte}
+
+-- a link is none or names a seat
+abbrev pub NamesSeat : Option ℕ → Type 0
+NamesSeat o = (y : ℕ) → o ≡ some y → y < seats
 
 pub phaseByte-phaseOf : (b : ℕ) → b < 2 → phaseByte (phaseOf b) ≡ b
 unfolding phaseOf
@@ -40,7 +44,7 @@ unfolding linkOf
 linkByte-linkOf b (inl e) = rw e
 linkByte-linkOf b (inr h) = rw (lt-ltb b seats h)
 
-pub linkOf-linkByte : (o : Option ℕ) → ((y : ℕ) → o ≡ some y → y < seats) → linkOf (linkByte o) ≡ o
+pub linkOf-linkByte : (o : Option ℕ) → NamesSeat o → linkOf (linkByte o) ≡ o
 unfolding linkOf
 linkOf-linkByte none h = refl
 linkOf-linkByte (some y) h = rw (lt-ltb y seats (h y refl))
@@ -55,9 +59,12 @@ stateByte-lt free = omega arith
 stateByte-lt staying = omega arith
 stateByte-lt leaving = omega arith
 
-pub linkByte-lt : (o : Option ℕ) → ((y : ℕ) → o ≡ some y → y < seats) → (linkByte o ≡ noLink) ⊎ (linkByte o < seats)
+pub linkByte-lt : (o : Option ℕ) → NamesSeat o → (linkByte o ≡ noLink) ⊎ (linkByte o < seats)
 linkByte-lt none h = inl refl
 linkByte-lt (some y) h = inr (h y refl)
+
+pub linkByte-byte : (o : Option ℕ) → NamesSeat o → linkByte o < 256
+linkByte-byte o h = ⊎-elim (λ e. omega arith) (λ e. omega arith) (linkByte-lt o h)
 
 pub isFree-free : (s : SeatState) → T (isFree s) → s ≡ free
 isFree-free free t = refl

@@ -1,53 +1,100 @@
--- Sizes and offsets of a record (docs/RECORD.md): phase, entries, pending bits. Assumes nothing.
-use Prim.Native.Nat.{ℕ, _+_, _*_}
-use Rattle.graph.specs.Side.{Side}
-use Rattle.graph.specs.Side.{sideNumber}
+-- Sizes and places of a record (docs/RECORD.md), computed from the seats, the width of a vector and the bytes of each field: the phase, an
+-- entry for each seat, and the pending bits. `At` is a byte, `From` the first of several. Assumes nothing.
+use Prim.Native.Nat.{ℕ, suc, _+_, _*_, _/_}
+use Rattle.graph.specs.Side.{Side, sideNumber}
+use Rattle.graph.specs.Vector.{width}
+use Rattle.protocol.specs.Sound.{numberBits}
+use Rattle.protocol.specs.Numbering.{count}
 
 abbrev pub seats : ℕ
 seats = 64
 
--- levels 0 to 8
+-- levels 0 to width
 abbrev pub levels : ℕ
-levels = 9
-
--- state 1, number 8, vector 1, links 2 for each level
-abbrev pub entrySize : ℕ
-entrySize = 28
+levels = suc width
 
 -- the byte of a link that is none
 abbrev pub noLink : ℕ
 noLink = 255
 
+-- the bits of a byte
+abbrev pub byteBits : ℕ
+byteBits = 8
+
+-- how many bytes each field has
+abbrev pub phaseSize : ℕ
+phaseSize = 1
+
+abbrev pub stateSize : ℕ
+stateSize = 1
+
+abbrev pub numberSize : ℕ
+numberSize = numberBits / byteBits
+
+abbrev pub vectorSize : ℕ
+vectorSize = width / byteBits
+
+abbrev pub linkSize : ℕ
+linkSize = 1
+
+-- a left and a right link for each level
+abbrev pub linksSize : ℕ
+linksSize = 2 * levels
+
+-- the fields of an entry one after the other: where each begins in it
+abbrev pub stateOffset : ℕ
+stateOffset = 0
+
+abbrev pub numberOffset : ℕ
+numberOffset = stateOffset + stateSize
+
+abbrev pub vectorOffset : ℕ
+vectorOffset = numberOffset + numberSize
+
+abbrev pub linksOffset : ℕ
+linksOffset = vectorOffset + vectorSize
+
+abbrev pub entrySize : ℕ
+entrySize = linksOffset + linksSize
+
 -- how many messages exist, a bit for each
 abbrev pub messages : ℕ
-messages = 147712
+messages = count seats width
 
+abbrev pub pendingSize : ℕ
+pendingSize = messages / byteBits
+
+-- where each part of the record begins
 abbrev pub phaseAt : ℕ
 phaseAt = 0
 
+abbrev pub entriesFrom : ℕ
+entriesFrom = phaseAt + phaseSize
+
 abbrev pub entryAt : ℕ → ℕ
-entryAt s = 1 + entrySize * s
-
-abbrev pub stateAt : ℕ → ℕ
-stateAt s = entryAt s
-
--- the number, highest byte first
-abbrev pub numberFrom : ℕ → ℕ
-numberFrom s = entryAt s + 1
-
-abbrev pub vectorAt : ℕ → ℕ
-vectorAt s = entryAt s + 9
-
--- links level by level, left then right
-abbrev pub linkAt : (s k : ℕ) → Side → ℕ
-linkAt s k d = entryAt s + 10 + 2 * k + sideNumber d
+entryAt s = entriesFrom + entrySize * s
 
 -- bit i of the pending bits is the message at place i
 abbrev pub pendingFrom : ℕ
-pendingFrom = 1793
-
-abbrev pub pendingSize : ℕ
-pendingSize = 18464
+pendingFrom = entryAt seats
 
 abbrev pub size : ℕ
-size = 20257
+size = pendingFrom + pendingSize
+
+-- the fields of the entry of seat s
+abbrev pub stateAt : ℕ → ℕ
+stateAt s = entryAt s + stateOffset
+
+-- the highest byte first
+abbrev pub numberFrom : ℕ → ℕ
+numberFrom s = entryAt s + numberOffset
+
+abbrev pub vectorFrom : ℕ → ℕ
+vectorFrom s = entryAt s + vectorOffset
+
+-- links level by level, left then right
+abbrev pub linksFrom : ℕ → ℕ
+linksFrom s = entryAt s + linksOffset
+
+abbrev pub linkAt : (s k : ℕ) → Side → ℕ
+linkAt s k d = linksFrom s + 2 * k + sideNumber d

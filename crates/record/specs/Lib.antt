@@ -1,5 +1,6 @@
 -- The record in lent bytes: layout, meaning, bytes of a meaning, soundness, and what open and the readings answer. Names no rule.
 pub mod Layout
+pub mod Cell
 pub mod Meaning
 pub mod Sound
 pub mod Reading

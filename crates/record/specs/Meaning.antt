@@ -1,5 +1,5 @@
 -- What the bytes of a record mean, and the bytes of a meaning. Assumes nothing.
-use Prim.Native.Nat.{ℕ, _+_, _-_, _*_, _/_, _%_}
+use Prim.Native.Nat.{ℕ, _+_, _-_, _*_}
 use mathlib.Core.Option.{Option, none, some}
 use mathlib.Core.Bool.{cond, _&&_}
 use mathlib.Core.List.{List}
@@ -8,12 +8,13 @@ use lib.ListN.{getD}
 use Rattle.memory.specs.Bytes.{numberAt, digit}
 use Rattle.memory.specs.Bits.{bitSet, packed}
 use Rattle.base.specs.Loops.{tabulate}
-use Rattle.graph.specs.Side.{left, right}
 use Rattle.graph.specs.Vector.{width}
 use Rattle.protocol.specs.Numbering.{exists, place, messageAt}
 use Rattle.protocol.specs.Rules.{SeatState, free, staying, leaving}
 use Rattle.protocol.specs.State.{Phase, open-phase, clearing, Seats, Meaning}
-use Rattle.record.specs.Layout.{seats, levels, entrySize, noLink, phaseAt, stateAt, numberFrom, vectorAt, linkAt, pendingFrom, size}
+use Rattle.record.specs.Layout.{seats, levels, byteBits, numberSize, vectorSize, noLink, phaseAt, stateAt, numberFrom, vectorFrom, linkAt}
+use Rattle.record.specs.Layout.{pendingFrom, size}
+use Rattle.record.specs.Cell.{Cell, phaseCell, stateCell, numberCell, vectorCell, linkCell, pendingCell, cellFrom, cellSize, cellAt}
 
 -- a byte as phase, state and link
 unfoldable pub phaseOf : ℕ → Phase
@@ -30,8 +31,8 @@ unfoldable pub seatsIn : List ℕ → Seats
 seatsIn l = record {
   phase = phaseOf (getD l phaseAt 0);
   state = λ x. cond (ltb x seats) (stateOf (getD l (stateAt x) 0)) free;
-  number = λ x. cond (ltb x seats) (numberAt l (numberFrom x) 8) 0;
-  vector = λ x. cond (ltb x seats) (getD l (vectorAt x) 0) 0;
+  number = λ x. cond (ltb x seats) (numberAt l (numberFrom x) numberSize) 0;
+  vector = λ x. cond (ltb x seats) (numberAt l (vectorFrom x) vectorSize) 0;
 }
 
 -- the meaning of the bytes
@@ -56,23 +57,18 @@ abbrev pub linkByte : Option ℕ → ℕ
 linkByte none = noLink
 linkByte (some x) = x
 
--- byte j of the entry of seat s
-unfoldable pub entryByte : Meaning → (s j : ℕ) → ℕ
-entryByte M s j =
-    cond (eqb j 0) (stateByte (M .seats .state s))
-    (cond (ltb j 9) (digit 8 (M .seats .number s) (j - 1))
-    (cond (eqb j 9) (M .seats .vector s)
-    (linkByte (M .link s ((j - 10) / 2) (cond (eqb ((j - 10) % 2) 1) right left)))))
+-- the number that a meaning has in a cell; a byte of the pending bits has a bit for each of its messages
+abbrev pub valueOf : Meaning → Cell → ℕ
+valueOf M phaseCell = phaseByte (M .seats .phase)
+valueOf M (stateCell s) = stateByte (M .seats .state s)
+valueOf M (numberCell s) = M .seats .number s
+valueOf M (vectorCell s) = M .seats .vector s
+valueOf M (linkCell s k d) = linkByte (M .link s k d)
+valueOf M (pendingCell b) = packed byteBits (λ j. M .pending (messageAt seats width (b * byteBits + j)))
 
--- byte b of the pending bits
-unfoldable pub pendingByte : (M : Meaning) (b : ℕ) → ℕ
-pendingByte M b = packed 8 (λ j. M .pending (messageAt seats width (b * 8 + j)))
-
--- byte i of the record
+-- byte i of the record: a digit of its cell's value
 unfoldable pub byteOf : Meaning → ℕ → ℕ
-byteOf M i =
-    cond (eqb i phaseAt) (phaseByte (M .seats .phase))
-    (cond (ltb i pendingFrom) (entryByte M ((i - 1) / entrySize) ((i - 1) % entrySize)) (pendingByte M (i - pendingFrom)))
+byteOf M i = let c = cellAt i in digit (cellSize c) (valueOf M c) (i - cellFrom c)
 
 -- the bytes of a meaning
 unfoldable pub bytesOf : Meaning → List ℕ

@@ -1,43 +1,76 @@
 // The record in lent bytes (docs/RECORD.md): its sizes and places, as in specs/Layout.antt, and one accessor for each field. Each asks
 // that the bytes are a record's, and that seat, level, side and place are in range.
 ghost use mathlib.Core.Path.{_≡_};
-ghost use Prim.Native.Nat.{_+_, _*_, _<_};
+ghost use Prim.Native.Nat.{_<_};
 ghost use lib.ListN.{length, getD, set};
 ghost use Rattle.memory.specs.Bytes.{numberAt, putNumber};
 ghost use Rattle.memory.specs.Bits.{bitSet, setBit, clearBit};
 ghost use Rattle.record.specs.Answer.{answerOf};
-ghost use Rattle.record.specs.Layout.{seats, levels, messages, size, phaseAt, entryAt, stateAt, numberFrom, vectorAt, pendingFrom};
+ghost use Rattle.graph.specs.Side.{sideOfNumber};
+ghost use Rattle.record.specs.Layout.{seats, levels, messages, numberSize, vectorSize, size};
+ghost use Rattle.record.specs.Layout.{phaseAt, stateAt, numberFrom, vectorFrom, linkAt, pendingFrom};
 
 pub mod lots;
 pub mod refusals;
 
+// The seats, the width of a vector, and the levels that it gives.
 pub const SEATS: usize = 64;
 
-// The width of a vector, and the levels that it gives.
 pub const WIDTH: usize = 8;
 
 pub const LEVELS: usize = WIDTH + 1;
 
-pub const SIZE: usize = 20257;
+// The bits of a byte and of a number.
+const BYTE_BITS: usize = 8;
 
-// Where the phase stands, the first entry, and the pending bits.
-pub const PHASE: usize = 0;
+const NUMBER_BITS: usize = 64;
 
-pub const ENTRIES: usize = 1;
+// The bytes of each field.
+const PHASE_SIZE: usize = 1;
 
-pub const PENDING: usize = 1793;
+const STATE_SIZE: usize = 1;
+
+const NUMBER_SIZE: usize = NUMBER_BITS / BYTE_BITS;
+
+const VECTOR_SIZE: usize = WIDTH / BYTE_BITS;
+
+// The links of an entry, a byte each: a left and a right one for each level.
+pub const LINKS: usize = 2 * LEVELS;
+
+// Where the fields begin in an entry, and its bytes.
+const STATE_AT: usize = 0;
+
+pub const NUMBER_AT: usize = STATE_AT + STATE_SIZE;
+
+const VECTOR_AT: usize = NUMBER_AT + NUMBER_SIZE;
+
+pub const LINKS_AT: usize = VECTOR_AT + VECTOR_SIZE;
+
+pub const ENTRY: usize = LINKS_AT + LINKS;
+
+// Where the phase stands, the first entry, and the pending bits; and the size.
+const PHASE: usize = 0;
+
+pub const ENTRIES: usize = PHASE + PHASE_SIZE;
+
+pub const PENDING: usize = ENTRIES + ENTRY * SEATS;
+
+pub const SIZE: usize = PENDING + PENDING_SIZE;
+
+// How many messages name two lots and a level, two lots and a level with a bit, a lot, a bit, such a level and a side, or a lot, a level
+// and a side: `pairs`, `pulls` and `sides` of protocol's specs/Numbering.antt.
+const PAIRS: usize = SEATS * SEATS * LEVELS;
+
+const BIT_PAIRS: usize = SEATS * SEATS * WIDTH;
+
+const PULLS: usize = SEATS * 2 * WIDTH * 2;
+
+const SIDES: usize = SEATS * LEVELS * 2;
 
 // How many messages exist, a bit for each.
-pub const MESSAGES: usize = 147712;
+pub const MESSAGES: usize = PAIRS + (BIT_PAIRS + (PULLS + (SIDES + (PAIRS + (PAIRS + SIDES)))));
 
-// The bytes of an entry, and the offsets in it after the state.
-pub const ENTRY: usize = 28;
-
-pub const NUMBER_AT: usize = 1;
-
-pub const VECTOR_AT: usize = 9;
-
-pub const LINKS_AT: usize = 10;
+pub const PENDING_SIZE: usize = MESSAGES / BYTE_BITS;
 
 // The values of the phase and of a state: phaseByte and stateByte of specs/Meaning.antt.
 pub const OPEN: u8 = 0;
@@ -73,27 +106,27 @@ pub fn state(rec: &[u8], s: usize) -> u8
     requires { ⌜ (length (now rec) ≡ size) × (s < seats) ⌝ }
     ensures { λ r. ⌜ r ≡ getD (now (rec .entry)) (stateAt s) 0 ⌝ }
 {
-    rec[ENTRIES + ENTRY * s]
+    rec[ENTRIES + ENTRY * s + STATE_AT]
 }
 
 pub fn set_state(rec: &mut [u8], s: usize, v: u8)
     requires { ⌜ (length (now rec) ≡ size) × (s < seats) ⌝ }
     ensures { λ _. ⌜ now (rec .exit) ≡ set (now (rec .entry)) (stateAt s) v ⌝ }
 {
-    rec[ENTRIES + ENTRY * s] = v;
+    rec[ENTRIES + ENTRY * s + STATE_AT] = v;
 }
 
 // The number of the lot on seat s.
 pub fn number(rec: &[u8], s: usize) -> u64
     requires { ⌜ (length (now rec) ≡ size) × (s < seats) ⌝ }
-    ensures { λ r. ⌜ r ≡ numberAt (now (rec .entry)) (numberFrom s) 8 ⌝ }
+    ensures { λ r. ⌜ r ≡ numberAt (now (rec .entry)) (numberFrom s) numberSize ⌝ }
 {
     memory::number(rec, ENTRIES + ENTRY * s + NUMBER_AT)
 }
 
 pub fn set_number(rec: &mut [u8], s: usize, n: u64)
     requires { ⌜ (length (now rec) ≡ size) × (s < seats) ⌝ }
-    ensures { λ _. ⌜ now (rec .exit) ≡ putNumber (now (rec .entry)) (numberFrom s) 8 n ⌝ }
+    ensures { λ _. ⌜ now (rec .exit) ≡ putNumber (now (rec .entry)) (numberFrom s) numberSize n ⌝ }
 {
     memory::put_number(rec, ENTRIES + ENTRY * s + NUMBER_AT, n);
 }
@@ -101,14 +134,14 @@ pub fn set_number(rec: &mut [u8], s: usize, n: u64)
 // The vector of the lot on seat s.
 pub fn vector(rec: &[u8], s: usize) -> u8
     requires { ⌜ (length (now rec) ≡ size) × (s < seats) ⌝ }
-    ensures { λ r. ⌜ r ≡ getD (now (rec .entry)) (vectorAt s) 0 ⌝ }
+    ensures { λ r. ⌜ r ≡ numberAt (now (rec .entry)) (vectorFrom s) vectorSize ⌝ }
 {
     rec[ENTRIES + ENTRY * s + VECTOR_AT]
 }
 
 pub fn set_vector(rec: &mut [u8], s: usize, v: u8)
     requires { ⌜ (length (now rec) ≡ size) × (s < seats) ⌝ }
-    ensures { λ _. ⌜ now (rec .exit) ≡ set (now (rec .entry)) (vectorAt s) v ⌝ }
+    ensures { λ _. ⌜ now (rec .exit) ≡ putNumber (now (rec .entry)) (vectorFrom s) vectorSize v ⌝ }
 {
     rec[ENTRIES + ENTRY * s + VECTOR_AT] = v;
 }
@@ -116,14 +149,14 @@ pub fn set_vector(rec: &mut [u8], s: usize, v: u8)
 // The link of seat s at level k on side d, 0 left and 1 right: a seat or NONE.
 pub fn link(rec: &[u8], s: usize, k: usize, d: usize) -> u8
     requires { ⌜ (length (now rec) ≡ size) × (s < seats) × (k < levels) × (d < 2) ⌝ }
-    ensures { λ r. ⌜ r ≡ getD (now (rec .entry)) (entryAt s + 10 + 2 * k + d) 0 ⌝ }
+    ensures { λ r. ⌜ r ≡ getD (now (rec .entry)) (linkAt s k (sideOfNumber d)) 0 ⌝ }
 {
     rec[ENTRIES + ENTRY * s + LINKS_AT + 2 * k + d]
 }
 
 pub fn set_link(rec: &mut [u8], s: usize, k: usize, d: usize, v: u8)
     requires { ⌜ (length (now rec) ≡ size) × (s < seats) × (k < levels) × (d < 2) ⌝ }
-    ensures { λ _. ⌜ now (rec .exit) ≡ set (now (rec .entry)) (entryAt s + 10 + 2 * k + d) v ⌝ }
+    ensures { λ _. ⌜ now (rec .exit) ≡ set (now (rec .entry)) (linkAt s k (sideOfNumber d)) v ⌝ }
 {
     rec[ENTRIES + ENTRY * s + LINKS_AT + 2 * k + d] = v;
 }

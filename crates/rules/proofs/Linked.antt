@@ -5,14 +5,15 @@ use mathlib.Core.Bool.{not, cond}
 use mathlib.Core.List.{List, [], _∷_}
 use borrow.Author.Tests.{lt-ltb}
 use lib.Dec.{eqb, ltb}
-use lib.ListN.{getD, set}
+use lib.ListN.{set}
+use Rattle.memory.specs.Bytes.{numberAt}
 use Rattle.memory.specs.Bits.{setBit}
 use Rattle.graph.specs.Vector.{width, bit}
 use Rattle.protocol.specs.Message.{meet, probe, pull}
 use Rattle.protocol.specs.Numbering.{place}
 use Rattle.protocol.specs.Rules.{toLink, setting}
 use Rattle.protocol.specs.State.{entry}
-use Rattle.record.specs.Layout.{seats, pendingFrom, linkAt, vectorAt}
+use Rattle.record.specs.Layout.{seats, vectorSize, pendingFrom, linkAt, vectorFrom}
 use Rattle.record.specs.Meaning.{meaning, linkOf}
 use Rattle.graph.specs.Side.{sideOfNumber}
 use Rattle.record.specs.inner.Sent.{sentBits}
@@ -39,7 +40,7 @@ pub setting-done : (l : List ℕ) (about level old other : ℕ) {w x y z : List 
     → d < 2
     → linkOf old ≡ meaning l .link to level (sideOfNumber d)
     → linkOf other ≡ meaning l .link to level (sideOfNumber (1 - d))
-    → v ≡ getD l (vectorAt to) 0
+    → v ≡ numberAt l (vectorFrom to) vectorSize
     → w ≡ set l (linkAt to level (sideOfNumber d)) about
     → i ≡ place seats width (meet about to level)
     → x ≡ setBit w pendingFrom i

@@ -6,7 +6,7 @@ ghost use lib.ListN.{length, set};
 ghost use Rattle.graph.specs.Vector.{width};
 ghost use Rattle.protocol.specs.Message.{meet, probe, pull, seek};
 ghost use Rattle.protocol.specs.Rules.{toLink};
-ghost use Rattle.record.specs.Layout.{seats, levels, entrySize, size, linkAt};
+ghost use Rattle.record.specs.Layout.{seats, levels, linksOffset, entrySize, size, linkAt};
 ghost use Rattle.record.specs.Meaning.{linkOf};
 ghost use Rattle.graph.specs.Side.{sideOfNumber};
 ghost use Rattle.record.specs.inner.Sent.{sentBits};
@@ -22,7 +22,7 @@ use record::SEATS;
 // Writes the link at level k on side d in an entry.
 fn put_in_entry(entry: &mut [u8], k: usize, d: usize, v: u8)
     requires { ⌜ (length (now entry) ≡ entrySize) × (k < levels) × (d < 2) ⌝ }
-    ensures { λ _. ⌜ now (entry .exit) ≡ set (now (entry .entry)) (10 + 2 * k + d) v ⌝ }
+    ensures { λ _. ⌜ now (entry .exit) ≡ set (now (entry .entry)) (linksOffset + 2 * k + d) v ⌝ }
 {
     entry[LINKS_AT + 2 * k + d] = v;
 }

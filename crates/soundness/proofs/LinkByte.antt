@@ -1,9 +1,8 @@
--- The link clause by the byte of a link, its side as a number; of a seated lot, and of a free seat as open leaves it. Assumes nothing.
-use Prim.Native.Nat.{ℕ, zero, suc, _+_, _*_, _<_}
+-- The link clause by the byte of a link; of a seated lot, and of a free seat as open leaves it. Assumes nothing.
+use Prim.Native.Nat.{ℕ, _<_}
 use mathlib.Core.Path.{_≡_, refl, sym, ap}
 use mathlib.Core.Bool.{Bool, true, false, not, _&&_, _||_}
 use mathlib.Core.List.{List}
-use native.Mathlib.Omega.{arith}
 use lib.Dec.{eqb, ltb, leb}
 use lib.ListN.{getD}
 use borrow.Author.Tests.{ne-eqb}
@@ -16,21 +15,15 @@ use Rattle.base.proofs.Tests.{true-T}
 use Rattle.graph.proofs.Order.{lt-ne, on-lt}
 use Rattle.protocol.specs.State.{Seats, taken, seated}
 use Rattle.protocol.specs.Sound.{pairOk, linkOk}
-use Rattle.record.specs.Layout.{seats, levels, noLink, entryAt, stateAt, linkAt}
+use Rattle.record.specs.Layout.{seats, levels, noLink, stateAt, linkAt}
 use Rattle.record.specs.Meaning.{seatsIn}
-use Rattle.graph.specs.Side.{sideOfNumber}
 use Rattle.record.specs.Sound.{asOpened, linkFits}
 use Rattle.soundness.specs.inner.Parts.{seatFits}
 
-link-place : (x k d : ℕ) → d < 2 → linkAt x k (sideOfNumber d) ≡ entryAt x + 10 + 2 * k + d
-link-place x k zero h = refl
-link-place x k (suc zero) h = refl
-link-place x k (suc (suc d)) h = absurd (omega arith)
-
-pub link-byte : (l : List ℕ) (x k d b : ℕ) → d < 2 → b ≡ getD l (entryAt x + 10 + 2 * k + d) 0
-    → linkFits l x k (sideOfNumber d) ≡ eqb b noLink || (ltb b seats && linkOk width (seatsIn l) x k (sideOfNumber d) b)
+pub link-byte : (l : List ℕ) (x k : ℕ) (d : Side) (b : ℕ) → b ≡ getD l (linkAt x k d) 0
+    → linkFits l x k d ≡ eqb b noLink || (ltb b seats && linkOk width (seatsIn l) x k d b)
 unfolding linkFits
-link-byte l x k d b h e = rw (link-place x k d h, e)
+link-byte l x k d b e = rw e
 
 -- a seated lot and a seat on its side are two, so that need not be tested
 pub link-ok : (r : Seats) (x k y : ℕ) (d : Side) → seated r x ≡ true

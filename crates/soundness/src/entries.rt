@@ -16,7 +16,7 @@ ghost use Rattle.soundness.specs.inner.Parts.{HasNumbers, unlinked, diff
 ghost use Rattle.soundness.specs.inner.Buckets.{buckets, sameNumber, Kept};
 use record::ENTRIES;
 use record::ENTRY;
-use record::LEVELS;
+use record::LINKS;
 use record::LINKS_AT;
 use record::NUMBER_AT;
 use record::SEATS;
@@ -45,7 +45,7 @@ fn no_links(rec: &[u8], s: usize) -> bool
     requires { ⌜ (length (now rec) ≡ size) × (s < seats) ⌝ }
     ensures { λ r. ⌜ r ≡ all levels (unlinked (now (rec .entry)) s) ⌝ }
 {
-    memory::full_run(rec, ENTRIES + ENTRY * s + LINKS_AT, 2 * LEVELS)
+    memory::full_run(rec, ENTRIES + ENTRY * s + LINKS_AT, LINKS)
 }
 
 // Whether number, vector and links of seat s are as open writes them.

@@ -3,10 +3,9 @@ use Prim.Native.Nat.{ℕ}
 use mathlib.Core.Path.{sym, ap, _∙_}
 use mathlib.Core.List.{List}
 use native.Mathlib.Omega.{arith}
-use lib.ListN.{set}
 use borrow.Author.Needs.{needs}
 use Rattle.memory.specs.Bytes.{putNumber}
-use Rattle.record.specs.Layout.{numberFrom, vectorAt}
+use Rattle.record.specs.Layout.{numberSize, vectorSize, numberFrom, vectorFrom}
 use Rattle.clearing.proofs.Freeing.{free-lot, keep-lot}
 use Rattle.clearing.proofs.free_seat.Statement.{statement}
 use Rattle.clearing.proofs.free_seat.Tie as tie
@@ -33,8 +32,8 @@ returns c = λ M f e.
     let d = b .before .before in
     let s = d .before .before .before .before .args .s in
     c .before .before .set-vector .ensures
-    ∙ ap (λ (l : List ℕ). set l (vectorAt s) 0) (a .set-number .ensures
-    ∙ ap (λ (l : List ℕ). putNumber l (numberFrom s) 8 0) (b .set-state .ensures))
+    ∙ ap (λ (l : List ℕ). putNumber l (vectorFrom s) vectorSize 0) (a .set-number .ensures
+    ∙ ap (λ (l : List ℕ). putNumber l (numberFrom s) numberSize 0) (b .set-state .ensures))
     ∙ free-lot M s (omega arith) e (sym (d .before .is-leaving .ensures) ∙ d .if1 .taken)
 
 same-length-2 : tie.Need-same-length-2

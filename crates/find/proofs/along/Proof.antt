@@ -29,7 +29,7 @@ returns c = let b = c .before .before .before in
     let y = c .before .link .result in
     let d = b .args .d in
     along-none (seatsIn l .number) (meaning l .link) (b .args .x) y (sideOfNumber d)
-    (link-none l (b .args .s) (b .args .k) d y (b .pre .1) (b .pre .2) (b .pre .3) (c .before .link .ensures) (c .if1 .taken))
+    (link-none l (b .args .s) (b .args .k) (sideOfNumber d) y (b .pre .1) (b .pre .2) (c .before .link .ensures) (c .if1 .taken))
 
 -- src/lib.rt:56:22
 number-requires : tie.Need-number-requires
@@ -46,7 +46,7 @@ returns-2 c = let b = c .before .before .before .before .before .before in
     let y = c .before .before .before .before .link .result in
     let d = b .args .d in
     let x = b .args .x in
-    let o = link-some l (b .args .s) (b .args .k) d y (b .pre .1) (b .pre .2) (b .pre .3) (c .before .before .before .before .link .ensures) (search needs) in
+    let o = link-some l _ (b .args .k) (sideOfNumber d) y (b .pre .1) (b .pre .2) (c .before .before .before .before .link .ensures) (search needs) in
     let n = number-read l y (c .before .before .number .result) (search needs) (c .before .before .number .ensures) in
     along-past (seatsIn l .number) (meaning l .link) x y (sideOfNumber d) o
     (ap (onSide (sideOfNumber d) x) n ∙ sym (c .before .on-side .ensures) ∙ c .if2 .taken)
@@ -58,7 +58,7 @@ returns-3 c = let b = c .before .before .before .before .before .before in
     let y = c .before .before .before .before .link .result in
     let d = b .args .d in
     let x = b .args .x in
-    let o = link-some l (b .args .s) (b .args .k) d y (b .pre .1) (b .pre .2) (b .pre .3) (c .before .before .before .before .link .ensures) (search needs) in
+    let o = link-some l _ (b .args .k) (sideOfNumber d) y (b .pre .1) (b .pre .2) (c .before .before .before .before .link .ensures) (search needs) in
     let n = number-read l y (c .before .before .number .result) (search needs) (c .before .before .number .ensures) in
     along-moves (seatsIn l .number) (meaning l .link) x y (sideOfNumber d) (c .before .before .before .if1 .left) o
     (ap (onSide (sideOfNumber d) x) n ∙ sym (c .before .on-side .ensures) ∙ c .if2 .left)

@@ -4,6 +4,7 @@ use mathlib.Core.Path.{sym, _∙_, ap}
 use native.Mathlib.Omega.{arith}
 use native.Mathlib.Numerals.{add-one}
 use borrow.Author.Needs.{needs}
+use Rattle.graph.specs.Side.{left}
 use Rattle.record.specs.Meaning.{seatsIn}
 use Rattle.search.proofs.Step.{is-end, is-left, is-none, held-at}
 use Rattle.find.specs.declared.Found.the-variants.{Holder}
@@ -52,7 +53,7 @@ returns-2 c = let b = c .before .before .before .before .before in
     let l = b .args .rec .now in
     let y = c .before .link .result in
     let n = number-read l (b .args .s) (c .before .before .before .number .result) (b .pre .1) (c .before .before .before .number .ensures) in
-    let o = link-some l (b .args .s) 0 0 y (b .pre .1) (omega arith) (omega arith) (c .before .link .ensures) (c .if2 .taken) in
+    let o = link-some l (b .args .s) 0 left y (b .pre .1) (omega arith) (c .before .link .ensures) (c .if2 .taken) in
     let q : b .args .x < seatsIn l .number (b .args .s) = omega (arith, n, c .before .before .if1 .left) in
     ap (Holder y) (add-one (b .args .h)) ∙ ap heldOf (sym (held-at (is-left q o)))
 
@@ -63,7 +64,7 @@ returns-3 c = let b = c .before .before .before .before .before in
     let l = b .args .rec .now in
     let y = c .before .link .result in
     let n = number-read l (b .args .s) (c .before .before .before .number .result) (b .pre .1) (c .before .before .before .number .ensures) in
-    let o = link-none l (b .args .s) 0 0 y (b .pre .1) (omega arith) (omega arith) (c .before .link .ensures) (c .if2 .left) in
+    let o = link-none l (b .args .s) 0 left y (b .pre .1) (omega arith) (c .before .link .ensures) (c .if2 .left) in
     let q : b .args .x < seatsIn l .number (b .args .s) = omega (arith, n, c .before .before .if1 .left) in
     ap heldOf (sym (held-at (is-none q o)))
 

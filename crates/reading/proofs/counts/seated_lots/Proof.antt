@@ -13,10 +13,10 @@ use Rattle.reading.proofs.counts.seated_lots.Statement.{statement}
 use Rattle.reading.proofs.counts.seated_lots.Tie as tie
 
 abbrev Inv-loop : tie.InvT-loop
-Inv-loop rec n₀ s₀ n s = (s ≤ 64) × (n ≡ count s (seated (seatsIn rec)))
+Inv-loop rec n₀ s₀ n s = (s ≤ seats) × (n ≡ count s (seated (seatsIn rec)))
 
 abbrev μ-loop : tie.MeasureT-loop
-μ-loop rec n₀ s₀ n s = 64 - s
+μ-loop rec n₀ s₀ n s = seats - s
 
 loop-holds : tie.Need-loop-holds Inv-loop μ-loop
 loop-holds c = (search needs, sym (count-none (seated (seatsIn (c .before .args .rec .now)))))

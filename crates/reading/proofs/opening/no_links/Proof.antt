@@ -10,10 +10,10 @@ use Rattle.reading.proofs.opening.no_links.Statement.{statement}
 use Rattle.reading.proofs.opening.no_links.Tie as tie
 
 abbrev Inv-loop : tie.InvT-loop
-Inv-loop rec₀ s₀ rec s = (s ≤ 64) × NoLinks s rec
+Inv-loop rec₀ s₀ rec s = (s ≤ seats) × NoLinks s rec
 
 abbrev μ-loop : tie.MeasureT-loop
-μ-loop rec₀ s₀ rec s = 64 - s
+μ-loop rec₀ s₀ rec s = seats - s
 
 loop-holds : tie.Need-loop-holds Inv-loop μ-loop
 loop-holds c = (search needs, links-none (c .before .pre .0) (c .before .pre .1))
@@ -26,9 +26,6 @@ add-fill c = search needs
 
 add-fill-2 : tie.Need-add-fill-2 Inv-loop μ-loop
 add-fill-2 c = search needs
-
-mul-fill-2 : tie.Need-mul-fill-2 Inv-loop μ-loop
-mul-fill-2 c = search needs
 
 fill-requires : tie.Need-fill-requires Inv-loop μ-loop
 fill-requires c κs = omega (arith, c .before .before .loop .inv .1 .sized)
@@ -62,7 +59,6 @@ no-links-spec =
     mul-fill
     add-fill
     add-fill-2
-    mul-fill-2
     fill-requires
     add-s
     loop-less

@@ -1,6 +1,6 @@
 -- `record::lots::shares` meets its contract. Assumes nothing.
 use borrow.Author.Needs.{needs}
-use Rattle.record.proofs.SeatBytes.{vector-byte}
+use Rattle.record.proofs.SeatBytes.{vector-bytes}
 use Rattle.record.proofs.lots.shares.Statement.{statement}
 use Rattle.record.proofs.lots.shares.Tie as tie
 
@@ -20,7 +20,7 @@ returns : tie.Need-returns
 returns c =
     let s = c .before .before .before .before .args in
     rw (c .share .ensures, c .before .vector2 .ensures, c .before .before .vector .ensures)
-    (rw (vector-byte (s .rec .now) (s .x) (search needs), vector-byte (s .rec .now) (s .y) (search needs)))
+    (rw (vector-bytes (s .rec .now) (s .x) (search needs), vector-bytes (s .rec .now) (s .y) (search needs)))
 
 pub shares-spec : {M : Type 1} → statement M
 shares-spec =

@@ -1,6 +1,5 @@
 -- `rules::reads::link` meets its contract. Assumes nothing.
 use borrow.Author.Needs.{needs}
-use Rattle.record.proofs.Places.{sideNumber-side}
 use Rattle.record.proofs.Form.{meaning-link}
 use Rattle.rules.proofs.reads.link.Statement.{statement}
 use Rattle.rules.proofs.reads.link.Tie as tie
@@ -14,7 +13,7 @@ cast-result c = search needs
 returns : tie.Need-returns
 returns c =
     let b = c .before .before in
-    rw (meaning-link _ _ _ _ (b .pre .1) (b .pre .2), sideNumber-side _ (b .pre .3), ← c .link .ensures)
+    rw (meaning-link _ _ _ _ (b .pre .1) (b .pre .2), ← c .link .ensures)
 
 pub link-spec : {M : Type 1} → statement M
 link-spec = tie.close (tie.spec link-requires cast-result returns)

@@ -6,6 +6,7 @@ use native.Mathlib.Omega.{arith}
 use lib.ListN.{set, length-take, length-drop}
 use borrow.Rule.Slice.PartMut.{putMid, set-mid-at}
 use borrow.Author.Needs.{needs}
+use Rattle.record.specs.Layout.{entrySize, linksOffset, entryAt}
 use Rattle.record.proofs.Places.{sideNumber-side}
 use Rattle.rules.proofs.writes.put_link.Statement.{statement}
 use Rattle.rules.proofs.writes.put_link.Tie as tie
@@ -38,9 +39,9 @@ returns : tie.Need-returns
 returns c =
     let b = c .before .before .before .before .before in
     let l = b .args .rec .now in
-    let a = 1 + 28 * b .args .s in
-    let n = a + 28 - a in
-    let j = 10 + 2 * b .args .k + b .args .d in
+    let a = entryAt (b .args .s) in
+    let n = a + entrySize - a in
+    let j = linksOffset + 2 * b .args .k + b .args .d in
     let e = sideNumber-side (b .args .d) (b .pre .3) in
     ap (λ (y : List ℕ). putMid a n l y) (c .before .before .put-in-entry .ensures)
     ∙ set-mid-at a n j l (b .args .v) (simp (length-take, length-drop) (omega arith))

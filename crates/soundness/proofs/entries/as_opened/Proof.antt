@@ -5,11 +5,11 @@ use mathlib.Core.Path.{_≡_, sym, ap, _∙_}
 use lib.Dec.{eqb}
 use borrow.Author.Tests.{eq-eqb, ne-eqb}
 use Rattle.memory.proofs.Zeros.{number-zero}
-use Rattle.record.specs.Layout.{numberFrom}
+use Rattle.record.specs.Layout.{numberSize, numberFrom}
 use Rattle.record.specs.Meaning.{seatsIn}
 use Rattle.record.specs.Sound.{asOpened}
 use Rattle.base.proofs.Stops.{and-stop, and-go}
-use Rattle.record.proofs.SeatBytes.{number-bytes, vector-byte}
+use Rattle.record.proofs.SeatBytes.{number-bytes, vector-bytes}
 use Rattle.soundness.proofs.entries.as_opened.Statement.{statement}
 use Rattle.soundness.proofs.entries.as_opened.Tie as tie
 
@@ -37,13 +37,13 @@ number-test : (c : tie.After-zero-word) → let r = c .before .before .args in
 number-test c =
     let r = c .before .before .args in
     let n = number-bytes (r .rec .now) (r .s) (search needs) in
-    c .zero-word .ensures ∙ sym (ap (λ (k : ℕ). eqb k 0) n ∙ number-zero (r .rec .now) (numberFrom (r .s)) 8)
+    c .zero-word .ensures ∙ sym (ap (λ (k : ℕ). eqb k 0) n ∙ number-zero (r .rec .now) (numberFrom (r .s)) numberSize)
 
 vector-test : (c : tie.After-vector) → let r = c .before .before .before .before .args in
     eqb (c .vector .result) 0 ≡ eqb (seatsIn (r .rec .now) .vector (r .s)) 0
 vector-test c =
     let r = c .before .before .before .before .args in
-    ap (λ (n : ℕ). eqb n 0) (c .vector .ensures ∙ sym (vector-byte (r .rec .now) (r .s) (search needs)))
+    ap (λ (n : ℕ). eqb n 0) (c .vector .ensures ∙ sym (vector-bytes (r .rec .now) (r .s) (search needs)))
 
 returns : tie.Need-returns
 unfolding asOpened

@@ -14,9 +14,6 @@ add-full-run c = search needs
 add-full-run-2 : tie.Need-add-full-run-2
 add-full-run-2 c = search needs
 
-mul-full-run-2 : tie.Need-mul-full-run-2
-mul-full-run-2 c = search needs
-
 full-run-requires : tie.Need-full-run-requires
 full-run-requires c κs = search needs
 
@@ -28,4 +25,4 @@ returns c =
 pub no-links-spec : {M : Type 1} → statement M
 no-links-spec =
     tie.close
-    (tie.spec mul-full-run add-full-run add-full-run-2 mul-full-run-2 full-run-requires returns)
+    (tie.spec mul-full-run add-full-run add-full-run-2 full-run-requires returns)

@@ -9,6 +9,7 @@ use lib.ListN.{getD}
 use borrow.Author.Tests.{eq-eqb, ne-eqb}
 use Rattle.base.specs.Loops.{any}
 use Rattle.base.proofs.Any.{any-here}
+use Rattle.record.specs.Layout.{seats}
 use Rattle.record.specs.Meaning.{seatsIn}
 use Rattle.record.proofs.SeatBytes.{number-bytes}
 use Rattle.soundness.specs.inner.Buckets.{buckets, bucketOf, sameNumber, lastIn}
@@ -37,7 +38,7 @@ cast-y : tie.Need-cast-y Inv-loop μ-loop
 cast-y c =
     let s = c .before .before .before .before in
     let b = c .before .bucket in
-    fits-under w64 _ 64 (omega (arith, s .pre .1, s .pre .2 .ends _ (b .ensures .1), last-le (s .args .rec .now) (s .args .s) (b .result))) tt
+    fits-under w64 _ seats (omega (arith, s .pre .1, s .pre .2 .ends _ (b .ensures .1), last-le (s .args .rec .now) (s .args .s) (b .result))) tt
 
 loop-holds : tie.Need-loop-holds Inv-loop μ-loop
 loop-holds c =
@@ -105,7 +106,7 @@ cast-y-2 c =
     let r = b .before .before .before .before .before .before in
     let x = b .before .loop .y - 1 in
     let least = last-le (r .args .rec .now) x (bucketOf (r .args .rec .now) (r .args .s)) in
-    fits-under w64 _ 64 (omega (arith, r .pre .1, goes-on c .0, least, lot b .below, b .before .loop .inv .1 .1)) tt
+    fits-under w64 _ seats (omega (arith, r .pre .1, goes-on c .0, least, lot b .below, b .before .loop .inv .1 .1)) tt
 
 loop-less : tie.Need-loop-less Inv-loop μ-loop
 loop-less c =

@@ -24,7 +24,7 @@ by-byte : (c : tie.After-link) → let r = c .before .before .args in
     linkFits (r .rec .now) (r .x) (r .k) d ≡ eqb b noLink || (ltb b seats && linkOk width (seatsIn (r .rec .now)) (r .x) (r .k) d b)
 by-byte c =
     let r = c .before .before .args in
-    link-byte (r .rec .now) (r .x) (r .k) (r .d) (c .link .result) (search needs) (c .link .ensures)
+    link-byte (r .rec .now) (r .x) (r .k) (sideOfNumber (r .d)) (c .link .result) (c .link .ensures)
 
 returns : tie.Need-returns
 returns c = rw (by-byte (c .before), eq-eqb _ _ (c .if1 .taken))
