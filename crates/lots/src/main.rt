@@ -114,7 +114,7 @@ fn finish(rec: &mut [u8], line: &[u8], n: usize) {
 }
 
 fn main() {
-    let mut rec = [0u8; 20257];
+    let mut rec = [0u8; record::SIZE];
     reading::open(&mut rec);
     // no command fills it (`long-bad` in the proofs of crate command)
     let mut line = [0u8; 64];

@@ -1,14 +1,15 @@
 // Line A: deliveries of the smallest pending message, until none is pending.
 use super::say;
-
-// How many messages there are of each kind (docs/RECORD.md): they lie one kind after the other.
-const PAIRS: usize = 36864;
-
-const PROBES: usize = 32768;
-
-const PULLS: usize = 2048;
-
-const SIDES: usize = 1152;
+use graph::SIDES;
+use messages::FOUNDS;
+use messages::GOINGS;
+use messages::NONES;
+use messages::PROBES;
+use messages::PULLS;
+use messages::SEEKS;
+use record::LEVELS;
+use record::SEATS;
+use record::WIDTH;
 
 // A number as the byte it fits into.
 fn byte(n: usize) -> u8 {
@@ -24,8 +25,8 @@ fn of_pair(rec: &mut [u8], kind: u8, levels: usize, j: usize) {
     delivery::deliver(
         rec,
         kind,
-        byte(pair / record::SEATS),
-        byte(pair % record::SEATS),
+        byte(pair / SEATS),
+        byte(pair % SEATS),
         byte(j % levels),
         0,
     );
@@ -33,57 +34,52 @@ fn of_pair(rec: &mut [u8], kind: u8, levels: usize, j: usize) {
 
 // The same of a kind with a side.
 fn of_side(rec: &mut [u8], kind: u8, j: usize) {
-    let lot = j / 2;
+    let lot = j / SIDES;
     delivery::deliver(
         rec,
         kind,
-        byte(lot / record::LEVELS),
+        byte(lot / LEVELS),
         0,
-        byte(lot % record::LEVELS),
-        byte(j % 2),
+        byte(lot % LEVELS),
+        byte(j % SIDES),
     );
 }
 
-// The same of a PULL.
+// The same of a PULL, which wants one of two bits.
 fn of_pull(rec: &mut [u8], j: usize) {
-    let width = record::LEVELS - 1;
-    let want = j / 2 / width;
+    let lot = j / SIDES;
+    let want = lot / WIDTH;
     delivery::deliver(
         rec,
         3,
         byte(want / 2),
         byte(want % 2),
-        byte(j / 2 % width),
-        byte(j % 2),
+        byte(lot % WIDTH),
+        byte(j % SIDES),
     );
 }
 
 // Delivers the message at place i.
 fn deliver_at(rec: &mut [u8], i: usize) {
-    if i < PAIRS {
-        return of_pair(rec, 1, record::LEVELS, i);
+    if i < PROBES {
+        return of_pair(rec, 1, LEVELS, i);
     }
-    let probe = i - PAIRS;
-    if probe < PROBES {
-        return of_pair(rec, 2, record::LEVELS - 1, probe);
+    if i < PULLS {
+        return of_pair(rec, 2, WIDTH, i - PROBES);
     }
-    let pull = probe - PROBES;
-    if pull < PULLS {
-        return of_pull(rec, pull);
+    if i < GOINGS {
+        return of_pull(rec, i - PULLS);
     }
-    let going = pull - PULLS;
-    if going < SIDES {
-        return of_side(rec, 4, going);
+    if i < SEEKS {
+        return of_side(rec, 4, i - GOINGS);
     }
-    let seek = going - SIDES;
-    if seek < PAIRS {
-        return of_pair(rec, 5, record::LEVELS, seek);
+    if i < FOUNDS {
+        return of_pair(rec, 5, LEVELS, i - SEEKS);
     }
-    let found = seek - PAIRS;
-    if found < PAIRS {
-        return of_pair(rec, 6, record::LEVELS, found);
+    if i < NONES {
+        return of_pair(rec, 6, LEVELS, i - FOUNDS);
     }
-    of_side(rec, 7, found - PAIRS);
+    of_side(rec, 7, i - NONES);
 }
 
 // Delivers the smallest pending message, if there is one.
