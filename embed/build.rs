@@ -1,4 +1,4 @@
-//! Links the static library that `rt staticlib exports` writes: from the folder
+//! Links the static library that `rt staticlib lots_library` writes: from the folder
 //! in LOTS_STATICLIB, or else from `../target/staticlib`.
 
 use std::env;
@@ -9,15 +9,15 @@ fn main() {
     let folder = env::var("LOTS_STATICLIB").unwrap_or_else(|_| "../target/staticlib".into());
     // A relative folder is taken from this one; an absolute one stays as it is.
     let folder = Path::new(&here).join(folder);
-    let archive = folder.join("libexports.a");
+    let archive = folder.join("liblots_library.a");
     if !archive.exists() {
         println!(
-            "cargo::warning={} is missing: run `rt staticlib exports`",
+            "cargo::warning={} is missing: run `rt staticlib lots_library`",
             archive.display()
         );
     }
     println!("cargo::rerun-if-env-changed=LOTS_STATICLIB");
     println!("cargo::rerun-if-changed={}", archive.display());
     println!("cargo::rustc-link-search=native={}", folder.display());
-    println!("cargo::rustc-link-lib=static=exports");
+    println!("cargo::rustc-link-lib=static=lots_library");
 }

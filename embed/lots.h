@@ -1,7 +1,7 @@
 /* A record of lots in lent memory, whose calls are proved.
  *
  * The record holds 64 seats (0 to 63), a phase and the pending messages. Link
- * with libexports.a, which `rt staticlib exports` writes to target/staticlib.
+ * with liblots_library.a, which `rt staticlib lots_library` writes to target/staticlib.
  *
  * Every function answers 0 if the call is accepted, else the refusal number.
  * A refused call changes no byte of the record. Each comment lists the refusals
@@ -38,7 +38,7 @@ enum lots_refusal {
     LOTS_SEAT_TAKEN = 4,       /* a lot joins at a seat that is not free */
     LOTS_NUMBER_IN_USE = 5,    /* a seated lot has the number of the lot that joins */
     LOTS_NO_CONTACT = 6,       /* the contact's seat is free, or no contact while lots are seated */
-    LOTS_CLEARING = 7,         /* no lot joins or leaves in phase clearing */
+    LOTS_IN_CLEARING = 7,      /* no lot joins or leaves in phase clearing */
     LOTS_EMPTY_SEAT = 8,       /* no lot has this seat */
     LOTS_ALREADY_LEAVING = 9,  /* the lot is leaving */
     LOTS_NO_SUCH_MESSAGE = 10, /* the five numbers are no pending message */
@@ -116,7 +116,7 @@ uint8_t lots_read_counts(const uint8_t *record, size_t length, uint8_t *lots,
 
 /* The test that stands in front of every call but lots_open.
  * Refusals: 1 wrong size, 2 unsound. */
-uint8_t lots_record_refusal(const uint8_t *record, size_t length);
+uint8_t lots_validate(const uint8_t *record, size_t length);
 
 #ifdef __cplusplus
 }

@@ -52,7 +52,7 @@ pub fn library(call: Call, record: &mut [u8]) -> (u8, u64) {
                 lots_read_message(start, length, kind, to, about, m.level, m.side, &mut byte)
             }
             Call::ReadCounts => lots_read_counts(start, length, &mut byte, &mut other, &mut word),
-            Call::RecordRefusal => lots_record_refusal(start, length),
+            Call::Validate => lots_validate(start, length),
         }
     };
     let sum = u64::from(byte) + u64::from(other) + u64::from(word);
@@ -87,7 +87,7 @@ pub fn rust(call: Call, record: &mut [u8]) -> (u8, u64) {
             let small = u64::from(counts.lots) + counts.phase as u64;
             small + u64::from(counts.pending)
         }),
-        Call::RecordRefusal => lent::record_refusal(record).map(|()| 0),
+        Call::Validate => lent::validate(record).map(|()| 0),
     };
     match sum {
         Ok(sum) => (0, sum),

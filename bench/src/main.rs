@@ -13,7 +13,7 @@ use time::Times;
 const AIM_OF_RUST: f64 = 1.1;
 /// These are to take at most so many passes on settled records.
 const AIM_OF_PASSES: f64 = 8.0;
-const PASS_CALLS: [&str; 2] = ["record_refusal", "check"];
+const PASS_CALLS: [&str; 2] = ["validate", "check"];
 
 fn main() {
     let asked = std::env::args().nth(1);
@@ -75,7 +75,7 @@ fn print_aims(measured: &[(Row, Times)]) {
     let of_pass = |times: &Times| times.library / times.pass;
     let rows = measured.iter();
     let rows = rows.filter(|(row, _)| PASS_CALLS.contains(&row.call));
-    let aim = format!("record_refusal and check at most {AIM_OF_PASSES} passes");
+    let aim = format!("validate and check at most {AIM_OF_PASSES} passes");
     print_aim(&aim, rows, of_pass, AIM_OF_PASSES);
 }
 

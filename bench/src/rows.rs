@@ -149,7 +149,7 @@ fn read_message(rows: &mut Vec<Row>, records: [&[u8]; 3]) {
 
 fn read_whole(rows: &mut Vec<Row>, records: [&[u8]; 3]) {
     on_each(rows, records, Call::ReadCounts);
-    on_each(rows, records, Call::RecordRefusal);
+    on_each(rows, records, Call::Validate);
 }
 
 /// 64 joins by the first lot, then the smallest message until none is left.
@@ -203,7 +203,7 @@ pub fn one_remainder() -> Row {
     for member in &mut members {
         member.number = member.number / REMAINDERS * REMAINDERS;
     }
-    row("64 lots", &settled_of(&members), Call::RecordRefusal)
+    row("64 lots", &settled_of(&members), Call::Validate)
 }
 
 /// Each link is as in the graph of the members.

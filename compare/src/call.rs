@@ -34,7 +34,7 @@ pub enum Call {
     },
     ReadMessage(Message),
     ReadCounts,
-    RecordRefusal,
+    Validate,
 }
 
 /// The refusal's number, 0 if the call is accepted, and the values in the order
@@ -62,7 +62,7 @@ pub const NAMES: [&str; 12] = [
     "read_link",
     "read_message",
     "read_counts",
-    "record_refusal",
+    "validate",
 ];
 
 /// The rows of the table that speak of each call, in the table's order.
@@ -95,7 +95,7 @@ impl Call {
             Call::ReadLink { .. } => 8,
             Call::ReadMessage(_) => 9,
             Call::ReadCounts => 10,
-            Call::RecordRefusal => 11,
+            Call::Validate => 11,
         }
     }
 
@@ -122,7 +122,7 @@ impl Call {
             Call::ReadLink { seat, level, side } => one(lent::read_link(bytes, seat, level, side)),
             Call::ReadMessage(message) => one(lent::read_message(bytes, message)),
             Call::ReadCounts => counts(lent::read_counts(bytes)),
-            Call::RecordRefusal => done(lent::record_refusal(bytes)),
+            Call::Validate => done(lent::validate(bytes)),
         }
     }
 
@@ -162,7 +162,7 @@ impl Call {
                     pending: read.pending as u32,
                 }))
             }
-            Call::RecordRefusal => done(Ok(())),
+            Call::Validate => done(Ok(())),
         }
     }
 }

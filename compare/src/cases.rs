@@ -174,8 +174,8 @@ fn the_first_row_that_applies_is_given() {
     assert_eq!(model.leave(1), Err(Refusal::AlreadyLeaving));
     model.turn().unwrap();
     assert_eq!(model.turn(), Err(Refusal::MessagesLeft));
-    assert_eq!(model.join(1, 200, 0, 9), Err(Refusal::Clearing));
-    assert_eq!(model.leave(9), Err(Refusal::Clearing));
+    assert_eq!(model.join(1, 200, 0, 9), Err(Refusal::InClearing));
+    assert_eq!(model.leave(9), Err(Refusal::InClearing));
     assert_eq!(model.leave(64), Err(Refusal::NoSuchSeat));
     assert_eq!(model.find(9, 0), Err(Refusal::EmptySeat));
     assert_eq!(model.find(64, 0), Err(Refusal::NoSuchSeat));

@@ -251,7 +251,7 @@ pub fn read_counts(bytes: &[u8]) -> Result<CountsRead, Refusal> {
 }
 
 /// The test in front of every call but open. Refusals: 1, 2.
-pub fn record_refusal(bytes: &[u8]) -> Result<(), Refusal> {
+pub fn validate(bytes: &[u8]) -> Result<(), Refusal> {
     sound::test(bytes).map(|_| ())
 }
 
@@ -266,7 +266,7 @@ fn is_seat(seat: u8) -> bool {
 fn must_be_open(record: Record) -> Result<(), Refusal> {
     match record.is_clearing() {
         false => Ok(()),
-        true => Err(Refusal::Clearing),
+        true => Err(Refusal::InClearing),
     }
 }
 

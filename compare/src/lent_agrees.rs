@@ -102,7 +102,7 @@ fn soundness_of_damaged_bytes() {
         let pools = inputs::pools(&mut random);
         let mut bytes = inputs::sound_record(&pools, &mut random);
         inputs::damage(&mut bytes, &mut random);
-        let refusal = lent::record_refusal(&bytes).err();
+        let refusal = lent::validate(&bytes).err();
         let expected = match from_bytes(&bytes) {
             Some(_) => None,
             None if bytes.len() != lent::SIZE => Some(Refusal::WrongSize),
@@ -123,7 +123,7 @@ fn soundness_of_each_bit() {
         let mut bytes = inputs::sound_record(&pools, &mut random);
         for place in (0..bytes.len() * 8).filter(|place| place % 37 == 0 || *place < 15_000) {
             bytes[place / 8] ^= 1 << (place % 8);
-            let sound = lent::record_refusal(&bytes).is_ok();
+            let sound = lent::validate(&bytes).is_ok();
             assert_eq!(sound, from_bytes(&bytes).is_some(), "bit {place}");
             bytes[place / 8] ^= 1 << (place % 8);
         }

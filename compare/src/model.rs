@@ -153,7 +153,7 @@ impl Model {
     fn must_be_open(&self) -> Result<(), Refusal> {
         match self.phase {
             Phase::Open => Ok(()),
-            Phase::Clearing => Err(Refusal::Clearing),
+            Phase::Clearing => Err(Refusal::InClearing),
         }
     }
 

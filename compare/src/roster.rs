@@ -52,7 +52,7 @@ impl Roster {
                 NO_CONTACT => !self.lots.is_empty(),
                 seat => self.is_free(seat),
             },
-            (Refusal::Clearing, Command::Join { .. } | Command::Leave { .. }) => {
+            (Refusal::InClearing, Command::Join { .. } | Command::Leave { .. }) => {
                 self.phase == Phase::Clearing
             }
             (Refusal::EmptySeat, Command::Leave { seat }) => self.is_free(seat),

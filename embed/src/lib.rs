@@ -2,7 +2,7 @@
 //!
 //! The record holds 64 seats, a phase and the pending messages. Lots join and
 //! leave, messages between them are delivered in any order, and a scanned number
-//! is looked up from any lot. The work is done by the static library `exports`,
+//! is looked up from any lot. The work is done by the static library `lots_library`,
 //! written and proved in Rattle; this crate lends it bytes and gives its answers
 //! types. It allocates nothing.
 //!

@@ -403,12 +403,12 @@ impl<B: AsRef<[u8]>> Record<B> {
     /// // A free seat has no links, which is 255 and not 0.
     /// assert_eq!(Record::over([0; SIZE]).validate(), Err(Refusal::Unsound));
     /// ```
-    #[doc(alias = "lots_record_refusal")]
+    #[doc(alias = "lots_validate")]
     #[doc(alias = "refusal")]
     pub fn validate(&self) -> Result<(), Refusal> {
         let bytes = self.as_bytes();
         // SAFETY: the slice is ours to read for its length.
-        accepted(unsafe { sys::lots_record_refusal(bytes.as_ptr(), bytes.len()) })
+        accepted(unsafe { sys::lots_validate(bytes.as_ptr(), bytes.len()) })
     }
 }
 

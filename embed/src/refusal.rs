@@ -33,7 +33,7 @@ pub enum Refusal {
     /// 6: the contact's seat is free, or there is no contact while lots are seated.
     NoContact = 6,
     /// 7: no lot joins or leaves in phase clearing.
-    Clearing = 7,
+    InClearing = 7,
     /// 8: no lot has this seat.
     EmptySeat = 8,
     /// 9: the lot is leaving.
@@ -54,7 +54,7 @@ const TABLE: [(Refusal, &str); 12] = [
     (Refusal::SeatTaken, "seat taken"),
     (Refusal::NumberInUse, "number in use"),
     (Refusal::NoContact, "no contact"),
-    (Refusal::Clearing, "clearing"),
+    (Refusal::InClearing, "clearing"),
     (Refusal::EmptySeat, "empty seat"),
     (Refusal::AlreadyLeaving, "already leaving"),
     (Refusal::NoSuchMessage, "no such message"),

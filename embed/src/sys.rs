@@ -78,7 +78,7 @@ extern "C" {
         pending: *mut u32,
     ) -> u8;
 
-    pub fn lots_record_refusal(record: *const u8, length: usize) -> u8;
+    pub fn lots_validate(record: *const u8, length: usize) -> u8;
 }
 
 /// A refused call writes 0 to every output, which the safe calls do not show.

@@ -84,7 +84,7 @@ impl Round<'_> {
         inputs::damage(&mut damaged, &mut self.random);
         self.call(&damaged, call)?;
         // A record that is sound in spite of it may go on, a few times.
-        let sound = lent::record_refusal(self.judge.after()).is_ok();
+        let sound = lent::validate(self.judge.after()).is_ok();
         match sound && self.random.one_in(4) {
             true => self.go_on(),
             false => Ok(()),

@@ -98,7 +98,7 @@ pub fn make(memory: &mut [u8], record: Range<usize>, call: Call, fill: u64) -> O
                 let refusal = lots_read_counts(start, length, out.at(0), out.at(1), out.at(2));
                 (refusal, [1, 1, 4])
             }
-            Call::RecordRefusal => (lots_record_refusal(start, length), [0; 3]),
+            Call::Validate => (lots_validate(start, length), [0; 3]),
         }
     };
     outputs.outcome(refusal, widths)

@@ -126,7 +126,7 @@ impl Chooser<'_> {
             },
             2 => Call::ReadMessage(self.message()),
             3 => Call::ReadCounts,
-            _ => Call::RecordRefusal,
+            _ => Call::Validate,
         }
     }
 

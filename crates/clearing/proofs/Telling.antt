@@ -18,9 +18,12 @@ use Rattle.protocol.specs.Numbering.{exists, place}
 use Rattle.protocol.specs.Rules.{toLink}
 use Rattle.protocol.specs.State.{Meaning, leaves}
 use Rattle.protocol.specs.pages.Turn.{each, farewell}
-use Rattle.record.specs.Layout.{seats, levels, entryAt, linkAt, pendingFrom}
-use Rattle.record.specs.Meaning.{linkByte, seatsIn, bytesOf}
+use Rattle.record.specs.Layout.{seats, levels, pendingFrom}
+use Rattle.record.specs.Meaning.{linkOf, seatsIn, meaning, bytesOf}
 use Rattle.graph.specs.Side.{sideOfNumber}
+use Rattle.record.proofs.Values.{linkOf-linkByte}
+use Rattle.record.proofs.Form.{meaning-link}
+use Rattle.record.proofs.Links.{linkOf-some, linkOf-none, side-opp}
 use Rattle.record.proofs.Round.{read-link}
 use Rattle.record.proofs.Pending.{after-nothing, after-append}
 use Rattle.record.proofs.Update.{withPending}
@@ -62,43 +65,24 @@ pub each-start : (M : Meaning) (f : ℕ → List Msg) → saying M (each 0 f) �
 unfolding each
 each-start M f = saying-nothing M
 
--- GOING from y to its link b, and no link
-module _ (M : Meaning) (c : Linked M) (y k : ℕ) (h : y < seats) (g : k < levels) {l : List ℕ} (e : l ≡ bytesOf M) where
-  link-byte : (d : Side) (o : Option ℕ) → M .link y k d ≡ o → getD l (linkAt y k d) 0 ≡ linkByte o
-  link-byte d o q = ap (λ (m : List ℕ). getD m (linkAt y k d) 0) e ∙ read-link M y h k d g (λ z q. c y k z d q) ∙ ap linkByte q
+-- GOING from y to its link b on side d, and no link
+module _ (M : Meaning) (c : Linked M) (y k d b : ℕ) (h : y < seats) (g : k < levels) (n : d < 2) {l : List ℕ} (e : l ≡ bytesOf M)
+    (f : linkOf b ≡ meaning l .link y k (sideOfNumber d)) where
+  link-named : M .link y k (sideOfNumber d) ≡ linkOf b
+  link-named =
+      let s = sideOfNumber d in
+      let back = linkOf-linkByte (M .link y k s) (λ z q. c y k z s q) in
+      sym (f ∙ ap (λ (m : List ℕ). meaning m .link y k s) e ∙ meaning-link (bytesOf M) y k s h g ∙ ap linkOf (read-link M y h k s g (λ z q. c y k z s q)) ∙ back)
 
-  sent : (d : Side) (b : ℕ) → b ≡ getD l (linkAt y k d) 0 → b < seats
-      → setBit l pendingFrom (place seats width (going b k (opp d))) ≡ bytesOf (saying M (farewell (M .link) y k d))
-  unfolding farewell toLink
-  sent d b f p = by (M .link y k d) refl
-    where
-      by : (o : Option ℕ) → M .link y k d ≡ o → setBit l pendingFrom (place seats width (going b k (opp d)))
-          ≡ bytesOf (saying M (toLink (M .link y k d) (λ x. going x k (opp d))))
-      by none q = absurd (omega (arith, f ∙ link-byte d none q))
-      by (some z) q =
-          let v : b ≡ z = f ∙ link-byte d (some z) q in
-          rw (q, v, e) (sym (bytes-withMessage M (going z k (opp d)) (going-exists z k (opp d) (c y k z d q) g)))
-
-  unsent : (d : Side) (b : ℕ) → b ≡ getD l (linkAt y k d) 0 → seats ≤ b → l ≡ bytesOf (saying M (farewell (M .link) y k d))
-  unfolding farewell toLink
-  unsent d b f p = by (M .link y k d) refl
-    where
-      by : (o : Option ℕ) → M .link y k d ≡ o → l ≡ bytesOf (saying M (toLink (M .link y k d) (λ x. going x k (opp d))))
-      by none q = rw q (e ∙ sym (ap bytesOf (saying-nothing M)))
-      by (some z) q = absurd (omega (arith, f ∙ link-byte d (some z) q, c y k z d q))
-
-  -- the side as a number
-  pub tell-sent : (d b : ℕ) → d < 2 → b ≡ getD l (linkAt y k (sideOfNumber d)) 0 → b < seats
+  pub tell-sent : b < seats
       → setBit l pendingFrom (place seats width (going b k (sideOfNumber (1 - d)))) ≡ bytesOf (saying M (farewell (M .link) y k (sideOfNumber d)))
-  tell-sent zero b q f p = sent left b f p
-  tell-sent (suc zero) b q f p = sent right b f p
-  tell-sent (suc (suc d)) b q f p = absurd (omega arith)
+  unfolding farewell toLink
+  tell-sent p = rw (side-opp d n, link-named, linkOf-some b p, e)
+      (sym (bytes-withMessage M (going b k (opp (sideOfNumber d))) (going-exists b k (opp (sideOfNumber d)) p g)))
 
-  pub tell-none : (d b : ℕ) → d < 2 → b ≡ getD l (linkAt y k (sideOfNumber d)) 0 → seats ≤ b
-      → l ≡ bytesOf (saying M (farewell (M .link) y k (sideOfNumber d)))
-  tell-none zero b q f p = unsent left b f p
-  tell-none (suc zero) b q f p = unsent right b f p
-  tell-none (suc (suc d)) b q f p = absurd (omega arith)
+  pub tell-none : seats ≤ b → l ≡ bytesOf (saying M (farewell (M .link) y k (sideOfNumber d)))
+  unfolding farewell toLink
+  tell-none p = rw (link-named, linkOf-none b p) (e ∙ sym (ap bytesOf (saying-nothing M)))
 
 -- all GOING from y if it leaves, and none
 module _ (M : Meaning) (y : ℕ) (h : y < seats) {l : List ℕ} (e : l ≡ bytesOf M) where

@@ -15,6 +15,8 @@ ghost use Rattle.graph.specs.Side.{sideOfNumber};
 ghost use Rattle.record.specs.Call.{callRefusal, called};
 ghost use Rattle.record.specs.Answer.{reply, replyOf};
 ghost use Rattle.clearing.specs.inner.Steps.{Step, same, saying, lotFarewells, farewellsFrom, linkGoes, linkPlace, relinked, freedTo, begun, ended};
+use graph::LEFT;
+use graph::RIGHT;
 use messages::going_place;
 use record::Answer;
 use record::CLEARING;
@@ -26,13 +28,9 @@ use record::PENDING;
 use record::SEATS;
 use record::SIZE;
 use record::lots::is_leaving;
+use record::lots::link;
 use record::refusals::MESSAGES_LEFT;
 use record::refusals::WRONG_SIZE;
-
-// The sides.
-const LEFT: usize = 0;
-
-const RIGHT: usize = 1;
 
 fn has_leaver(rec: &[u8]) -> bool
     requires { ⌜ length (now rec) ≡ size ⌝ }
@@ -44,14 +42,6 @@ fn has_leaver(rec: &[u8]) -> bool
         }
     }
     false
-}
-
-// The link of seat s at level k on side d as a number.
-fn link(rec: &[u8], s: usize, k: usize, d: usize) -> usize
-    requires { ⌜ (length (now rec) ≡ size) × (s < seats) × (k < levels) × (d < 2) ⌝ }
-    ensures { λ r. ⌜ r ≡ getD (now (rec .entry)) (linkAt s k (sideOfNumber d)) 0 ⌝ }
-{
-    record::link(rec, s, k, d) as usize
 }
 
 // Sends GOING from y to its link at level k on side d, if there is one, with the side on which the receiver has y.
@@ -107,7 +97,7 @@ fn unlink(rec: &mut [u8], x: usize, k: usize, d: usize)
     requires { ⌜ (length (now rec) ≡ size) × (x < seats) × (k < levels) × (d < 2) ⌝ }
     ensures { λ _. ⌜ Step (relinked (linkPlace x k d)) (relinked (linkPlace x k d + 1)) (now (rec .entry)) (now (rec .exit)) ⌝ }
 {
-    let y = link(rec, x, k, d);
+    let y = record::link(rec, x, k, d) as usize;
     if parts(rec, x, y) {
         record::set_link(rec, x, k, d, NONE);
     }

@@ -6,8 +6,6 @@ ghost use lib.Dec.{T};
 ghost use Rattle.graph.specs.Vector.{width};
 ghost use Rattle.protocol.specs.State.{seated};
 ghost use lib.ListN.{length};
-ghost use Rattle.graph.specs.Side.{onSide, sideOf};
-ghost use Rattle.graph.specs.Side.{sideNumber};
 ghost use Rattle.record.specs.Layout.{seats, levels, size};
 ghost use Rattle.record.specs.Meaning.{seatsIn, meaning};
 ghost use Rattle.graph.specs.Side.{sideOfNumber};
@@ -15,6 +13,9 @@ ghost use Rattle.search.specs.Walk.{along as alongOf, stepAt, drop, holderAt, f
 ghost use Rattle.find.specs.Find.{findIn};
 ghost use Rattle.find.specs.Answer.{heldOf, answerOf};
 ghost use Rattle.find.specs.inner.Steps.{asStep, Fit, Ready, Walked};
+use graph::LEFT;
+use graph::on_side;
+use graph::side_of;
 
 pub enum Found {
     Refused(u8),
@@ -27,26 +28,6 @@ pub struct Walk {
     pub seat: usize,
     pub level: usize,
     pub hops: u64,
-}
-
-// The side of number a on which b lies: 1 right, 0 left.
-fn side_of(a: u64, b: u64) -> usize
-    ensures { λ r. ⌜ (r ≡ sideNumber (sideOf a b)) × (r < 2) ⌝ }
-{
-    if a < b {
-        return 1;
-    }
-    0
-}
-
-// Whether number b lies on side d of a.
-fn on_side(d: usize, a: u64, b: u64) -> bool
-    ensures { λ r. ⌜ r ≡ onSide (sideOfNumber d) a b ⌝ }
-{
-    if d == 1 {
-        return a < b;
-    }
-    b < a
 }
 
 // The link of seat s at level k on side d, or SEATS if there is none or it lies beyond x.
@@ -127,7 +108,7 @@ fn held(rec: &[u8], s: usize, h: u64, x: u64) -> Found
     if record::number(rec, s) <= x {
         return Found::Holder(s as u8, h);
     }
-    let y = record::link(rec, s, 0, 0);
+    let y = record::link(rec, s, 0, LEFT);
     if (y as usize) < record::SEATS {
         return Found::Holder(y, h + 1);
     }

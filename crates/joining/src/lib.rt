@@ -30,8 +30,8 @@ use record::lots::is_leaving;
 use record::lots::is_seated;
 use record::lots::is_taken;
 use record::refusals::ALREADY_LEAVING;
-use record::refusals::CLEARING;
 use record::refusals::EMPTY_SEAT;
+use record::refusals::IN_CLEARING;
 use record::refusals::NO_CONTACT;
 use record::refusals::NO_SUCH_SEAT;
 use record::refusals::NUMBER_IN_USE;
@@ -101,7 +101,7 @@ fn join_row(rec: &[u8], seat: usize, number: u64, contact: usize) -> u8
         return NO_SUCH_SEAT;
     }
     if is_clearing(rec) {
-        return CLEARING;
+        return IN_CLEARING;
     }
     if is_taken(rec, seat) {
         return SEAT_TAKEN;
@@ -124,7 +124,7 @@ fn leave_row(rec: &[u8], seat: usize) -> u8
         return NO_SUCH_SEAT;
     }
     if is_clearing(rec) {
-        return CLEARING;
+        return IN_CLEARING;
     }
     if !is_seated(rec, seat) {
         return EMPTY_SEAT;

@@ -1,4 +1,4 @@
-// What other languages call, by a static library (`rt staticlib exports`): one function for each public call, over lent bytes and numbers. Each
+// What other languages call, by a static library (`rt staticlib lots_library`): one function for each public call, over lent bytes and numbers. Each
 // gives the refusal number, 0 if the call is accepted, and writes every value of the answer, 0 where the call is refused. The contracts cite
 // the definitions that the public calls' own contracts cite.
 ghost use mathlib.Core.Path.{_≡_};
@@ -226,7 +226,7 @@ pub extern "C" fn lots_read_counts(
 
 // 1 wrong size, 2 unsound, or 0: the test in front of every call but open.
 #[no_mangle]
-pub extern "C" fn lots_record_refusal(rec: &[u8]) -> u8
+pub extern "C" fn lots_validate(rec: &[u8]) -> u8
     ensures { λ r. ⌜ r ≡ recordRefusal (now (rec .entry)) ⌝ }
 {
     soundness::record_refusal(rec)

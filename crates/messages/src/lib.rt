@@ -24,17 +24,17 @@ const PAIRS: usize = SEATS * SEATS * LEVELS;
 const SIDES: usize = SEATS * LEVELS * 2;
 
 // Where each kind begins.
-const PROBES: usize = PAIRS;
+pub const PROBES: usize = PAIRS;
 
-const PULLS: usize = PROBES + SEATS * SEATS * WIDTH;
+pub const PULLS: usize = PROBES + SEATS * SEATS * WIDTH;
 
-const GOINGS: usize = PULLS + SEATS * 2 * WIDTH * 2;
+pub const GOINGS: usize = PULLS + SEATS * 2 * WIDTH * 2;
 
-const SEEKS: usize = GOINGS + SIDES;
+pub const SEEKS: usize = GOINGS + SIDES;
 
-const FOUNDS: usize = SEEKS + PAIRS;
+pub const FOUNDS: usize = SEEKS + PAIRS;
 
-const NONES: usize = FOUNDS + PAIRS;
+pub const NONES: usize = FOUNDS + PAIRS;
 
 // The five numbers of a message.
 pub struct Message {

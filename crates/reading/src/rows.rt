@@ -6,6 +6,7 @@ ghost use lib.ListN.{length};
 ghost use Rattle.protocol.specs.Refusals.{first};
 ghost use Rattle.record.specs.Layout.{seats, size};
 ghost use Rattle.record.specs.Reading.{sizeRow, soundRow, seatRow, levelRow, emptyRow, freeRow};
+use graph::SIDES;
 use record::LEVELS;
 use record::SEATS;
 use record::lots::is_seated;
@@ -14,9 +15,6 @@ use record::refusals::EMPTY_SEAT;
 use record::refusals::NO_SUCH_LEVEL;
 use record::refusals::NO_SUCH_SEAT;
 use soundness::record_refusal;
-
-// The sides, left and right.
-const SIDES: usize = 2;
 
 // 1 wrong size, 2 unsound, 3 no such seat.
 pub fn seat_refusal(rec: &[u8], seat: u8) -> u8

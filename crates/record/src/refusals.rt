@@ -11,7 +11,7 @@ pub const NUMBER_IN_USE: u8 = 5;
 
 pub const NO_CONTACT: u8 = 6;
 
-pub const CLEARING: u8 = 7;
+pub const IN_CLEARING: u8 = 7;
 
 pub const EMPTY_SEAT: u8 = 8;
 

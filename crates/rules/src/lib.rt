@@ -17,23 +17,22 @@ ghost use Rattle.graph.specs.Side.{sideOfNumber};
 ghost use Rattle.record.specs.inner.Sent.{sentBits};
 ghost use Rattle.rules.specs.inner.Done.{done};
 
-mod reads;
 mod writes;
 
+use graph::bit;
 use messages::found_place;
 use messages::meet_place;
 use messages::none_place;
 use messages::probe_place;
 use messages::seek_place;
-use reads::beyond;
-use reads::bit;
-use reads::link;
-use reads::share;
-use reads::side_of;
 use record::NONE;
 use record::SEATS;
 use record::WIDTH;
+use record::lots::beyond;
 use record::lots::is_staying;
+use record::lots::link;
+use record::lots::share;
+use record::lots::side_of;
 use writes::meet_about_link;
 use writes::probe_link;
 use writes::pull_link;

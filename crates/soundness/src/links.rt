@@ -4,27 +4,22 @@ ghost use mathlib.Core.Bool.{true, false, _&&_};
 ghost use Prim.Native.Nat.{ℕ, _≤_, _<_};
 ghost use lib.ListN.{length};
 ghost use Rattle.base.specs.Loops.{all};
-ghost use Rattle.graph.specs.Side.{left, right, onSide};
+ghost use Rattle.graph.specs.Side.{left, right, sideOfNumber};
 ghost use Rattle.graph.specs.Vector.{width};
 ghost use Rattle.protocol.specs.State.{taken, seated};
 ghost use Rattle.protocol.specs.Sound.{linkOk};
 ghost use Rattle.record.specs.Layout.{seats, levels, size};
 ghost use Rattle.record.specs.Meaning.{seatsIn};
-ghost use Rattle.graph.specs.Side.{sideOfNumber};
 ghost use Rattle.record.specs.Sound.{linkFits, linksFit};
 ghost use Rattle.soundness.specs.inner.Parts.{HasNumbers, seatFits};
+use graph::LEFT;
+use graph::RIGHT;
+use graph::on_side;
 use record::LEVELS;
 use record::NONE;
 use record::SEATS;
 use record::lots::is_seated;
 use record::lots::shares;
-
-// Whether number b lies on side d of number a.
-fn on_side(d: usize, a: u64, b: u64) -> bool
-    ensures { λ r. ⌜ r ≡ onSide (sideOfNumber d) a b ⌝ }
-{
-    if d == 1 { a < b } else { b < a }
-}
 
 // Whether seat y may be the link of the lot on seat x at level k on side d. That y is another seat shows by its number.
 fn may_link(rec: &[u8], numbers: &[u64; SEATS], x: usize, k: usize, d: usize, y: usize) -> bool
@@ -55,7 +50,7 @@ fn level_fits(rec: &[u8], numbers: &[u64; SEATS], x: usize, k: usize) -> bool
         × (seated (seatsIn (now rec)) x ≡ true) ⌝ }
     ensures { λ r. ⌜ r ≡ linkFits (now (rec .entry)) x k left && linkFits (now (rec .entry)) x k right ⌝ }
 {
-    link_fits(rec, numbers, x, k, 0) && link_fits(rec, numbers, x, k, 1)
+    link_fits(rec, numbers, x, k, LEFT) && link_fits(rec, numbers, x, k, RIGHT)
 }
 
 // All links of the lot on seat x.

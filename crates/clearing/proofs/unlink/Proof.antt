@@ -9,6 +9,9 @@ use Rattle.clearing.proofs.unlink.Tie as tie
 link-requires : tie.Need-link-requires
 link-requires c κs = search needs
 
+cast-y : tie.Need-cast-y
+cast-y c = search needs
+
 parts-requires : tie.Need-parts-requires
 parts-requires c κs = search needs
 
@@ -43,6 +46,7 @@ unlink-spec =
     tie.close
     (tie.spec
     link-requires
+    cast-y
     parts-requires
     set-link-requires
     same-length

@@ -8,21 +8,13 @@ use Rattle.find.proofs.Read.{number-read, link-some, link-none}
 use Rattle.find.proofs.Steps.{along-moves, along-past, along-none}
 use Rattle.find.proofs.along.Statement.{statement}
 use Rattle.find.proofs.along.Tie as tie
-use Rattle.find.proofs.along.Reads as reads
-use Rattle.find.proofs.along.Lts as lts
-use Rattle.find.proofs.on_side.Reads as on-side-reads
-use Rattle.record.proofs.link.Reads as link-reads
-use Rattle.record.proofs.number.Reads as number-reads
 
--- src/lib.rt:52:13
 link-requires : tie.Need-link-requires
 link-requires c κs = search needs
 
--- src/lib.rt:52:13
 cast-y : tie.Need-cast-y
 cast-y c = search needs
 
--- src/lib.rt:54:9
 returns : tie.Need-returns
 returns c = let b = c .before .before .before in
     let l = b .args .rec .now in
@@ -31,15 +23,12 @@ returns c = let b = c .before .before .before in
     along-none (seatsIn l .number) (meaning l .link) (b .args .x) y (sideOfNumber d)
     (link-none l (b .args .s) (b .args .k) (sideOfNumber d) y (b .pre .1) (b .pre .2) (c .before .link .ensures) (c .if1 .taken))
 
--- src/lib.rt:56:22
 number-requires : tie.Need-number-requires
 number-requires c κs = search needs
 
--- src/lib.rt:56:8
 on-side-requires : tie.Need-on-side-requires
 on-side-requires c κs = search needs
 
--- src/lib.rt:57:9
 returns-2 : tie.Need-returns-2
 returns-2 c = let b = c .before .before .before .before .before .before in
     let l = b .args .rec .now in
@@ -51,7 +40,6 @@ returns-2 c = let b = c .before .before .before .before .before .before in
     along-past (seatsIn l .number) (meaning l .link) x y (sideOfNumber d) o
     (ap (onSide (sideOfNumber d) x) n ∙ sym (c .before .on-side .ensures) ∙ c .if2 .taken)
 
--- src/lib.rt:48:1
 returns-3 : tie.Need-returns-3
 returns-3 c = let b = c .before .before .before .before .before .before in
     let l = b .args .rec .now in

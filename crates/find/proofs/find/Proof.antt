@@ -18,10 +18,6 @@ use Rattle.find.specs.Answer.{heldOf, foundOf, answerOf}
 use Rattle.find.proofs.Fits.{sound-fit}
 use Rattle.find.proofs.find.Statement.{statement}
 use Rattle.find.proofs.find.Tie as tie
-use Rattle.find.proofs.find.Reads as reads
-use Rattle.find.proofs.find.Lts as lts
-use Rattle.find.proofs.search.Reads as search-reads
-use Rattle.reading.proofs.seated_refusal.Reads as seated-refusal-reads
 
 refusing : (l : List ℕ) (s x n : ℕ) → seatedRefusal l s ≡ n → n ≢ 0 → Refused n ≡ answerOf (findIn l s x)
 unfolding findIn answerOf foundOf

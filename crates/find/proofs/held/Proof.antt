@@ -12,20 +12,13 @@ use Rattle.find.specs.Answer.{heldBy, heldOf}
 use Rattle.find.proofs.Read.{number-read, link-some, link-none}
 use Rattle.find.proofs.held.Statement.{statement}
 use Rattle.find.proofs.held.Tie as tie
-use Rattle.find.proofs.held.Reads as reads
-use Rattle.find.proofs.held.Lts as lts
-use Rattle.record.proofs.link.Reads as link-reads
-use Rattle.record.proofs.number.Reads as number-reads
 
--- src/lib.rt:125:8
 number-requires : tie.Need-number-requires
 number-requires c κs = search needs
 
--- src/lib.rt:126:30
 cast-t8 : tie.Need-cast-t8
 cast-t8 c = search needs
 
--- src/lib.rt:126:9
 returns : tie.Need-returns
 unfolding heldBy
 returns c = let b = c .before .before .before in
@@ -34,19 +27,15 @@ returns c = let b = c .before .before .before in
     let q : seatsIn l .number (b .args .s) ≤ b .args .x = omega (arith, n, c .if1 .taken) in
     ap heldOf (sym (held-at (is-end q)))
 
--- src/lib.rt:128:9
 link-requires : tie.Need-link-requires
 link-requires c κs = search needs
 
--- src/lib.rt:129:9
 cast-if2 : tie.Need-cast-if2
 cast-if2 c = search needs
 
--- src/lib.rt:130:33
 add-t10 : tie.Need-add-t10
 add-t10 c = search needs
 
--- src/lib.rt:130:9
 returns-2 : tie.Need-returns-2
 unfolding heldBy
 returns-2 c = let b = c .before .before .before .before .before in
@@ -57,7 +46,6 @@ returns-2 c = let b = c .before .before .before .before .before in
     let q : b .args .x < seatsIn l .number (b .args .s) = omega (arith, n, c .before .before .if1 .left) in
     ap (Holder y) (add-one (b .args .h)) ∙ ap heldOf (sym (held-at (is-left q o)))
 
--- src/lib.rt:121:1
 returns-3 : tie.Need-returns-3
 unfolding heldBy
 returns-3 c = let b = c .before .before .before .before .before in

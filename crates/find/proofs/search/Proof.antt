@@ -6,22 +6,15 @@ use Rattle.find.specs.Answer.{heldOf}
 use Rattle.find.proofs.Steps.{start-ready, end-seat, end-hops, end-found}
 use Rattle.find.proofs.search.Statement.{statement}
 use Rattle.find.proofs.search.Tie as tie
-use Rattle.find.proofs.search.Reads as reads
-use Rattle.find.proofs.search.Lts as lts
-use Rattle.find.proofs.Walk.advance.Reads as advance-reads
-use Rattle.find.proofs.held.Reads as held-reads
 
--- src/lib.rt:142:16
 sub-t6 : tie.Need-sub-t6
 sub-t6 c = search needs
 
--- src/lib.rt:145:9
 advance-requires : tie.Need-advance-requires
 advance-requires c κs = let b = c .before in
     start-ready (b .args .rec .now) (b .args .x) (b .args .s) (b .pre .0) (b .pre .1) _ (omega arith)
     (λ j. omega (arith, c .shared-slice-known .given j)) (omega arith)
 
--- src/lib.rt:146:5
 held-requires : tie.Need-held-requires
 held-requires c κs = let b = c .before .before in
     let l = b .args .rec .now in
@@ -29,7 +22,6 @@ held-requires c κs = let b = c .before .before in
     let h = end-hops l (b .args .x) (b .args .s) (b .pre .0) (b .pre .1) _ (omega arith) (a .result) (a .ensures) in
     (b .pre .0 .sized, end-seat l (b .args .x) (b .args .s) (b .pre .0) (b .pre .1) _ (omega arith) (a .result) (a .ensures), omega arith)
 
--- src/lib.rt:136:1
 returns : tie.Need-returns
 returns c = let b = c .before .before .before in
     let a = c .before .advance in

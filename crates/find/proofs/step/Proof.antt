@@ -9,25 +9,16 @@ use Rattle.find.proofs.Read.{number-read}
 use Rattle.find.proofs.Steps.{step-side}
 use Rattle.find.proofs.step.Statement.{statement}
 use Rattle.find.proofs.step.Tie as tie
-use Rattle.find.proofs.step.Reads as reads
-use Rattle.find.proofs.step.Lts as lts
-use Rattle.find.proofs.along.Reads as along-reads
-use Rattle.find.proofs.side_of.Reads as side-of-reads
-use Rattle.record.proofs.number.Reads as number-reads
 
--- src/lib.rt:67:21
 number-requires : tie.Need-number-requires
 number-requires c κs = search needs
 
--- src/lib.rt:67:9
 side-of-requires : tie.Need-side-of-requires
 side-of-requires c κs = search needs
 
--- src/lib.rt:68:5
 along-requires : tie.Need-along-requires
 along-requires c κs = search needs
 
--- src/lib.rt:63:1
 returns : tie.Need-returns
 returns c = let b = c .before .before .before .before in
     let l = b .args .rec .now in

@@ -37,7 +37,6 @@ descend-at t = and 1 descend-kinds.ps (is 1 descend-kinds.ps μ-descend t) desce
 abbrev descend-below : ℕ → In 1 descend-kinds.ps
 descend-below t = and 1 descend-kinds.ps (falls 1 descend-kinds.ps _<_ μ-descend t) descend.Pre
 
--- src/lib.rt:80:12
 advance-number-requires : (t : ℕ) → advance-lts.Need-number-requires (
   number-reads.Asked,
   number-reads.Learnt,
@@ -55,7 +54,6 @@ advance-number-requires t c κs = let b = c .before in
     let h = b .pre .1 in
     (h .fit .sized, lot-seat l x w h)
 
--- src/lib.rt:81:13
 advance-returns : (t : ℕ) → advance-lts.Need-returns (
   number-reads.Asked,
   number-reads.Learnt,
@@ -73,7 +71,6 @@ advance-returns t c = let b = c .before .before .before in
     let h = b .pre .1 in
     stop-walked l x w h (number-read l (w .seat) (c .before .number .result) (lot-seat l x w h) (c .before .number .ensures) ∙ c .if1 .taken)
 
--- src/lib.rt:83:13
 advance-step-requires : (t : ℕ) → advance-lts.Need-step-requires (
   number-reads.Asked,
   number-reads.Learnt,
@@ -96,7 +93,6 @@ advance-step-requires t c κs = let b = c .before .before .before in
           (sym (number-read l (w .seat) (c .before .number .result) (lot-seat l x w h) (c .before .number .ensures)) ∙ e),
     )
 
--- src/lib.rt:88:23
 advance-add-t12 : (t : ℕ) → advance-lts.Need-add-t12 (
   number-reads.Asked,
   number-reads.Learnt,
@@ -115,7 +111,6 @@ advance-add-t12 t c = let b = c .before .before .before .before .before in
     let q = move-fits l x w h (c .before .step .result) (c .if2 .taken) (c .before .step .ensures) in
     omega arith
 
--- src/lib.rt:90:13
 advance-advance-requires : (t : ℕ) → advance-lts.Need-advance-requires (
   number-reads.Asked,
   number-reads.Learnt,
@@ -135,7 +130,6 @@ advance-advance-requires t c κs = let b = c .before .before .before .before .be
     let d = move-less l x w h y (c .if2 .taken) (c .before .step .ensures) in
     (omega (arith, b .pre .0), move-ready l x w h y (c .if2 .taken) (c .before .step .ensures) _ (omega arith))
 
--- src/lib.rt:92:13
 advance-descend-requires : (t : ℕ) → advance-lts.Need-descend-requires (
   number-reads.Asked,
   number-reads.Learnt,
@@ -153,7 +147,6 @@ advance-descend-requires t c κs = let b = c .before .before .before .before .be
     let h = b .pre .1 in
     (omega (arith, b .pre .0), (h, to-drop l x w h (c .before .step .result) (c .if2 .left) (c .before .step .ensures)))
 
--- src/lib.rt:73:5
 advance-returns-2 : (t : ℕ) → advance-lts.Need-returns-2 (
   number-reads.Asked,
   number-reads.Learnt,
@@ -171,7 +164,6 @@ advance-returns-2 t c = let b = c .before .before .before .before .before .befor
     let h = b .pre .1 in
     move-walked l x w h (c .before .before .step .result) (c .before .if2 .taken) (c .before .before .step .ensures) (c .advance .result) (c .advance .ensures)
 
--- src/lib.rt:73:5
 advance-returns-3 : (t : ℕ) → advance-lts.Need-returns-3 (
   number-reads.Asked,
   number-reads.Learnt,
@@ -184,7 +176,6 @@ advance-returns-3 : (t : ℕ) → advance-lts.Need-returns-3 (
 ) (advance-at t) advance.Post
 advance-returns-3 t c = c .descend .ensures
 
--- src/lib.rt:105:13
 descend-returns :
     (t : ℕ) → descend-lts.Need-returns (advance-below t, advance.Post) (descend-at t) descend.Post
 descend-returns t c = let b = c .before .before in
@@ -194,12 +185,10 @@ descend-returns t c = let b = c .before .before in
     let h = b .pre .1 in
     end-walked l x w (h .0) (h .1) (c .if1 .taken)
 
--- src/lib.rt:109:20
 descend-sub-t9 :
     (t : ℕ) → descend-lts.Need-sub-t9 (advance-below t, advance.Post) (descend-at t) descend.Post
 descend-sub-t9 t c = omega arith
 
--- src/lib.rt:112:9
 descend-advance-requires : (t : ℕ) → descend-lts.Need-advance-requires (
   advance-below t,
   advance.Post,
@@ -211,7 +200,6 @@ descend-advance-requires t c κs = let b = c .before .before in
     let h = b .pre .1 in
     (omega (arith, b .pre .0, c .if1 .left), drop-ready l x w (h .0) (h .1) (c .if1 .left))
 
--- src/lib.rt:97:5
 descend-returns-2 :
     (t : ℕ) →
     descend-lts.Need-returns-2 (advance-below t, advance.Post) (descend-at t) descend.Post

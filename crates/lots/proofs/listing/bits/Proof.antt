@@ -5,25 +5,22 @@ use Rattle.lots.proofs.listing.bits.Statement.{statement}
 use Rattle.lots.proofs.listing.bits.Tie as tie
 
 abbrev Inv-loop : tie.InvT-loop
-Inv-loop k p j₀ j = j ≤ k
+Inv-loop rec s k j₀ j = j ≤ k
 
 abbrev μ-loop : tie.MeasureT-loop
-μ-loop k p j₀ j = k - j
+μ-loop rec s k j₀ j = k - j
 
 loop-holds : tie.Need-loop-holds Inv-loop μ-loop
 loop-holds c = search needs
 
-sub-bit : tie.Need-sub-bit Inv-loop μ-loop
-sub-bit c = search needs
-
-sub-bit-2 : tie.Need-sub-bit-2 Inv-loop μ-loop
-sub-bit-2 c = search needs
-
-shr-bit : tie.Need-shr-bit Inv-loop μ-loop
-shr-bit c = search needs
+vector-requires : tie.Need-vector-requires Inv-loop μ-loop
+vector-requires c κs = search needs
 
 bit-requires : tie.Need-bit-requires Inv-loop μ-loop
 bit-requires c κs = search needs
+
+number-requires : tie.Need-number-requires Inv-loop μ-loop
+number-requires c κs = search needs
 
 add-j : tie.Need-add-j Inv-loop μ-loop
 add-j c = search needs
@@ -40,4 +37,14 @@ returns c = tt
 pub bits-spec : {M : Type 1} → statement M
 bits-spec =
     tie.close
-    (tie.spec Inv-loop μ-loop loop-holds sub-bit sub-bit-2 shr-bit bit-requires add-j loop-less loop-again returns)
+    (tie.spec
+    Inv-loop
+    μ-loop
+    loop-holds
+    vector-requires
+    bit-requires
+    number-requires
+    add-j
+    loop-less
+    loop-again
+    returns)

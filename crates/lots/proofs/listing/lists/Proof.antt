@@ -1,14 +1,15 @@
 -- `listing::lists` is safe and ends. Assumes nothing.
 use Prim.Native.Nat.{_-_, _≤_}
+use Rattle.record.specs.Layout.{levels}
 use borrow.Author.Needs.{needs}
 use Rattle.lots.proofs.listing.lists.Statement.{statement}
 use Rattle.lots.proofs.listing.lists.Tie as tie
 
 abbrev Inv-loop : tie.InvT-loop
-Inv-loop rec k₀ k = k ≤ 9
+Inv-loop rec k₀ k = k ≤ levels
 
 abbrev μ-loop : tie.MeasureT-loop
-μ-loop rec k₀ k = 9 - k
+μ-loop rec k₀ k = levels - k
 
 loop-holds : tie.Need-loop-holds Inv-loop μ-loop
 loop-holds c = search needs

@@ -1,14 +1,15 @@
 -- `listing::numbers` is safe and ends: the turns are counted. Assumes nothing.
 use Prim.Native.Nat.{_-_, _≤_}
+use Rattle.record.specs.Layout.{seats}
 use borrow.Author.Needs.{needs}
 use Rattle.lots.proofs.listing.numbers.Statement.{statement}
 use Rattle.lots.proofs.listing.numbers.Tie as tie
 
 abbrev Inv-loop : tie.InvT-loop
-Inv-loop rec s k at₀ counter₀ at counter = counter ≤ 64
+Inv-loop rec s k at₀ counter₀ at counter = counter ≤ seats
 
 abbrev μ-loop : tie.MeasureT-loop
-μ-loop rec s k at₀ counter₀ at counter = 64 - counter
+μ-loop rec s k at₀ counter₀ at counter = seats - counter
 
 loop-holds : tie.Need-loop-holds Inv-loop μ-loop
 loop-holds c = search needs

@@ -1,8 +1,8 @@
--- `soundness::links::on_side` meets its contract. Assumes nothing.
+-- `graph::on_side` meets its contract. Assumes nothing.
 use borrow.Author.Tests.{eq-eqb, ne-eqb}
 use Rattle.graph.specs.Side.{onSide}
-use Rattle.soundness.proofs.links.on_side.Statement.{statement}
-use Rattle.soundness.proofs.links.on_side.Tie as tie
+use Rattle.graph.proofs.on_side.Statement.{statement}
+use Rattle.graph.proofs.on_side.Tie as tie
 
 returns : tie.Need-returns
 unfolding onSide

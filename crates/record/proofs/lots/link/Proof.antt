@@ -1,8 +1,8 @@
--- `rules::reads::link` meets its contract. Assumes nothing.
+-- `record::lots::link` meets its contract. Assumes nothing.
 use borrow.Author.Needs.{needs}
 use Rattle.record.proofs.Form.{meaning-link}
-use Rattle.rules.proofs.reads.link.Statement.{statement}
-use Rattle.rules.proofs.reads.link.Tie as tie
+use Rattle.record.proofs.lots.link.Statement.{statement}
+use Rattle.record.proofs.lots.link.Tie as tie
 
 link-requires : tie.Need-link-requires
 link-requires c κs = search needs

@@ -1,8 +1,8 @@
--- `rules::reads::share` meets its contract. Assumes nothing.
+-- `record::lots::share` meets its contract. Assumes nothing.
 use borrow.Author.Needs.{needs}
 use Rattle.record.proofs.Form.{meaning-vector}
-use Rattle.rules.proofs.reads.share.Statement.{statement}
-use Rattle.rules.proofs.reads.share.Tie as tie
+use Rattle.record.proofs.lots.share.Statement.{statement}
+use Rattle.record.proofs.lots.share.Tie as tie
 
 vector-requires : tie.Need-vector-requires
 vector-requires c κs = search needs

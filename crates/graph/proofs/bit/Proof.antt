@@ -1,11 +1,11 @@
--- `rules::reads::bit` meets its contract. Assumes nothing.
+-- `graph::bit` meets its contract. Assumes nothing.
 use Prim.Native.Nat.{_-_, suc}
 use mathlib.Core.Path.{_≡_}
 use native.Mathlib.Omega.{arith}
 use borrow.Author.Needs.{needs}
 use Rattle.graph.specs.Vector.{bit, width}
-use Rattle.rules.proofs.reads.bit.Statement.{statement}
-use Rattle.rules.proofs.reads.bit.Tie as tie
+use Rattle.graph.proofs.bit.Statement.{statement}
+use Rattle.graph.proofs.bit.Tie as tie
 
 sub-result : tie.Need-sub-result
 sub-result c = search needs
@@ -22,7 +22,7 @@ cast-result-2 c = search needs
 returns : tie.Need-returns
 unfolding bit
 returns c =
-    let e : 7 - c .args .k ≡ width - suc (c .args .k) = omega arith in
+    let e : width - 1 - c .args .k ≡ width - suc (c .args .k) = omega arith in
     (rw e, omega arith)
 
 pub bit-spec : {M : Type 1} → statement M

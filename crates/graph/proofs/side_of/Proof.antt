@@ -1,9 +1,9 @@
--- `find::side_of` meets its contract. Assumes nothing.
+-- `graph::side_of` meets its contract. Assumes nothing.
 use native.Mathlib.Omega.{arith}
 use borrow.Author.Tests.{lt-ltb, le-ltb}
 use Rattle.graph.specs.Side.{sideOf}
-use Rattle.find.proofs.side_of.Statement.{statement}
-use Rattle.find.proofs.side_of.Tie as tie
+use Rattle.graph.proofs.side_of.Statement.{statement}
+use Rattle.graph.proofs.side_of.Tie as tie
 
 returns : tie.Need-returns
 unfolding sideOf
