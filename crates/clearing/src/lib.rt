@@ -1,14 +1,14 @@
 // Turn (document 01, "Calls"): into phase clearing, or out of it.
 ghost use mathlib.Core.Path.{_≡_};
-ghost use Prim.Native.Nat.{_+_, _*_, _-_, _<_};
-ghost use lib.ListN.{length, getD};
+ghost use Prim.Native.Nat.{_+_, _<_};
+ghost use lib.ListN.{length};
 ghost use Rattle.graph.specs.Vector.{width};
 ghost use Rattle.base.specs.Loops.{any};
 ghost use Rattle.protocol.specs.Numbering.{somePending};
 ghost use Rattle.protocol.specs.Table.{turn as turning};
 ghost use Rattle.protocol.specs.State.{leaves};
 ghost use Rattle.protocol.specs.Calls.{farewell, farewells, accept};
-ghost use Rattle.record.specs.Layout.{seats, levels, size, entryAt};
+ghost use Rattle.record.specs.Layout.{seats, levels, size};
 ghost use Rattle.record.specs.Meaning.{seatsIn, meaning};
 ghost use Rattle.graph.specs.Side.{sideOfNumber};
 ghost use Rattle.record.specs.Call.{callRefusal, called};
