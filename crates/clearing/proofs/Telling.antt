@@ -1,16 +1,14 @@
 -- Messages sent one after the other, and GOING from a lot to a link. Assumes nothing.
-use Prim.Native.Nat.{ℕ, zero, suc, _+_, _-_, _≤_, _<_}
-use mathlib.Core.Path.{_≡_, refl, sym, ap, _∙_}
-use mathlib.Core.Option.{Option, none, some}
+use Prim.Native.Nat.{ℕ, _+_, _-_, _≤_, _<_}
+use mathlib.Core.Path.{_≡_, sym, ap, _∙_}
+use mathlib.Core.Option.{none}
 use mathlib.Core.Bool.{true, false}
 use mathlib.Core.List.{List, [], _++_, append-assoc}
-use native.Mathlib.Omega.{arith}
 use native.Mathlib.Numerals.{add-one}
 use lib.Dec.{T}
-use lib.ListN.{getD}
 use borrow.Author.Tests.{lt-ltb}
 use Rattle.memory.specs.Bits.{setBit}
-use Rattle.graph.specs.Side.{Side, left, right, opp}
+use Rattle.graph.specs.Side.{Side, left, right, opp, sideOfNumber}
 use Rattle.graph.specs.Vector.{width}
 use Rattle.base.proofs.Tests.{true-T}
 use Rattle.protocol.specs.Message.{Msg, going}
@@ -20,7 +18,6 @@ use Rattle.protocol.specs.State.{Meaning, leaves}
 use Rattle.protocol.specs.pages.Turn.{each, farewell}
 use Rattle.record.specs.Layout.{seats, levels, pendingFrom}
 use Rattle.record.specs.Meaning.{linkOf, seatsIn, meaning, bytesOf}
-use Rattle.graph.specs.Side.{sideOfNumber}
 use Rattle.record.proofs.Values.{linkOf-linkByte}
 use Rattle.record.proofs.Form.{meaning-link}
 use Rattle.record.proofs.Links.{linkOf-some, linkOf-none, side-opp}

@@ -1,7 +1,7 @@
 // Turn (document 01, "Calls"): into phase clearing, or out of it.
 ghost use mathlib.Core.Path.{_≡_};
-ghost use Prim.Native.Nat.{_+_, _-_, _<_};
-ghost use lib.ListN.{length, getD};
+ghost use Prim.Native.Nat.{_+_, _<_};
+ghost use lib.ListN.{length};
 ghost use Rattle.graph.specs.Vector.{width};
 ghost use Rattle.base.specs.Loops.{any};
 ghost use Rattle.protocol.specs.Numbering.{somePending};

@@ -56,7 +56,11 @@ pub fn is_member(rec: &[u8], s: usize) -> bool
     requires { ⌜ (length (now rec) ≡ size) × (s < seats) ⌝ }
     ensures { λ r. ⌜ r ≡ member (seatsIn (now (rec .entry))) s ⌝ }
 {
-    if is_clearing(rec) { is_staying(rec, s) } else { is_seated(rec, s) }
+    if is_clearing(rec) {
+        is_staying(rec, s)
+    } else {
+        is_seated(rec, s)
+    }
 }
 
 // The side of the lot on seat x on which that on seat y lies.
