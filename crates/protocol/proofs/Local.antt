@@ -16,7 +16,7 @@ use Rattle.protocol.specs.Calls.{seatsAfter, sends, takes}
 use Rattle.protocol.specs.pages.Deliver.{rule, deliverySends, sameSide, applied, deliveryLinks}
 use Rattle.protocol.specs.Page.{isTaken, pendingAfter}
 use Rattle.protocol.specs.Calls.{linksAfter, accept}
-use Rattle.protocol.specs.Local.{Names, by-link, by-meet, by-probe, by-seek, by-found, Agree}
+use Rattle.protocol.specs.Local.{Names, by-link, by-meet, by-probe, by-seek, by-found, AgreeFor}
 use Rattle.protocol.proofs.Message.{named-name}
 use Rattle.protocol.proofs.Calls.{applied-other}
 
@@ -40,7 +40,7 @@ module _ (W : ℕ) (num num′ vec vec′ : ℕ → ℕ) (e : Entry) where
   effect-local (none-found t l d) n v = refl
 
 -- the same change, and the same messages sent
-pub delivery-local : (W : ℕ) (M M′ : Meaning) (m : Msg) → Agree M M′ m → rule W M m ≡ rule W M′ m
+pub delivery-local : (W : ℕ) (M M′ : Meaning) (m : Msg) → AgreeFor M M′ m → rule W M m ≡ rule W M′ m
 unfolding rule
 delivery-local W M M′ m g =
     let r = M .seats in
@@ -78,7 +78,7 @@ module _ (N W : ℕ) (M : Meaning) (m : Msg) where
   }
 
 -- the same entry of `to` is left
-pub entry-local : (N W : ℕ) (M M′ : Meaning) (m : Msg) → Agree M M′ m
+pub entry-local : (N W : ℕ) (M M′ : Meaning) (m : Msg) → AgreeFor M M′ m
     → entry (accept N W M (deliver (nameOf m))) (nameOf m .to) ≡ entry (accept N W M′ (deliver (nameOf m))) (nameOf m .to)
 unfolding accept seatsAfter
 entry-local N W M M′ m g = λ i. record {

@@ -17,7 +17,7 @@ pub data Names (e : Entry) : Msg → ℕ → Type 0 where
   by-found : {t a l : ℕ} → Names e (found t a l) a
 
 -- two meanings agree on what the delivery of a message may depend on
-pub record Agree (M M′ : Meaning) (m : Msg) : Type 0 where
+pub record AgreeFor (M M′ : Meaning) (m : Msg) : Type 0 where
   pub entries : entry M (nameOf m .to) ≡ entry M′ (nameOf m .to)
   pub numbers : (z : ℕ) → Names (entry M (nameOf m .to)) m z → M .seats .number z ≡ M′ .seats .number z
   pub vectors : (z : ℕ) → Names (entry M (nameOf m .to)) m z → M .seats .vector z ≡ M′ .seats .vector z
