@@ -64,7 +64,7 @@ foundsFrom = seeksFrom + pairs seats width levels
 abbrev nonesFrom : ℕ
 nonesFrom = foundsFrom + pairs seats width levels
 
--- from digits to numbers
+-- from the digits of a place in its block to the numbers
 module _ {i : ℕ} {r : Message} where
   pub meet-stands : i < probesFrom → numbers r ≡ name 1 (i / levels / seats) (i / levels % seats) (i % levels) 0 → Stands i r
   unfolding place
@@ -119,12 +119,14 @@ module _ {i : ℕ} {r : Message} where
       exists-stands (none-found (j / 2 / levels) (j / 2 % levels) (sideOfNumber (j % 2)))
       (in-none-found (omega arith) (omega arith)) (omega arith) (rw d n)
 
--- from numbers to the message
+-- a message found under a condition
 when-some : (b : Bool) {m n : Msg} → when b m ≡ some n → n ≡ m
 when-some true e = sym (some-inj e)
 when-some false e = none-some refl e
 
+-- from numbers to the message
 module _ {i : ℕ} {r : Message} (s : Stands i r) where
+  -- its numbers after the kind
   abbrev t : ℕ
   t = r .to
 
@@ -137,9 +139,11 @@ module _ {i : ℕ} {r : Message} (s : Stands i r) where
   abbrev d : ℕ
   d = r .side
 
+  -- they name it
   pub stands-named : named (numbers r) ≡ some (messageAt seats width i)
   stands-named = ap named (s .is-named) ∙ named-name (messageAt seats width i)
 
+  -- and so, by its kind
   pub stands-meet : r .kind ≡ 1 → messageAt seats width i ≡ meet t a l
   stands-meet k = when-some (eqb d 0) (sym (named-meet t a l d k) ∙ stands-named)
 

@@ -18,7 +18,7 @@ use record::PENDING;
 use record::SEATS;
 use record::WIDTH;
 
-// How many messages name two lots and a level, or a lot, a level and a side; and how many PULL there are.
+// How many messages of a kind name two lots and a level, or a lot, a level and a side.
 const PAIRS: usize = SEATS * SEATS * LEVELS;
 
 const SIDES: usize = SEATS * LEVELS * 2;
