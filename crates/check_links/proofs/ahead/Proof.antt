@@ -50,8 +50,8 @@ returns-2 c =
     let o = c .before .before .before .before in
     let b = o .before .before in
     let s = b .before .before .args in
-    run-found (s .rec .now) (s .k) (bit width (s .k) (seatsIn (s .rec .now) .vector (s .x))) (seats - o .loop .counter) (o .loop .y) (c .before .before .if1 .left)
-    (sym (c .before .bit-of2 .ensures) ∙ c .if2 .taken ∙ b .bit-of .ensures)
+    run-found (s .rec .now) (s .k) (bit width (s .k) (seatsIn (s .rec .now) .vector (s .x))) (seats - o .loop .counter) (o .loop .y)
+    (c .before .before .if1 .left) (sym (c .before .bit-of2 .ensures) ∙ c .if2 .taken ∙ b .bit-of .ensures)
     ∙ o .loop .inv .1
 
 link-requires-2 : tie.Need-link-requires-2 Inv-loop μ-loop
@@ -75,8 +75,8 @@ loop-again c =
     let e : suc rest ≡ seats - o .loop .counter = omega arith in
     let y = c .before .before .bit-of2 in
     let on = run-on (s .rec .now) (s .k) (bit width (s .k) (seatsIn (s .rec .now) .vector (s .x))) rest (o .loop .y) (c .link2 .result)
-        (c .before .before .before .if1 .left) (search needs)
-        (λ q. c .before .if2 .left (y .ensures ∙ q ∙ sym (b .bit-of .ensures))) (c .link2 .ensures) in
+    (c .before .before .before .if1 .left) (search needs)
+    (λ q. c .before .if2 .left (y .ensures ∙ q ∙ sym (b .bit-of .ensures))) (c .link2 .ensures) in
     (search needs, (rw e at on) ∙ o .loop .inv .1)
 
 returns-3 : tie.Need-returns-3 Inv-loop μ-loop
