@@ -19,7 +19,7 @@ use crate::rules::Rules;
 use crate::search::{Found, Search};
 use layout::*;
 use record::{entries_mut, entry_mut, number_of, send, take_away, Record};
-use sound::{seats, Order, Sound};
+use sound::{seats, Sound};
 
 pub use bytes::{from_bytes, messages, to_bytes};
 pub use layout::{message_at, place_of, SIZE};
@@ -193,15 +193,10 @@ pub fn find(bytes: &[u8], start: u8, scanned: u64) -> Result<Found, Refusal> {
 /// Whether the members form one skip graph, by Constraints 1 to 6.
 /// Refusals: 1, 2.
 pub fn check(bytes: &[u8]) -> Result<bool, Refusal> {
-    let mut order = Order::new();
-    let sound = sound::test_in_order(bytes, &mut order)?;
-    let mut members = &order.seats[..order.count];
-    let mut staying = [0; SEATS];
+    let sound = sound::test(bytes)?;
+    let mut members = sound.seated;
     if sound.record.is_clearing() {
-        let stays = |seat: &&u8| sound.leaving >> **seat & 1 == 0;
-        let count = members.iter().filter(stays).zip(&mut staying);
-        let count = count.map(|(seat, place)| *place = *seat).count();
-        members = &staying[..count];
+        members &= !sound.leaving;
     }
     Ok(check::is_graph(sound.record, members))
 }

@@ -1,34 +1,55 @@
 //! The check: whether the links of the members are those of their graph.
 //!
-//! Constraints 1 to 6 with one level-0 list say the same (`graph` tests that),
-//! and the definition is tested faster: going through the members in order, a
-//! link must be the last one met so far of the same list.
+//! Constraints 1 to 6 with one level-0 list say the same (`graph` tests that).
+//! They are tested from link to link, without a table: the links of members
+//! name members that link back, a right link above level 0 is the first lot to
+//! the right on the level below that has the next bit, and at most one member
+//! has no left link at level 0.
 
 use super::layout::*;
 use super::record::Record;
-use crate::graph::{Side, BITS, LEVELS};
+use crate::graph::{Side, BITS, LEVELS, SEATS, SIDES};
 use crate::rules::Entries;
 
-/// `members` ascend by number.
-pub fn is_graph(record: Record, members: &[u8]) -> bool {
-    let ascending = members.iter().copied();
-    links_are_last_met(record, ascending.clone(), Side::Left)
-        && links_are_last_met(record, ascending.rev(), Side::Right)
+/// Bit s of `members` is set if the lot on seat s is one.
+pub fn is_graph(record: Record, members: u64) -> bool {
+    let lots = || (0..SEATS as u8).filter(|lot| is_in(members, *lot));
+    let starts = lots().filter(|lot| link(record, *lot, 0, Side::Left) == NO_LINK);
+    starts.count() <= 1
+        && lots().all(|lot| links_back(record, members, lot))
+        && lots().all(|lot| right_links_follow(record, lot))
 }
 
-fn links_are_last_met(record: Record, members: impl Iterator<Item = u8>, side: Side) -> bool {
-    // A list's place is its bits with a 1 in front.
-    let mut last = [NO_LINK; 2 << BITS];
-    for seat in members {
-        let entry = record.entry(seat);
-        let list = 1 << BITS | usize::from(record.vector(seat));
-        for level in 0..LEVELS {
-            let last = &mut last[list >> (BITS - level)];
-            if entry[link_at(level, side as usize)] != *last {
-                return false;
-            }
-            *last = seat;
+#[inline]
+fn is_in(members: u64, seat: u8) -> bool {
+    members >> (seat % SEATS as u8) & 1 == 1
+}
+
+#[inline]
+fn link(record: Record, seat: u8, level: usize, side: Side) -> u8 {
+    record.entry(seat)[link_at(level, side as usize)]
+}
+
+fn links_back(record: Record, members: u64, lot: u8) -> bool {
+    (0..LEVELS).all(|level| {
+        SIDES.iter().all(|side| {
+            let other = link(record, lot, level, *side);
+            other == NO_LINK
+                || is_in(members, other) && link(record, other, level, side.away()) == lot
+        })
+    })
+}
+
+/// Where links have their links back, no lot is passed twice on a level: a run
+/// passes only lots that have the other bit.
+fn right_links_follow(record: Record, lot: u8) -> bool {
+    (0..BITS).all(|level| {
+        let next_bit = |seat| record.vector(seat) >> (BITS - 1 - level) & 1;
+        let bit = next_bit(lot);
+        let mut ahead = link(record, lot, level, Side::Right);
+        while ahead != NO_LINK && next_bit(ahead) != bit {
+            ahead = link(record, ahead, level, Side::Right);
         }
-    }
-    true
+        link(record, lot, level + 1, Side::Right) == ahead
+    })
 }

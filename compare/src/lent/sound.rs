@@ -16,13 +16,13 @@ pub struct Sound<'a> {
 }
 
 /// Seats ascending by the numbers of their lots.
-pub struct Order {
-    pub seats: [u8; SEATS],
-    pub count: usize,
+struct Order {
+    seats: [u8; SEATS],
+    count: usize,
 }
 
 impl Order {
-    pub fn new() -> Order {
+    fn new() -> Order {
         Order {
             seats: [0; SEATS],
             count: 0,
@@ -33,25 +33,20 @@ impl Order {
 /// Refusals: 1, 2.
 #[inline]
 pub fn test(bytes: &[u8]) -> Result<Sound<'_>, Refusal> {
-    test_in_order(bytes, &mut Order::new())
-}
-
-/// As [`test`], and leaves the order of the seated lots.
-pub fn test_in_order<'a>(bytes: &'a [u8], order: &mut Order) -> Result<Sound<'a>, Refusal> {
     let bytes: &Bytes = bytes.try_into().map_err(|_| Refusal::WrongSize)?;
-    let record = Record(bytes);
-    sound(record, order).ok_or(Refusal::Unsound)
+    sound(Record(bytes)).ok_or(Refusal::Unsound)
 }
 
-fn sound<'a>(record: Record<'a>, order: &mut Order) -> Option<Sound<'a>> {
+fn sound(record: Record) -> Option<Sound> {
     let phase = match record.0[PHASE_AT] {
         0 => Phase::Open,
         1 => Phase::Clearing,
         _ => return None,
     };
     let lots = Lots::read(record)?;
-    lots.sort_into(order)?;
-    lots.links_are_sound(record, order).then_some(())?;
+    let mut order = Order::new();
+    lots.sort_into(&mut order)?;
+    lots.links_are_sound(record, &order).then_some(())?;
     let pending = lots.sound_pending(record, phase)?;
     Some(Sound {
         record,

@@ -11,15 +11,16 @@ use lib.ListN.{getD}
 use borrow.Author.Tests.{ne-eqb, lt-leb, le-leb}
 use Rattle.base.proofs.Cases.{lt-or-ge, eq-or-ne, and-true, and-false}
 use Rattle.base.specs.Loops.{oneIf}
-use Rattle.graph.specs.Side.{sideOfNumber}
+use Rattle.memory.specs.Bytes.{numberAt}
+use Rattle.graph.specs.Side.{left, sideOfNumber}
 use Rattle.graph.specs.Vector.{width, bit}
 use Rattle.base.proofs.Tests.{T-true}
 use Rattle.protocol.specs.State.{oneComponent, seated, member, members}
-use Rattle.record.specs.Layout.{seats, levels, phaseAt, stateAt, vectorAt, entryAt}
+use Rattle.record.specs.Layout.{seats, levels, vectorSize, phaseAt, stateAt, vectorFrom, linkAt}
 use Rattle.record.specs.Meaning.{linkOf, seatsIn, meaning}
 use Rattle.search.specs.Check.{sameLink}
 use Rattle.search.specs.inner.LinkCheck.{backOf, startsAt}
-use Rattle.record.proofs.SeatBytes.{clearing-byte, seated-byte, stays-byte, vector-byte}
+use Rattle.record.proofs.SeatBytes.{clearing-byte, seated-byte, stays-byte, vector-bytes}
 use Rattle.record.proofs.Links.{linkOf-some, linkOf-none, side-opp, link-read}
 
 -- a test of those that m picks, which r says: one that it does not pick, and one that it does
@@ -76,20 +77,20 @@ module _ (l : List ℕ) where
   module _ (x k d y : ℕ) (h : x < seats) (g : k < levels) (a : d < 2) (e : y ≡ getD l (linkAt x k (sideOfNumber d)) 0) where
     pub back-none : seats ≤ y → true ≡ backOf (members oneComponent (seatsIn l)) (meaning l .link) x k (sideOfNumber d) (meaning l .link x k (sideOfNumber d))
     unfolding backOf
-    back-none q = rw (link-read l x k d y h g a e, linkOf-none y q)
+    back-none q = rw (link-read l x k (sideOfNumber d) y h g e, linkOf-none y q)
 
     pub back-some : y < seats → backOf (members oneComponent (seatsIn l)) (meaning l .link) x k (sideOfNumber d) (meaning l .link x k (sideOfNumber d))
         ≡ member (seatsIn l) y && eqb (getD l (linkAt y k (sideOfNumber (1 - d))) 0) x
     unfolding backOf
-    back-some q = rw (link-read l x k d y h g a e, linkOf-some y q, ← side-opp d a, link-read l y k (1 - d) _ q g (omega arith) refl, same-seat _ x h)
+    back-some q = rw (link-read l x k (sideOfNumber d) y h g e, linkOf-some y q, ← side-opp d a, link-read l y k (sideOfNumber (1 - d)) _ q g refl, same-seat _ x h)
 
   -- a start
   pub starts-byte : (x : ℕ) → x < seats
-      → startsAt (members oneComponent (seatsIn l)) (meaning l .link) x ≡ member (seatsIn l) x && leb seats (getD l (linkAt x 0 (sideOfNumber 0)) 0)
+      → startsAt (members oneComponent (seatsIn l)) (meaning l .link) x ≡ member (seatsIn l) x && leb seats (getD l (linkAt x 0 left) 0)
   unfolding startsAt
-  starts-byte x h = rw (link-read l x 0 0 _ h (omega arith) (omega arith) refl, same-none (getD l (linkAt x 0 (sideOfNumber 0)) 0))
+  starts-byte x h = rw (link-read l x 0 left _ h (omega arith) refl, same-none (getD l (linkAt x 0 left) 0))
 
   -- bit k of the vector
-  pub bit-byte : (s k v : ℕ) → s < seats → v ≡ getD l (vectorAt s) 0 → v / 2 ^ (width - 1 - k) % 2 ≡ oneIf (bit width k (seatsIn l .vector s))
+  pub bit-byte : (s k v : ℕ) → s < seats → v ≡ numberAt l (vectorFrom s) vectorSize → v / 2 ^ (width - 1 - k) % 2 ≡ oneIf (bit width k (seatsIn l .vector s))
   unfolding bit
-  bit-byte s k v h e = let w : width - 1 - k ≡ width - suc k = omega arith in rw (vector-byte l s h, ← e, w) (odd-one (v / 2 ^ (width - suc k)))
+  bit-byte s k v h e = let w : width - 1 - k ≡ width - suc k = omega arith in rw (vector-bytes l s h, ← e, w) (odd-one (v / 2 ^ (width - suc k)))

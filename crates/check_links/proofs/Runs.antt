@@ -1,5 +1,5 @@
 -- The run to the right of a lot, step by step by the bytes that the code reads, and the right link that it is compared with. Assumes nothing.
-use Prim.Native.Nat.{ℕ, zero, suc, _+_, _-_, _*_, _≤_, _<_}
+use Prim.Native.Nat.{ℕ, zero, suc, _+_, _*_, _≤_, _<_}
 use mathlib.Core.Path.{_≡_, refl}
 use mathlib.Core.Logic.{_≢_}
 use mathlib.Core.Option.{Option}
@@ -13,7 +13,7 @@ use Rattle.base.specs.Loops.{oneIf}
 use Rattle.graph.specs.Side.{right}
 use Rattle.graph.specs.Vector.{width, sameBit, bit}
 use Rattle.protocol.specs.State.{oneComponent, members}
-use Rattle.record.specs.Layout.{seats, levels, entryAt}
+use Rattle.record.specs.Layout.{seats, levels, linkAt}
 use Rattle.record.specs.Meaning.{linkOf, seatsIn, meaning}
 use Rattle.record.proofs.Links.{linkOf-some, linkOf-none, link-read}
 use Rattle.search.specs.Check.{sameLink}
@@ -50,20 +50,20 @@ module _ (l : List ℕ) (k : ℕ) (b : Bool) where
   run-found (suc n) y q e = rw (linkOf-some y q, bits-same b (bit width k (seatsIn l .vector y)) e)
 
   pub run-on : (n y z : ℕ) → y < seats → k < levels → oneIf (bit width k (seatsIn l .vector y)) ≢ oneIf b
-      → z ≡ getD l (entryAt y + 10 + 2 * k + 1) 0 → runOf n (linkOf z) ≡ runOf (suc n) (linkOf y)
+      → z ≡ getD l (linkAt y k right) 0 → runOf n (linkOf z) ≡ runOf (suc n) (linkOf y)
   unfolding ahead
-  run-on n y z q g ne e = rw (linkOf-some y q, bits-differ b (bit width k (seatsIn l .vector y)) ne, link-read l y k 1 z q g (omega arith) e)
+  run-on n y z q g ne e = rw (linkOf-some y q, bits-differ b (bit width k (seatsIn l .vector y)) ne, link-read l y k right z q g e)
 
   pub run-end : (o : Option ℕ) → o ≡ runOf 0 o
   unfolding ahead
   run-end o = refl
 
 -- the right link of x one level above k: y is its byte, z what the run has found
-module _ (l : List ℕ) (x k y z : ℕ) (h : x < seats) (g : k < width) (e : y ≡ getD l (entryAt x + 10 + 2 * (k + 1) + 1) 0)
+module _ (l : List ℕ) (x k y z : ℕ) (h : x < seats) (g : k < width) (e : y ≡ getD l (linkAt x (k + 1) right) 0)
     (f : linkOf z ≡ aheadOf seats width (members oneComponent (seatsIn l)) (meaning l .link) x k) where
   above-byte : aboveOk seats width (members oneComponent (seatsIn l)) (meaning l .link) x k ≡ sameLink (linkOf y) (linkOf z)
   unfolding aboveOk
-  above-byte = rw (← add-one k, link-read l x (k + 1) 1 y h (omega arith) (omega arith) e, f)
+  above-byte = rw (← add-one k, link-read l x (k + 1) right y h (omega arith) e, f)
 
   pub above-none : seats ≤ z → leb seats y ≡ aboveOk seats width (members oneComponent (seatsIn l)) (meaning l .link) x k
   above-none q = rw (above-byte, linkOf-none z q, same-none y)

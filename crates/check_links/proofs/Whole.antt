@@ -15,7 +15,7 @@ use Rattle.protocol.specs.State.{oneComponent, seated, members}
 use Rattle.protocol.specs.Sound.{Sound}
 use Rattle.protocol.proofs.SoundFacts.{link-linked}
 use Rattle.protocol.proofs.Reached.{members-laws}
-use Rattle.record.specs.Layout.{seats, levels, size, entryAt}
+use Rattle.record.specs.Layout.{seats, levels, size, linkAt}
 use Rattle.record.specs.Meaning.{seatsIn, meaning}
 use Rattle.record.specs.Sound.{sound}
 use Rattle.record.specs.Reading.{recordRefusal}

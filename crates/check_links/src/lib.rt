@@ -74,7 +74,7 @@ fn backs_fit(rec: &[u8], x: usize, k: usize) -> bool
 // All links of x, if it is a member.
 fn lot_backs_fit(rec: &[u8], x: usize) -> bool
     requires { ⌜ (length (now rec) ≡ size) × (sound (now rec) ≡ true) × (x < seats) ⌝ }
-    ensures { λ r. ⌜ (let l = now (rec .entry) in r ≡ lotBacks seats width (members oneComponent (seatsIn l)) (meaning l .link) x) ⌝ }
+    ensures { λ r. ⌜ (let l = now (rec .entry) in r ≡ lotBacks width (members oneComponent (seatsIn l)) (meaning l .link) x) ⌝ }
 {
     if !is_member(rec, x) {
         return true;
@@ -89,7 +89,7 @@ fn lot_backs_fit(rec: &[u8], x: usize) -> bool
 
 fn all_backs_fit(rec: &[u8]) -> bool
     requires { ⌜ (length (now rec) ≡ size) × (sound (now rec) ≡ true) ⌝ }
-    ensures { λ r. ⌜ (let l = now (rec .entry) in r ≡ all seats (lotBacks seats width (members oneComponent (seatsIn l)) (meaning l .link))) ⌝ }
+    ensures { λ r. ⌜ (let l = now (rec .entry) in r ≡ all seats (lotBacks width (members oneComponent (seatsIn l)) (meaning l .link))) ⌝ }
 {
     for x in 0..SEATS {
         if !lot_backs_fit(rec, x) {

@@ -4,12 +4,12 @@ use Rattle.command.specs.Command.{Command, join, leave, deliver, turn, s
 use Rattle.command.specs.declared.Parsed.{Parsed}
 use Rattle.command.specs.declared.Parsed.the-variants.{Bad, Join, Leave, Deliver, Turn, Settle, Find, Print}
 
-abbrev pub commandOf : Parsed → Option Command
-commandOf Bad = none
-commandOf (Join s n v c) = some (join s n v c)
-commandOf (Leave s) = some (leave s)
-commandOf (Deliver k t a l d) = some (deliver k t a l d)
-commandOf Turn = some turn
-commandOf Settle = some settle
-commandOf (Find s n) = some (find s n)
-commandOf Print = some print
+abbrev pub asCommand : Parsed → Option Command
+asCommand Bad = none
+asCommand (Join s n v c) = some (join s n v c)
+asCommand (Leave s) = some (leave s)
+asCommand (Deliver k t a l d) = some (deliver k t a l d)
+asCommand Turn = some turn
+asCommand Settle = some settle
+asCommand (Find s n) = some (find s n)
+asCommand Print = some print

@@ -4,7 +4,7 @@ ghost use mathlib.Core.Path.{_≡_};
 ghost use mathlib.Core.List.{[], _∷_};
 ghost use lib.ListN.{drop};
 ghost use Rattle.command.specs.Command.{parsed, commandOf, fields, byteField, numberField};
-ghost use Rattle.command.specs.Answer.{commandOf};
+ghost use Rattle.command.specs.Answer.{asCommand};
 ghost use Rattle.command.specs.inner.Reading.{read, digitsField, numberRead, byteRead};
 
 const SPACE: u8 = b' ';
@@ -122,7 +122,7 @@ fn byte_at(line: &[u8], at: usize) -> Byte
 
 // `J seat number vector contact`
 fn join(line: &[u8]) -> Parsed
-    ensures { λ r. ⌜ commandOf r ≡ commandOf ((74 ∷ []) ∷ fields (drop 2 (now (line .entry)))) ⌝ }
+    ensures { λ r. ⌜ asCommand r ≡ commandOf ((74 ∷ []) ∷ fields (drop 2 (now (line .entry)))) ⌝ }
 {
     let Byte::More(seat, at_number) = byte_at(line, FIRST) else {
         return Parsed::Bad;
@@ -141,7 +141,7 @@ fn join(line: &[u8]) -> Parsed
 
 // `L seat`
 fn leave(line: &[u8]) -> Parsed
-    ensures { λ r. ⌜ commandOf r ≡ commandOf ((76 ∷ []) ∷ fields (drop 2 (now (line .entry)))) ⌝ }
+    ensures { λ r. ⌜ asCommand r ≡ commandOf ((76 ∷ []) ∷ fields (drop 2 (now (line .entry)))) ⌝ }
 {
     let Byte::Last(seat) = byte_at(line, FIRST) else {
         return Parsed::Bad;
@@ -151,7 +151,7 @@ fn leave(line: &[u8]) -> Parsed
 
 // `D kind to about level side`
 fn deliver(line: &[u8]) -> Parsed
-    ensures { λ r. ⌜ commandOf r ≡ commandOf ((68 ∷ []) ∷ fields (drop 2 (now (line .entry)))) ⌝ }
+    ensures { λ r. ⌜ asCommand r ≡ commandOf ((68 ∷ []) ∷ fields (drop 2 (now (line .entry)))) ⌝ }
 {
     let Byte::More(kind, at_to) = byte_at(line, FIRST) else {
         return Parsed::Bad;
@@ -173,7 +173,7 @@ fn deliver(line: &[u8]) -> Parsed
 
 // `F start number`
 fn find(line: &[u8]) -> Parsed
-    ensures { λ r. ⌜ commandOf r ≡ commandOf ((70 ∷ []) ∷ fields (drop 2 (now (line .entry)))) ⌝ }
+    ensures { λ r. ⌜ asCommand r ≡ commandOf ((70 ∷ []) ∷ fields (drop 2 (now (line .entry)))) ⌝ }
 {
     let Byte::More(start, at_number) = byte_at(line, FIRST) else {
         return Parsed::Bad;
@@ -186,7 +186,7 @@ fn find(line: &[u8]) -> Parsed
 
 // The command of a line that is one letter: `T`, `A` or `P`.
 fn alone(letter: u8) -> Parsed
-    ensures { λ r. ⌜ commandOf r ≡ commandOf ((letter ∷ []) ∷ []) ⌝ }
+    ensures { λ r. ⌜ asCommand r ≡ commandOf ((letter ∷ []) ∷ []) ⌝ }
 {
     match letter {
         b'T' => Parsed::Turn,
@@ -199,7 +199,7 @@ fn alone(letter: u8) -> Parsed
 // The command that a line is: `J 0 100 0 255` is `Join(0, 100, 0, 255)`. A line of another form, or with a number too wide, is `Bad`: an empty
 // line too, one with two spaces together or with a space at an end, and any line of more than 34 bytes (proofs/Text.antt, `long-bad`).
 pub fn parse(line: &[u8]) -> Parsed
-    ensures { λ r. ⌜ commandOf r ≡ parsed (now (line .entry)) ⌝ }
+    ensures { λ r. ⌜ asCommand r ≡ parsed (now (line .entry)) ⌝ }
 {
     if line.len() == 0 {
         return Parsed::Bad;

@@ -7,7 +7,6 @@ use mathlib.Core.Bool.{Bool, true, false, cond}
 use native.Mathlib.Omega.{arith}
 use lib.Dec.{T}
 use Rattle.base.proofs.Tests.{none-some, true-false}
-use Rattle.base.proofs.Count.{count-le}
 use Rattle.graph.specs.Side.{right}
 use Rattle.graph.specs.Vector.{sameBit, bit}
 use Rattle.graph.specs.Graph.{Lots, Links, Laws}
@@ -31,7 +30,8 @@ no-tail e (there f w) = none-some e f
 
 module _ {W : ℕ} {G : Lots} {L : Links} {k : ℕ} {b : Bool} where
   -- the next lot has not the bit
-  past : {u y : ℕ} {o : Option ℕ} → L u k right ≡ some y → (b ≡ bit W k (G .vector y) → ⊥) → FirstWith W G L k b y o → FirstWith W G L k b u o
+  past : {u y : ℕ} {o : Option ℕ} → L u k right ≡ some y → (b ≡ bit W k (G .vector y) → ⊥) → FirstWith W G L k b y o
+      → FirstWith W G L k b u o
   past {u} {y} e n (found {j = j} w q f) = found (there e w) q (λ i z l v p. by i z l (walk-tail e v) p)
     where
       by : (i z : ℕ) → i < suc j → Walk L k right i y z → b ≡ bit W k (G .vector z) → ⊥

@@ -1,7 +1,7 @@
 -- The check of the links passes exactly if Constraints 1 to 6 hold, with any number of level-0 lists. Assumes the laws of the lots, and links
 -- that lie on their side and share the level's bits, as soundness says.
 use Prim.Native.Nat.{ℕ, zero, suc, _+_, _≤_, _<_}
-use mathlib.Core.Path.{_≡_, refl, sym, subst, _∙_}
+use mathlib.Core.Path.{_≡_, refl, subst}
 use mathlib.Core.Logic.{_↔_}
 use mathlib.Core.Option.{Option, none, some}
 use mathlib.Core.Bool.{true}
@@ -17,7 +17,7 @@ use Rattle.graph.specs.inner.Order.{Lt}
 use Rattle.graph.proofs.Order.{lt-on}
 use Rattle.graph.proofs.Shared.{shared-refl, shared-sym, shared-trans, shared-bit, bit-shared}
 use Rattle.graph.proofs.Walk.{Walk, here, there, walk-iterate, iterate-walk, walk-zero, walk-snoc, walk-rest, Sorted, walk-member}
-use Rattle.search.specs.inner.LinkCheck.{aheadOf, constraintsOk}
+use Rattle.search.specs.inner.LinkCheck.{constraintsOk}
 use Rattle.search.proofs.Ahead.{FirstWith, found, nowhere, ahead-first}
 use Rattle.search.proofs.LinkTests.{Backs, Aboves, tests-say}
 

@@ -3,7 +3,7 @@ use Prim.Native.Nat.{ℕ, suc, _≤_, _<_}
 use mathlib.Core.Path.{_≡_, refl}
 use mathlib.Core.Logic.{_↔_}
 use mathlib.Core.Option.{Option, none, some}
-use mathlib.Core.Bool.{Bool, _&&_}
+use mathlib.Core.Bool.{_&&_}
 use native.Mathlib.Omega.{arith}
 use lib.Dec.{T}
 use Rattle.base.specs.Loops.{all}
@@ -58,7 +58,7 @@ module _ (G : Lots) (L : Links) where
 
 module _ (N W : ℕ) (G : Lots) (L : Links) (seat : (x : ℕ) → T (G .member x) → x < N) where
   -- the links back, of all members at all levels
-  all-backs : T (all N (lotBacks N W G L)) ↔ Backs W G L
+  all-backs : T (all N (lotBacks W G L)) ↔ Backs W G L
   unfolding lotBacks
   all-backs = let (to, from) = members-at N (G .member) (λ x. all (suc W) (backsOk G L x)) seat in (
     (λ t. let at : (x k : ℕ) → T (G .member x) → k ≤ W → T (backsOk G L x k) =
@@ -81,7 +81,7 @@ module _ (N W : ℕ) (G : Lots) (L : Links) (seat : (x : ℕ) → T (G .member x
 
   pub tests-say : T (constraintsOk N W G L) ↔ (Backs W G L × Aboves N W G L)
   unfolding constraintsOk
-  tests-say = let b = all N (lotBacks N W G L) in let a = all N (lotAboves N W G L) in (
+  tests-say = let b = all N (lotBacks W G L) in let a = all N (lotAboves N W G L) in (
     (λ t. (all-backs .0 (and-fst b a t), all-aboves .0 (and-snd b a t))),
     (λ h. and-T b a (all-backs .1 (h .0)) (all-aboves .1 (h .1))),
   )

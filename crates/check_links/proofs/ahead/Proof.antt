@@ -33,7 +33,7 @@ cast-y c = search needs
 loop-holds : tie.Need-loop-holds Inv-loop μ-loop
 loop-holds c =
     let s = c .before .before .before .args in
-    (search needs, rw (link-read (s .rec .now) (s .x) (s .k) 1 (c .link .result) (search needs) (search needs) (omega arith) (c .link .ensures)))
+    (search needs, rw (link-read (s .rec .now) (s .x) (s .k) right (c .link .result) (search needs) (search needs) (c .link .ensures)))
 
 bit-of-requires-2 : tie.Need-bit-of-requires-2 Inv-loop μ-loop
 bit-of-requires-2 c κs = search needs
@@ -50,8 +50,8 @@ returns-2 c =
     let o = c .before .before .before .before in
     let b = o .before .before in
     let s = b .before .before .args in
-    run-found (s .rec .now) (s .k) (bit width (s .k) (seatsIn (s .rec .now) .vector (s .x))) (seats - o .loop .counter) (o .loop .y) (c .before .before .if1 .left)
-    (sym (c .before .bit-of2 .ensures) ∙ c .if2 .taken ∙ b .bit-of .ensures)
+    run-found (s .rec .now) (s .k) (bit width (s .k) (seatsIn (s .rec .now) .vector (s .x))) (seats - o .loop .counter) (o .loop .y)
+    (c .before .before .if1 .left) (sym (c .before .bit-of2 .ensures) ∙ c .if2 .taken ∙ b .bit-of .ensures)
     ∙ o .loop .inv .1
 
 link-requires-2 : tie.Need-link-requires-2 Inv-loop μ-loop

@@ -15,7 +15,7 @@ use Rattle.check_links.proofs.all_backs_fit.Statement.{statement}
 use Rattle.check_links.proofs.all_backs_fit.Tie as tie
 
 abbrev Inv-loop : tie.InvT-loop
-Inv-loop rec x₀ x = (x ≤ seats) × (all x (lotBacks seats width (members oneComponent (seatsIn rec)) (meaning rec .link)) ≡ true)
+Inv-loop rec x₀ x = (x ≤ seats) × (all x (lotBacks width (members oneComponent (seatsIn rec)) (meaning rec .link)) ≡ true)
 
 abbrev μ-loop : tie.MeasureT-loop
 μ-loop rec x₀ x = seats - x

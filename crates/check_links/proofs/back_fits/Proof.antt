@@ -28,7 +28,7 @@ seated-is-member-requires c κs =
       search needs,
       search needs,
       link-seated (s .rec .now) (search needs) (λ j. omega (arith, b .shared-slice-known .given j)) (search needs)
-          (s .x) (s .k) (s .d) (r .result) (search needs) (search needs) (search needs) (r .ensures) (c .if1 .left),
+          (s .x) (s .k) (sideOfNumber (s .d)) (r .result) (search needs) (search needs) (r .ensures) (c .if1 .left),
     )
 
 sub-link : tie.Need-sub-link

@@ -24,6 +24,10 @@ module _ (G : Lots) (L : Links) where
   unfoldable pub startsAt : ℕ → Bool
   startsAt x = G .member x && sameLink (L x 0 left) none
 
+-- x is no member, or both its links at every level link back
+unfoldable pub lotBacks : (W : ℕ) → Lots → Links → ℕ → Bool
+lotBacks W G L x = not (G .member x) || all (suc W) (backsOk G L x)
+
 -- from o on to the right at level k, the first of n lots that has bit k as b, or where the n end
 unfoldable pub ahead : (W : ℕ) → Lots → Links → (n k : ℕ) (b : Bool) → Option ℕ → Option ℕ
 ahead W G L zero k b o = o
@@ -39,17 +43,13 @@ module _ (N W : ℕ) (G : Lots) (L : Links) where
   unfoldable pub aboveOk : (x k : ℕ) → Bool
   aboveOk x k = sameLink (L x (suc k) right) (aheadOf x k)
 
-  -- x is no member, or both its links at every level link back
-  unfoldable pub lotBacks : ℕ → Bool
-  lotBacks x = not (G .member x) || all (suc W) (backsOk G L x)
-
   -- x is no member, or its right links above level 0 are as the level below says
   unfoldable pub lotAboves : ℕ → Bool
   lotAboves x = not (G .member x) || all W (aboveOk x)
 
   -- every lot passes: Constraints 1 to 6, with any number of level-0 lists
   unfoldable pub constraintsOk : Bool
-  constraintsOk = all N lotBacks && all N lotAboves
+  constraintsOk = all N (lotBacks W G L) && all N lotAboves
 
   -- and one level-0 list: at most one member starts one
   unfoldable pub linksOk : Bool
