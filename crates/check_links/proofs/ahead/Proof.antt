@@ -7,6 +7,7 @@ use Rattle.graph.specs.Vector.{width, bit}
 use Rattle.protocol.specs.State.{oneComponent, members}
 use Rattle.record.specs.Layout.{seats}
 use Rattle.record.specs.Meaning.{linkOf, seatsIn, meaning}
+use Rattle.graph.specs.Side.{right}
 use Rattle.record.proofs.Links.{link-read}
 use Rattle.search.specs.inner.LinkCheck.{aheadOf}
 use Rattle.check_links.proofs.Runs.{runOf, run-none, run-found, run-on, run-end}

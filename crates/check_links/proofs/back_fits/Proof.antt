@@ -4,7 +4,7 @@ use mathlib.Core.Path.{ap}
 use native.Mathlib.Omega.{arith}
 use lib.Dec.{eqb}
 use Rattle.base.proofs.Stops.{and-stop, and-go}
-use Rattle.graph.specs.Side.{left}
+use Rattle.graph.specs.Side.{sideOfNumber}
 use Rattle.check_links.proofs.Parts.{back-none, back-some}
 use Rattle.check_links.proofs.Whole.{link-seated}
 use borrow.Author.Needs.{needs}

@@ -1,5 +1,5 @@
 -- What the functions below `parse` answer: the first of a line's fields, read as a number. Their contracts alone cite this; that of `parse`
--- cites Command and Told. Assumes nothing.
+-- cites Command and Answer. Assumes nothing.
 use Prim.Native.Nat.{ℕ}
 use mathlib.Core.Option.{Option, none, some}
 use mathlib.Core.List.{List, [], _∷_}
