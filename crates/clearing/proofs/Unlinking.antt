@@ -11,6 +11,7 @@ use lib.ListN.{getD, set as put}
 use lib.Seq.{set-getD}
 use borrow.Author.Tests.{lt-ltb, le-ltb}
 use Rattle.base.proofs.Cases.{eq-or-ne}
+use Rattle.base.proofs.Tests.{none-some}
 use Rattle.memory.specs.Bits.{hasBit}
 use Rattle.graph.specs.Side.{Side, left, right, sideNumber, sideOfNumber}
 use Rattle.protocol.specs.Rules.{set as linkTo}
@@ -61,6 +62,24 @@ module _ (set : ℕ) where
       by true b = refl
       by false true = refl
       by false false = refl
+
+  -- a link that is left is as before, so links name seats as before
+  unlinked-kept : (x y : ℕ) (o : Option ℕ) → cond (hasBit set x) none (unlinked (hasBit set) o) ≡ some y → o ≡ some y
+  unfolding unlinked
+  unlinked-kept x y none e = by (hasBit set x) e
+    where
+      by : (a : Bool) → cond a none none ≡ some y → none ≡ some y
+      by true q = q
+      by false q = q
+  unlinked-kept x y (some z) e = by (hasBit set x) (hasBit set z) e
+    where
+      by : (a b : Bool) → cond a none (cond b none (some z)) ≡ some y → some z ≡ some y
+      by true b q = none-some refl q
+      by false true q = none-some refl q
+      by false false q = q
+
+  pub freed-linked : (M : Meaning) → Linked M → Linked (freed set M)
+  freed-linked M c x k y d e = c x k y d (unlinked-kept x y (M .link x k d) e)
 
   module _ (s x k : ℕ) (d : Side) (h : x < seats) (g : k < levels) (M : Meaning) where
     -- the place of the link of x at level k on side d, before and after it is changed

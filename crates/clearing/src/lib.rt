@@ -1,6 +1,4 @@
 // Turn (document 01, "Calls"): into phase clearing, or out of it.
-pub mod freeing;
-
 ghost use mathlib.Core.Path.{_≡_};
 ghost use Prim.Native.Nat.{ℕ, _+_, _*_, _<_};
 ghost use lib.ListN.{length, getD};
@@ -18,6 +16,9 @@ ghost use Rattle.graph.specs.Side.{sideOfNumber};
 ghost use Rattle.record.specs.Call.{callRefusal, called};
 ghost use Rattle.record.specs.Answer.{reply, replyOf};
 ghost use Rattle.clearing.specs.inner.Steps.{Step, same, saying, lotFarewells, farewellsFrom, begun, ended};
+
+pub mod freeing;
+
 use messages::going_place;
 use record::Answer;
 use record::CLEARING;

@@ -67,7 +67,7 @@ returns c = λ x.
     let l = a .before .before .args .rec .now in
     let n : a .loop .s ≡ 0 = omega arith in
     let e : a .loop .set ≡ packed seats (leaves (seatsIn l)) = a .loop .inv .1
-        ∙ rw n (packed-same seats (λ j. leaves (seatsIn l) (0 + j)) (leaves (seatsIn l)) (λ j h. rw zero-add)) in
+    ∙ rw n (packed-same seats (λ j. leaves (seatsIn l) (0 + j)) (leaves (seatsIn l)) (λ j h. rw zero-add)) in
     ap (λ (y : ℕ). hasBit y x) e ∙ leavers-bits l x
 
 pub leavers-spec : {M : Type 1} → statement M

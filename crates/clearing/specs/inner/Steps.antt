@@ -1,4 +1,5 @@
--- What the steps of a turn leave: meanings that are changed in part. The contract of `turn` names none of these. Assumes nothing.
+-- What the steps of a turn leave: meanings that are changed in part, or whose seats of a set are freed. The contract of `turn` names none of
+-- these. Assumes nothing.
 use Prim.Native.Nat.{ℕ, _+_, _*_, _<_}
 use mathlib.Core.Path.{_≡_}
 use mathlib.Core.Option.{none, some}
@@ -52,7 +53,7 @@ inPhase M p = record {
   pending = M .pending;
 }
 
--- the seats of a set freed: bit s of its number is seat s
+-- the seats of a set freed: bit s of the set is seat s
 abbrev pub freed : (set : ℕ) → Meaning → Meaning
 freed set M = record {
   seats = freeing (hasBit set) (M .seats .phase) (M .seats);
@@ -64,7 +65,7 @@ freed set M = record {
 abbrev pub linkPlace : (x k d : ℕ) → ℕ
 linkPlace x k d = (x * levels + k) * 2 + d
 
--- of them those seats that are below s, and the links below place n as they are then
+-- the seats of the set below s freed, and the links below place n as they are once the whole set is
 unfoldable pub freedTo : (set s n : ℕ) → Meaning → Meaning
 freedTo set s n M = record {
   seats = freeing (λ x. ltb x s && hasBit set x) (M .seats .phase) (M .seats);

@@ -11,7 +11,10 @@ use Rattle.clearing.proofs.freeing.unlink_lot.Statement.{statement}
 use Rattle.clearing.proofs.freeing.unlink_lot.Tie as tie
 
 abbrev Inv-loop : tie.InvT-loop
-Inv-loop rec₀ set x k₀ rec k = (k ≤ levels) × (length rec ≡ length rec₀) × Step (freedTo set (x + 1) (linkPlace x 0 0)) (freedTo set (x + 1) (linkPlace x k 0)) rec₀ rec
+Inv-loop rec₀ set x k₀ rec k =
+    (k ≤ levels)
+    × (length rec ≡ length rec₀)
+    × Step (freedTo set (x + 1) (linkPlace x 0 0)) (freedTo set (x + 1) (linkPlace x k 0)) rec₀ rec
 
 abbrev μ-loop : tie.MeasureT-loop
 μ-loop rec₀ set x k₀ rec k = levels - k
