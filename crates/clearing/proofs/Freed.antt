@@ -1,7 +1,7 @@
 -- The seats of a set freed one after the other, their links left as they are. Assumes nothing.
 use Prim.Native.Nat.{ℕ, _+_, _<_}
 use mathlib.Core.Path.{_≡_, refl, sym, ap, _∙_}
-use mathlib.Core.Logic.{_⊎_, inl, inr, ⊎-elim}
+use mathlib.Core.Logic.{⊎-elim}
 use mathlib.Core.Bool.{true, false, cond, _&&_}
 use mathlib.Core.List.{List}
 use native.Mathlib.Omega.{arith}
@@ -18,7 +18,7 @@ use Rattle.protocol.proofs.Calls.{at-same, at-other}
 use Rattle.record.specs.Layout.{seats, stateAt, numberFrom, vectorAt}
 use Rattle.record.specs.Meaning.{bytesOf}
 use Rattle.record.proofs.Frame.{bytes-same}
-use Rattle.record.proofs.Update.{withState, withNumber, withVector, bytes-withState, bytes-withNumber, bytes-withVector}
+use Rattle.record.proofs.Update.{withState, withNumber, bytes-withState, bytes-withNumber, bytes-withVector}
 use Rattle.clearing.specs.inner.Steps.{freedTo}
 
 -- below one more

@@ -1,7 +1,7 @@
 // Seats that become free (document 01, "Turn"): a set of seats, its links, and the links to it. Bit s of a set, the lowest is 0, is seat s.
 ghost use mathlib.Core.Path.{_≡_};
 ghost use mathlib.Core.Bool.{_&&_, _||_};
-ghost use Prim.Native.Nat.{_+_, _*_, _<_};
+ghost use Prim.Native.Nat.{_+_, _<_};
 ghost use lib.Dec.{ltb};
 ghost use lib.ListN.{length};
 ghost use Rattle.memory.specs.Bits.{hasBit};
