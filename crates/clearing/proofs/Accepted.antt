@@ -1,14 +1,13 @@
 -- The steps together are what an accepted turn does. Assumes nothing.
-use Prim.Native.Nat.{ℕ, zero, suc}
+use Prim.Native.Nat.{ℕ, zero, suc, _<_}
 use mathlib.Core.Path.{_≡_, refl, sym, ap, _∙_}
-use mathlib.Core.Option.{none}
+use mathlib.Core.Option.{Option, none, some}
 use mathlib.Core.Bool.{Bool, true, false, _||_}
 use mathlib.Core.List.{List, []}
 use native.Mathlib.Omega.{arith}
 use lib.ListN.{getD}
-use borrow.Author.Tests.{lt-ltb}
+use Rattle.memory.specs.Bits.{hasBit}
 use Rattle.graph.specs.Vector.{width}
-use Rattle.graph.specs.Side.{sideNumber}
 use Rattle.protocol.specs.Message.{Msg}
 use Rattle.base.specs.Loops.{any}
 use Rattle.protocol.specs.Numbering.{messageAt}
@@ -16,14 +15,14 @@ use Rattle.protocol.specs.State.{Phase, open-phase, clearing, Meaning, leaves}
 use Rattle.protocol.specs.Calls.{turn}
 use Rattle.protocol.specs.pages.Turn.{each, farewells, afterTurn, turnSends, turnLinks}
 use Rattle.protocol.specs.Page.{pendingAfter}
+use Rattle.protocol.specs.Freeing.{unlinked}
 use Rattle.protocol.specs.Calls.{seatsAfter, linksAfter, sends, takes, accept}
-use Rattle.protocol.proofs.Numbering.{sideNumber-lt}
 use Rattle.record.specs.Layout.{seats, phaseAt}
 use Rattle.record.specs.Meaning.{phaseByte, bytesOf}
 use Rattle.record.proofs.Round.{read-phase}
 use Rattle.record.proofs.Pending.{after-nothing}
 use Rattle.record.proofs.Frame.{bytes-same}
-use Rattle.clearing.specs.inner.Steps.{farewellsFrom, linkPlace, relinked, freedTo, begun, ended}
+use Rattle.clearing.specs.inner.Steps.{Linked, farewellsFrom, inPhase, freed, begun, ended}
 
 -- with no leaver there is nothing to send
 or-none : (a b : Bool) → a || b ≡ false → (a ≡ false) × (b ≡ false)
@@ -53,14 +52,31 @@ module _ (M : Meaning) where
   in-phase : (p : Phase) → M .seats .phase ≡ p → bytesOf (turned p) ≡ bytesOf (accept seats width M turn)
   in-phase p e = ap (λ (q : Phase). bytesOf (turned q)) (sym e) ∙ accepted
 
+  -- a set that is the leavers
+  module _ (c : Linked M) (set : ℕ) (h : (x : ℕ) → x < seats → hasBit set x ≡ leaves (M .seats) x) where
+    unlinked-leavers : (o : Option ℕ) → ((y : ℕ) → o ≡ some y → y < seats) → unlinked (hasBit set) o ≡ unlinked (leaves (M .seats)) o
+    unfolding unlinked
+    unlinked-leavers none f = refl
+    unlinked-leavers (some y) f = rw (h y (f y refl))
+
+    pub freed-leavers : bytesOf (inPhase (freed set M) open-phase) ≡ bytesOf (ended M)
+    freed-leavers = bytes-same (record {
+      phase = refl;
+      state = λ x p. rw (h x p);
+      number = λ x p. rw (h x p);
+      vector = λ x p. rw (h x p);
+      link = λ x k d p g. rw (h x p, unlinked-leavers (M .link x k d) (λ y q. c x k y d q));
+      pending = λ i p. refl;
+    })
+
   pub turn-ended : M .seats .phase ≡ clearing → bytesOf (ended M) ≡ bytesOf (accept seats width M turn)
-  unfolding afterTurn turnLinks turnSends freedTo relinked
+  unfolding afterTurn turnLinks turnSends
   turn-ended e = bytes-same (record {
     phase = refl;
-    state = λ x p. rw (lt-ltb x seats p);
-    number = λ x p. rw (lt-ltb x seats p);
-    vector = λ x p. rw (lt-ltb x seats p);
-    link = λ x k d p g. rw (lt-ltb (linkPlace x k (sideNumber d)) (linkPlace seats 0 0) (omega (arith, sideNumber-lt d)));
+    state = λ x p. refl;
+    number = λ x p. refl;
+    vector = λ x p. refl;
+    link = λ x k d p g. refl;
     pending = λ i p. ap (λ (q : Msg → Bool). q (messageAt seats width i)) (sym (after-nothing (M .pending)));
   }) ∙ in-phase clearing e
 

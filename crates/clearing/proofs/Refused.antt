@@ -30,7 +30,7 @@ module _ (l : List ℕ) where
   -- the record is not refused: the turn's row
   pub messages-left : Passed l → {b : Bool} → b ≡ somePending seats width (meaning l .pending) → callRefusal l turn ≡ cond b 11 0
   unfolding callRefusal first rows
-  messages-left p e = record-goes l (rows seats width (meaning l .seats) (meaning l .pending) turn) p ∙ rw (← e)
+  messages-left p e = record-goes l (rows seats width (meaning l .seats) (meaning l .pending) turn) (refl, refl) p ∙ rw (← e)
 
   -- links of any bytes name seats
   linkOf-lt : (b y : ℕ) → linkOf b ≡ some y → y < seats

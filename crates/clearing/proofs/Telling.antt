@@ -83,11 +83,8 @@ module _ (M : Meaning) (c : Linked M) (y k d b : ℕ) (h : y < seats) (g : k < l
 
 -- all GOING from y if it leaves, and none
 module _ (M : Meaning) (y : ℕ) (h : y < seats) {l : List ℕ} (e : l ≡ bytesOf M) where
-  leaves-now : leaves (seatsIn l) y ≡ leaves (M .seats) y
-  leaves-now = ap (λ (m : List ℕ). leaves (seatsIn m) y) e ∙ leaves-bytes M y h
-
   pub tell-leaver : leaves (seatsIn l) y ≡ true → bytesOf (saying M (lotFarewells (M .link) y)) ≡ bytesOf (saying M (farewellsFrom M y))
-  tell-leaver t = rw (sym leaves-now ∙ t)
+  tell-leaver t = rw (sym (leaves-bytes M e y h) ∙ t)
 
   pub tell-other : leaves (seatsIn l) y ≡ false → l ≡ bytesOf (saying M (farewellsFrom M y))
-  tell-other t = rw (sym leaves-now ∙ t) (e ∙ sym (ap bytesOf (saying-nothing M)))
+  tell-other t = rw (sym (leaves-bytes M e y h) ∙ t) (e ∙ sym (ap bytesOf (saying-nothing M)))

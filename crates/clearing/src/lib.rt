@@ -1,28 +1,30 @@
 // Turn (document 01, "Calls"): into phase clearing, or out of it.
 ghost use mathlib.Core.Path.{_≡_};
-ghost use Prim.Native.Nat.{_+_, _<_};
+ghost use Prim.Native.Nat.{ℕ, _<_};
 ghost use lib.ListN.{length};
 ghost use Rattle.graph.specs.Vector.{width};
-ghost use Rattle.base.specs.Loops.{any};
+ghost use Rattle.memory.specs.Bits.{hasBit};
+ghost use Rattle.base.specs.Loops.{oneIf, any};
 ghost use Rattle.protocol.specs.Numbering.{somePending};
 ghost use Rattle.protocol.specs.Calls.{turn as turning};
 ghost use Rattle.protocol.specs.State.{leaves};
 ghost use Rattle.protocol.specs.pages.Turn.{farewell, farewells};
 ghost use Rattle.protocol.specs.Calls.{accept};
-ghost use Rattle.record.specs.Layout.{seats, levels, size, entryAt};
+ghost use Rattle.record.specs.Layout.{seats, levels, size};
 ghost use Rattle.record.specs.Meaning.{seatsIn, meaning};
 ghost use Rattle.graph.specs.Side.{sideOfNumber};
 ghost use Rattle.record.specs.Call.{callRefusal, called};
 ghost use Rattle.record.specs.Answer.{reply, replyOf};
-ghost use Rattle.clearing.specs.inner.Steps.{Step, same, saying, lotFarewells, farewellsFrom, linkGoes, linkPlace, relinked, freedTo, begun, ended};
+ghost use Rattle.clearing.specs.inner.Steps.{Step, same, saying, lotFarewells, farewellsFrom, begun, ended};
+
+pub mod freeing;
+
 use graph::LEFT;
 use graph::RIGHT;
 use messages::going_place;
 use record::Answer;
 use record::CLEARING;
-use record::FREE;
 use record::LEVELS;
-use record::NONE;
 use record::OPEN;
 use record::PENDING;
 use record::SEATS;
@@ -32,16 +34,35 @@ use record::lots::link;
 use record::refusals::MESSAGES_LEFT;
 use record::refusals::WRONG_SIZE;
 
+// A test as a bit.
+fn one_if(b: bool) -> u64
+    ensures { λ r. ⌜ r ≡ oneIf b ⌝ }
+{
+    if b {
+        return 1;
+    }
+    0
+}
+
+// The set of leavers: bit s is 1 if the lot on seat s leaves.
+fn leavers(rec: &[u8]) -> u64
+    requires { ⌜ length (now rec) ≡ size ⌝ }
+    ensures { λ r. ⌜ ((x : ℕ) → hasBit r x ≡ leaves (seatsIn (now (rec .entry))) x) ⌝ }
+{
+    let mut set: u64 = 0;
+    let mut s = SEATS;
+    while s > 0 {
+        s -= 1;
+        set = set * 2 + one_if(is_leaving(rec, s));
+    }
+    set
+}
+
 fn has_leaver(rec: &[u8]) -> bool
     requires { ⌜ length (now rec) ≡ size ⌝ }
     ensures { λ r. ⌜ r ≡ any seats (leaves (seatsIn (now (rec .entry)))) ⌝ }
 {
-    for s in 0..SEATS {
-        if is_leaving(rec, s) {
-            return true;
-        }
-    }
-    false
+    leavers(rec) != 0
 }
 
 // Sends GOING from y to its link at level k on side d, if there is one, with the side on which the receiver has y.
@@ -84,66 +105,6 @@ fn tell_all(rec: &mut [u8])
     }
 }
 
-// Whether a link from x that is y becomes none: it names a seat, and one of the two is freed.
-fn parts(rec: &[u8], x: usize, y: usize) -> bool
-    requires { ⌜ (length (now rec) ≡ size) × (x < seats) ⌝ }
-    ensures { λ r. ⌜ r ≡ linkGoes (now (rec .entry)) x y ⌝ }
-{
-    y < SEATS && (is_leaving(rec, x) || is_leaving(rec, y))
-}
-
-// Makes the link of x at level k on side d none if x or the lot that it names leaves.
-fn unlink(rec: &mut [u8], x: usize, k: usize, d: usize)
-    requires { ⌜ (length (now rec) ≡ size) × (x < seats) × (k < levels) × (d < 2) ⌝ }
-    ensures { λ _. ⌜ Step (relinked (linkPlace x k d)) (relinked (linkPlace x k d + 1)) (now (rec .entry)) (now (rec .exit)) ⌝ }
-{
-    let y = record::link(rec, x, k, d) as usize;
-    if parts(rec, x, y) {
-        record::set_link(rec, x, k, d, NONE);
-    }
-}
-
-fn unlink_lot(rec: &mut [u8], x: usize)
-    requires { ⌜ (length (now rec) ≡ size) × (x < seats) ⌝ }
-    ensures { λ _. ⌜ Step (relinked (linkPlace x 0 0)) (relinked (linkPlace (x + 1) 0 0)) (now (rec .entry)) (now (rec .exit)) ⌝ }
-{
-    for k in 0..LEVELS {
-        unlink(rec, x, k, LEFT);
-        unlink(rec, x, k, RIGHT);
-    }
-}
-
-// Makes the links of leavers, and all links to leavers, none.
-fn unlink_all(rec: &mut [u8])
-    requires { ⌜ length (now rec) ≡ size ⌝ }
-    ensures { λ _. ⌜ Step same (relinked (linkPlace seats 0 0)) (now (rec .entry)) (now (rec .exit)) ⌝ }
-{
-    for x in 0..SEATS {
-        unlink_lot(rec, x);
-    }
-}
-
-// Frees seat s if its lot leaves; its links are none already.
-fn free_seat(rec: &mut [u8], s: usize)
-    requires { ⌜ (length (now rec) ≡ size) × (s < seats) ⌝ }
-    ensures { λ _. ⌜ Step (freedTo s) (freedTo (s + 1)) (now (rec .entry)) (now (rec .exit)) ⌝ }
-{
-    if is_leaving(rec, s) {
-        record::set_state(rec, s, FREE);
-        record::set_number(rec, s, 0);
-        record::set_vector(rec, s, 0);
-    }
-}
-
-fn free_all(rec: &mut [u8])
-    requires { ⌜ length (now rec) ≡ size ⌝ }
-    ensures { λ _. ⌜ Step same (freedTo seats) (now (rec .entry)) (now (rec .exit)) ⌝ }
-{
-    for s in 0..SEATS {
-        free_seat(rec, s);
-    }
-}
-
 // Into phase clearing: GOING to the links of the leavers.
 fn begin_clearing(rec: &mut [u8])
     requires { ⌜ length (now rec) ≡ size ⌝ }
@@ -153,13 +114,13 @@ fn begin_clearing(rec: &mut [u8])
     record::set_phase(rec, CLEARING);
 }
 
-// Out of it: the leavers' seats become free. Links are tested while the leavers still sit.
+// Out of it: the leavers' seats become free.
 fn end_clearing(rec: &mut [u8])
     requires { ⌜ length (now rec) ≡ size ⌝ }
     ensures { λ _. ⌜ Step same ended (now (rec .entry)) (now (rec .exit)) ⌝ }
 {
-    unlink_all(rec);
-    free_all(rec);
+    let set = leavers(rec);
+    freeing::free_seats(rec, set);
     record::set_phase(rec, OPEN);
 }
 

@@ -1,20 +1,22 @@
--- What the steps of a turn leave: meanings that are changed in part. The contract of `turn` names none of these. Assumes nothing.
+-- What the steps of a turn leave: meanings that are changed in part, or whose seats of a set are freed. The contract of `turn` names none of
+-- these. Assumes nothing.
 use Prim.Native.Nat.{ℕ, _+_, _*_, _<_}
 use mathlib.Core.Path.{_≡_}
 use mathlib.Core.Option.{none, some}
-use mathlib.Core.Bool.{Bool, cond, _&&_, _||_}
+use mathlib.Core.Bool.{cond, _&&_}
 use mathlib.Core.List.{List, [], _++_}
 use lib.Dec.{ltb}
-use Rattle.graph.specs.Side.{Side, left, right}
+use Rattle.memory.specs.Bits.{hasBit}
+use Rattle.graph.specs.Side.{Side, left, right, sideNumber}
 use Rattle.graph.specs.Graph.{Links}
-use Rattle.graph.specs.Side.{sideNumber}
+use Rattle.graph.specs.Vector.{width}
 use Rattle.protocol.specs.Message.{Msg}
 use Rattle.protocol.specs.State.{Phase, open-phase, clearing, Meaning, leaves}
-use Rattle.protocol.specs.pages.Turn.{each, farewell, farewells, turnLinks}
 use Rattle.protocol.specs.Page.{pendingAfter}
-use Rattle.graph.specs.Vector.{width}
+use Rattle.protocol.specs.Freeing.{freeing, unlinking}
+use Rattle.protocol.specs.pages.Turn.{each, farewell, farewells}
 use Rattle.record.specs.Layout.{seats, levels}
-use Rattle.record.specs.Meaning.{seatsIn, bytesOf}
+use Rattle.record.specs.Meaning.{bytesOf}
 
 -- links name seats that exist
 abbrev pub Linked : Meaning → Type 0
@@ -51,32 +53,23 @@ inPhase M p = record {
   pending = M .pending;
 }
 
--- whether a link from x that is y becomes none: y is a seat, and one of the two leaves
-abbrev pub linkGoes : List ℕ → (x y : ℕ) → Bool
-linkGoes l x y = ltb y seats && (leaves (seatsIn l) x || leaves (seatsIn l) y)
+-- the seats of a set freed: bit s of the set is seat s
+abbrev pub freed : (set : ℕ) → Meaning → Meaning
+freed set M = record {
+  seats = freeing (hasBit set) (M .seats .phase) (M .seats);
+  link = unlinking (hasBit set) (M .link);
+  pending = M .pending;
+}
 
 -- the links seat by seat, level by level, left then right
 abbrev pub linkPlace : (x k d : ℕ) → ℕ
 linkPlace x k d = (x * levels + k) * 2 + d
 
--- the links below place n as after a turn in clearing
-unfoldable pub relinked : ℕ → Meaning → Meaning
-relinked n M = record {
-  seats = M .seats;
-  link = λ x k d. cond (ltb (linkPlace x k (sideNumber d)) n) (turnLinks clearing (M .seats) (M .link) x k d) (M .link x k d);
-  pending = M .pending;
-}
-
--- the seats below n as after a turn in clearing
-unfoldable pub freedTo : ℕ → Meaning → Meaning
-freedTo n M = record {
-  seats = record {
-    phase = M .seats .phase;
-    state = λ x. cond (ltb x n) (freed (M .seats .state x)) (M .seats .state x);
-    number = λ x. cond (ltb x n && leaves (M .seats) x) 0 (M .seats .number x);
-    vector = λ x. cond (ltb x n && leaves (M .seats) x) 0 (M .seats .vector x);
-  };
-  link = M .link;
+-- the seats of the set below s freed, and the links below place n as they are once the whole set is
+unfoldable pub freedTo : (set s n : ℕ) → Meaning → Meaning
+freedTo set s n M = record {
+  seats = freeing (λ x. ltb x s && hasBit set x) (M .seats .phase) (M .seats);
+  link = λ x k d. cond (ltb (linkPlace x k (sideNumber d)) n) (unlinking (hasBit set) (M .link) x k d) (M .link x k d);
   pending = M .pending;
 }
 
@@ -84,6 +77,10 @@ freedTo n M = record {
 abbrev pub begun : Meaning → Meaning
 begun M = inPhase (saying M (farewells seats width (M .seats) (M .link))) clearing
 
--- all links changed, all seats freed, phase open
+-- the leavers' seats freed, phase open
 abbrev pub ended : Meaning → Meaning
-ended M = inPhase (freedTo seats (relinked (linkPlace seats 0 0) M)) open-phase
+ended M = record {
+  seats = freeing (leaves (M .seats)) open-phase (M .seats);
+  link = unlinking (leaves (M .seats)) (M .link);
+  pending = M .pending;
+}

@@ -1,4 +1,4 @@
--- `clearing::unlink_lot` meets its contract: the levels below `k` are done. Assumes nothing.
+-- `clearing::freeing::unlink_lot` meets its contract: the levels below `k` are done. Assumes nothing.
 use Prim.Native.Nat.{ℕ, _≤_, _-_, _+_}
 use mathlib.Core.Path.{_≡_, refl, ap, _∙_}
 use native.Mathlib.Omega.{arith}
@@ -6,15 +6,18 @@ use lib.ListN.{length}
 use borrow.Author.Needs.{needs}
 use Rattle.record.specs.Layout.{levels}
 use Rattle.record.specs.Meaning.{bytesOf}
-use Rattle.clearing.specs.inner.Steps.{Step, linkPlace, relinked}
-use Rattle.clearing.proofs.unlink_lot.Statement.{statement}
-use Rattle.clearing.proofs.unlink_lot.Tie as tie
+use Rattle.clearing.specs.inner.Steps.{Step, linkPlace, freedTo}
+use Rattle.clearing.proofs.freeing.unlink_lot.Statement.{statement}
+use Rattle.clearing.proofs.freeing.unlink_lot.Tie as tie
 
 abbrev Inv-loop : tie.InvT-loop
-Inv-loop rec₀ x k₀ rec k = (k ≤ levels) × (length rec ≡ length rec₀) × Step (relinked (linkPlace x 0 0)) (relinked (linkPlace x k 0)) rec₀ rec
+Inv-loop rec₀ set x k₀ rec k =
+    (k ≤ levels)
+    × (length rec ≡ length rec₀)
+    × Step (freedTo set (x + 1) (linkPlace x 0 0)) (freedTo set (x + 1) (linkPlace x k 0)) rec₀ rec
 
 abbrev μ-loop : tie.MeasureT-loop
-μ-loop rec₀ x k₀ rec k = levels - k
+μ-loop rec₀ set x k₀ rec k = levels - k
 
 loop-holds : tie.Need-loop-holds Inv-loop μ-loop
 loop-holds c = (search needs, refl, λ M f e. e)
@@ -34,6 +37,7 @@ loop-less c = search needs
 loop-again : tie.Need-loop-again Inv-loop μ-loop
 loop-again c =
     let a = c .before .before .before .before .before .before .before .before .before in
+    let set = a .before .before .args .set in
     let x = a .before .before .args .x in
     let k = a .loop .k in
     let b = c .before .before .before .before .before .before .unlink in
@@ -43,8 +47,8 @@ loop-again c =
       λ M f e.
           let u : linkPlace x k 0 + 1 ≡ linkPlace x k 1 = omega arith in
           let v : linkPlace x k 1 + 1 ≡ linkPlace x (k + 1) 0 = omega arith in
-          d .ensures M f (b .ensures M f (a .loop .inv .2 M f e) ∙ ap (λ (n : ℕ). bytesOf (relinked n M)) u)
-          ∙ ap (λ (n : ℕ). bytesOf (relinked n M)) v,
+          d .ensures M f (b .ensures M f (a .loop .inv .2 M f e) ∙ ap (λ (n : ℕ). bytesOf (freedTo set (x + 1) n M)) u)
+          ∙ ap (λ (n : ℕ). bytesOf (freedTo set (x + 1) n M)) v,
     )
 
 same-length : tie.Need-same-length Inv-loop μ-loop
@@ -52,9 +56,10 @@ same-length c = c .before .loop .inv .1
 
 returns : tie.Need-returns Inv-loop μ-loop
 returns c = λ M f e.
+    let set = c .before .before .before .args .set in
     let x = c .before .before .before .args .x in
     let n : linkPlace x (c .before .loop .k) 0 ≡ linkPlace (x + 1) 0 0 = omega arith in
-    c .before .loop .inv .2 M f e ∙ ap (λ (n : ℕ). bytesOf (relinked n M)) n
+    c .before .loop .inv .2 M f e ∙ ap (λ (n : ℕ). bytesOf (freedTo set (x + 1) n M)) n
 
 pub unlink-lot-spec : {M : Type 1} → statement M
 unlink-lot-spec =
