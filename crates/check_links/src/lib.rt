@@ -126,12 +126,15 @@ fn ahead(rec: &[u8], x: usize, k: usize) -> usize
     y
 }
 
-// Whether the right link of x one level above k is that lot.
+// Whether the right link of x one level above k is that lot. Where it is the next lot at level k it has the bit, since the record is sound.
 fn above_fits(rec: &[u8], x: usize, k: usize) -> bool
-    requires { ⌜ (length (now rec) ≡ size) × (x < seats) × (k < width) ⌝ }
+    requires { ⌜ (length (now rec) ≡ size) × (sound (now rec) ≡ true) × (x < seats) × (k < width) ⌝ }
     ensures { λ r. ⌜ (let l = now (rec .entry) in r ≡ aboveOk seats width (members (seatsIn l)) (meaning l .link) x k) ⌝ }
 {
     let y = record::link(rec, x, k + 1, RIGHT) as usize;
+    if record::link(rec, x, k, RIGHT) as usize == y {
+        return true;
+    }
     let z = ahead(rec, x, k);
     if z >= SEATS {
         return y >= SEATS;
@@ -141,7 +144,7 @@ fn above_fits(rec: &[u8], x: usize, k: usize) -> bool
 
 // The right links of x above level 0, if it is a member.
 fn lot_aboves_fit(rec: &[u8], x: usize) -> bool
-    requires { ⌜ (length (now rec) ≡ size) × (x < seats) ⌝ }
+    requires { ⌜ (length (now rec) ≡ size) × (sound (now rec) ≡ true) × (x < seats) ⌝ }
     ensures { λ r. ⌜ (let l = now (rec .entry) in r ≡ lotAboves seats width (members (seatsIn l)) (meaning l .link) x) ⌝ }
 {
     if !is_member(rec, x) {
@@ -156,7 +159,7 @@ fn lot_aboves_fit(rec: &[u8], x: usize) -> bool
 }
 
 fn all_aboves_fit(rec: &[u8]) -> bool
-    requires { ⌜ length (now rec) ≡ size ⌝ }
+    requires { ⌜ (length (now rec) ≡ size) × (sound (now rec) ≡ true) ⌝ }
     ensures { λ r. ⌜ (let l = now (rec .entry) in r ≡ all seats (lotAboves seats width (members (seatsIn l)) (meaning l .link))) ⌝ }
 {
     for x in 0..SEATS {
