@@ -41,15 +41,20 @@ fn links_back(record: Record, members: u64, lot: u8) -> bool {
 }
 
 /// Where links have their links back, no lot is passed twice on a level: a run
-/// passes only lots that have the other bit.
+/// passes only lots that have the other bit. A link to the next lot of the
+/// level below needs no run: the record is sound, so that lot has the bit.
 fn right_links_follow(record: Record, lot: u8) -> bool {
     (0..BITS).all(|level| {
+        let above = link(record, lot, level + 1, Side::Right);
+        let mut ahead = link(record, lot, level, Side::Right);
+        if ahead == above {
+            return true;
+        }
         let next_bit = |seat| record.vector(seat) >> (BITS - 1 - level) & 1;
         let bit = next_bit(lot);
-        let mut ahead = link(record, lot, level, Side::Right);
         while ahead != NO_LINK && next_bit(ahead) != bit {
             ahead = link(record, ahead, level, Side::Right);
         }
-        link(record, lot, level + 1, Side::Right) == ahead
+        above == ahead
     })
 }

@@ -17,14 +17,12 @@ ghost use Rattle.base.specs.Loops.{oneIf, all, count};
 ghost use Rattle.search.specs.inner.LinkCheck.{backOf, backsOk, startsAt, aheadOf, aboveOk, lotBacks, lotAboves, constraintsOk, linksOk};
 ghost use Rattle.check_links.specs.Check.{checkIn};
 ghost use Rattle.check_links.specs.Answer.{answerOf};
+use graph::LEFT;
+use graph::RIGHT;
 use record::LEVELS;
 use record::SEATS;
 use record::WIDTH;
-
-// The sides, as link numbers them.
-const LEFT: usize = 0;
-
-const RIGHT: usize = 1;
+use record::lots::is_member;
 
 // What the check answers: a refusal's number, or whether the links are right.
 pub enum Verdict {
@@ -33,21 +31,12 @@ pub enum Verdict {
     No,
 }
 
-// Whether the lot on seat s is a member: a staying lot, and in phase open a leaving one too.
-fn is_member(rec: &[u8], s: usize) -> bool
-    requires { ⌜ (length (now rec) ≡ size) × (s < seats) ⌝ }
-    ensures { λ r. ⌜ r ≡ member (seatsIn (now (rec .entry))) s ⌝ }
-{
-    let state = record::state(rec, s);
-    state == 1 || (state != 0 && record::phase(rec) == 0)
-}
-
-// The same of a seated lot: in phase open it need not be looked at.
+// Whether a seated lot is a member: in phase open it need not be looked at.
 fn seated_is_member(rec: &[u8], s: usize) -> bool
     requires { ⌜ (length (now rec) ≡ size) × (s < seats) × T (seated (seatsIn (now rec)) s) ⌝ }
     ensures { λ r. ⌜ r ≡ member (seatsIn (now (rec .entry))) s ⌝ }
 {
-    record::phase(rec) == 0 || record::state(rec, s) == 1
+    record::phase(rec) == record::OPEN || record::state(rec, s) == record::STAYING
 }
 
 // Whether the link of x at level k on side d is none, or a member whose link back is x. On a sound record it names a seated lot.
@@ -126,12 +115,15 @@ fn ahead(rec: &[u8], x: usize, k: usize) -> usize
     y
 }
 
-// Whether the right link of x one level above k is that lot.
+// Whether the right link of x one level above k is that lot. Where it is the next lot at level k it has the bit, since the record is sound.
 fn above_fits(rec: &[u8], x: usize, k: usize) -> bool
-    requires { ⌜ (length (now rec) ≡ size) × (x < seats) × (k < width) ⌝ }
+    requires { ⌜ (length (now rec) ≡ size) × (sound (now rec) ≡ true) × (x < seats) × (k < width) ⌝ }
     ensures { λ r. ⌜ (let l = now (rec .entry) in r ≡ aboveOk seats width (members oneComponent (seatsIn l)) (meaning l .link) x k) ⌝ }
 {
     let y = record::link(rec, x, k + 1, RIGHT) as usize;
+    if record::link(rec, x, k, RIGHT) as usize == y {
+        return true;
+    }
     let z = ahead(rec, x, k);
     if z >= SEATS {
         return y >= SEATS;
@@ -141,7 +133,7 @@ fn above_fits(rec: &[u8], x: usize, k: usize) -> bool
 
 // The right links of x above level 0, if it is a member.
 fn lot_aboves_fit(rec: &[u8], x: usize) -> bool
-    requires { ⌜ (length (now rec) ≡ size) × (x < seats) ⌝ }
+    requires { ⌜ (length (now rec) ≡ size) × (sound (now rec) ≡ true) × (x < seats) ⌝ }
     ensures { λ r. ⌜ (let l = now (rec .entry) in r ≡ lotAboves seats width (members oneComponent (seatsIn l)) (meaning l .link) x) ⌝ }
 {
     if !is_member(rec, x) {
@@ -156,7 +148,7 @@ fn lot_aboves_fit(rec: &[u8], x: usize) -> bool
 }
 
 fn all_aboves_fit(rec: &[u8]) -> bool
-    requires { ⌜ length (now rec) ≡ size ⌝ }
+    requires { ⌜ (length (now rec) ≡ size) × (sound (now rec) ≡ true) ⌝ }
     ensures { λ r. ⌜ (let l = now (rec .entry) in r ≡ all seats (lotAboves seats width (members oneComponent (seatsIn l)) (meaning l .link))) ⌝ }
 {
     for x in 0..SEATS {
