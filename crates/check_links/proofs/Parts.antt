@@ -47,23 +47,7 @@ odd-one : (n : ℕ) → n % 2 ≡ oneIf (eqb (n % 2) 1)
 odd-one n = ⊎-elim (λ e. rw e) (λ ne. rw (ne-eqb (n % 2) 1 ne) (omega (arith, ne))) (eq-or-ne (n % 2) 1)
 
 module _ (l : List ℕ) where
-  -- a member, by the bytes of state and phase
-  pub member-byte : (s : ℕ) → s < seats
-      → let b = getD l (stateAt s) 0 in member (seatsIn l) s ≡ eqb b 1 || (not (eqb b 0) && eqb (getD l phaseAt 0) 0)
-  unfolding member
-  member-byte s h = rw (clearing-byte l, stays-byte l s h, seated-byte l s h) (by (getD l (stateAt s) 0) (eqb (getD l phaseAt 0) 0))
-    where
-      by : (b : ℕ) (p : Bool) → cond (not p) (eqb b 1) (not (eqb b 0)) ≡ eqb b 1 || (not (eqb b 0) && p)
-      by b true = ⊎-elim
-          (λ e. rw e)
-          (λ e. rw (ne-eqb b 1 e, and-true (not (eqb b 0))))
-          (eq-or-ne b 1)
-      by b false = ⊎-elim
-          (λ e. rw e)
-          (λ e. rw (ne-eqb b 1 e, and-false (not (eqb b 0)) false refl))
-          (eq-or-ne b 1)
-
-  -- of a seated lot
+  -- whether a seated lot is a member, by the bytes of phase and state
   pub seated-member : (s : ℕ) → s < seats → T (seated (seatsIn l) s)
       → member (seatsIn l) s ≡ eqb (getD l phaseAt 0) 0 || eqb (getD l (stateAt s) 0) 1
   unfolding member
@@ -89,8 +73,3 @@ module _ (l : List ℕ) where
       → startsAt (members oneComponent (seatsIn l)) (meaning l .link) x ≡ member (seatsIn l) x && leb seats (getD l (linkAt x 0 left) 0)
   unfolding startsAt
   starts-byte x h = rw (link-read l x 0 left _ h (omega arith) refl, same-none (getD l (linkAt x 0 left) 0))
-
-  -- bit k of the vector
-  pub bit-byte : (s k v : ℕ) → s < seats → v ≡ numberAt l (vectorFrom s) vectorSize → v / 2 ^ (width - 1 - k) % 2 ≡ oneIf (bit width k (seatsIn l .vector s))
-  unfolding bit
-  bit-byte s k v h e = let w : width - 1 - k ≡ width - suc k = omega arith in rw (vector-bytes l s h, ← e, w) (odd-one (v / 2 ^ (width - suc k)))

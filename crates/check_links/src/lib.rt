@@ -93,7 +93,7 @@ fn bit_of(rec: &[u8], s: usize, k: usize) -> usize
     requires { ⌜ (length (now rec) ≡ size) × (s < seats) × (k < width) ⌝ }
     ensures { λ r. ⌜ r ≡ oneIf (bit width k (seatsIn (now (rec .entry)) .vector s)) ⌝ }
 {
-    (record::vector(rec, s) as usize >> (WIDTH - 1 - k)) % 2
+    graph::bit(record::vector(rec, s), k)
 }
 
 // The first lot to the right of x at level k that has bit k as x; SEATS or more if there is none.

@@ -1,27 +1,34 @@
 -- `check_links::bit_of` meets its contract. Assumes nothing.
-use Rattle.check_links.proofs.Parts.{bit-byte}
+use Prim.Native.Nat.{ℕ, zero, suc, _<_}
+use mathlib.Core.Path.{_≡_, refl, ap, _∙_}
+use mathlib.Core.Bool.{Bool}
+use native.Mathlib.Omega.{arith}
+use lib.Dec.{eqb}
 use borrow.Author.Needs.{needs}
+use Rattle.base.specs.Loops.{oneIf}
+use Rattle.graph.specs.Vector.{width, bit}
+use Rattle.record.proofs.SeatBytes.{vector-bytes}
 use Rattle.check_links.proofs.bit_of.Statement.{statement}
 use Rattle.check_links.proofs.bit_of.Tie as tie
+
+-- a number below 2 is 1 exactly if the test for 1 passes
+one-if : (r : ℕ) → r < 2 → r ≡ oneIf (eqb r 1)
+one-if zero h = refl
+one-if (suc zero) h = refl
+one-if (suc (suc r)) h = absurd (omega arith)
 
 vector-requires : tie.Need-vector-requires
 vector-requires c κs = search needs
 
-cast-result : tie.Need-cast-result
-cast-result c = search needs
-
-sub-result : tie.Need-sub-result
-sub-result c = search needs
-
-sub-result-2 : tie.Need-sub-result-2
-sub-result-2 c = search needs
-
-shr-result : tie.Need-shr-result
-shr-result c = search needs
+bit-requires : tie.Need-bit-requires
+bit-requires c κs = search needs
 
 returns : tie.Need-returns
-returns c = bit-byte _ _ _ _ (search needs) (c .vector .ensures)
+returns c =
+    let s = c .before .before .before .args in
+    one-if (c .bit .result) (c .bit .ensures .1)
+    ∙ ap oneIf (c .bit .ensures .0 ∙ ap (bit width (s .k)) (c .before .vector .ensures))
+    ∙ rw (vector-bytes (s .rec .now) (s .s) (search needs))
 
 pub bit-of-spec : {M : Type 1} → statement M
-bit-of-spec =
-    tie.close (tie.spec vector-requires cast-result sub-result sub-result-2 shr-result returns)
+bit-of-spec = tie.close (tie.spec vector-requires bit-requires returns)

@@ -12,8 +12,8 @@ use Rattle.command.proofs.number_at.Reads as number-at-reads
 number-at-requires : tie.Need-number-at-requires
 number-at-requires c κs = search needs
 
-enum-asCommand : tie.Need-enum-asCommand
-enum-asCommand c = search needs
+enum-told : tie.Need-enum-told
+enum-told c = search needs
 
 enum-known-n : tie.Need-enum-known-n
 enum-known-n c = search needs
@@ -38,7 +38,7 @@ cast-t11 : tie.Need-cast-t11
 cast-t11 c = search needs
 
 returns-3 : tie.Need-returns-3
-returns-3 c = rw (read-narrow, ← c .before .before .number-at .ensures, c .enum-asCommand .given .1)
+returns-3 c = rw (read-narrow, ← c .before .before .number-at .ensures, c .enum-told .given .1)
 
 returns-4 : tie.Need-returns-4
 returns-4 c =
@@ -55,7 +55,7 @@ byte-at-spec =
     tie.close
     (tie.spec
     number-at-requires
-    enum-asCommand
+    enum-told
     enum-known-n
     returns
     cast-t9
