@@ -82,10 +82,11 @@ module _ (set : ℕ) where
   freed-linked M c x k y d e = c x k y d (unlinked-kept x y (M .link x k d) e)
 
   module _ (s x k : ℕ) (d : Side) (h : x < seats) (g : k < levels) (M : Meaning) where
-    -- the place of the link of x at level k on side d, before and after it is changed
+    -- the place of the link of x at level k on side d
     abbrev here : ℕ
     here = linkPlace x k (sideNumber d)
 
+    -- its byte is still that of the meaning
     old-byte : getD (bytesOf (freedTo set s here M)) (linkAt x k d) 0 ≡ linkByte (M .link x k d)
     unfolding freedTo
     old-byte = read-link (freedTo set s here M) x k d h g ∙ rw (le-ltb here here (omega arith))
@@ -127,6 +128,7 @@ module _ (set : ℕ) where
           relink (unlinking (hasBit set) (M .link) x k d) refl
           ∙ rw (v, e) (ap (put (bytesOf (freedTo set s here M)) (linkAt x k d)) (unlinked-byte x (M .link x k d) (λ y q. c x k y d q)))
 
+      -- none, and kept
       cut : goes x b ≡ true → put l (linkAt x k d) noLink ≡ bytesOf (freedTo set s (here + 1) M)
       cut t = sym (relinked ∙ rw t)
 
