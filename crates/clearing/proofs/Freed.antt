@@ -29,7 +29,7 @@ lt-more i n e = ⊎-elim
     (lt-or-ge i n)
 
 module _ (set s : ℕ) where
-  -- a field of the seats after the next one: in the set it is a, otherwise as before
+  -- a field of the seats once seat s is done: a in the set, otherwise as before
   field-freed : {A : Type 0} (a : A) (f : ℕ → A) → hasBit set s ≡ true → (x : ℕ)
       → cond (ltb x (s + 1) && hasBit set x) a (f x) ≡ at s a (λ y. cond (ltb y s && hasBit set y) a (f y)) x
   field-freed a f t x = ⊎-elim

@@ -24,6 +24,7 @@ use Rattle.record.proofs.Values.{stateOf-stateByte}
 use Rattle.record.proofs.Round.{read-state}
 
 module _ (M : Meaning) {l : List ℕ} (e : l ≡ bytesOf M) where
+  -- a seat, and any
   pub leaves-bytes : (s : ℕ) → s < seats → leaves (seatsIn l) s ≡ leaves (M .seats) s
   unfolding seatsIn
   leaves-bytes s h =
@@ -37,7 +38,7 @@ leaves-above : (l : List ℕ) (x : ℕ) → seats ≤ x → leaves (seatsIn l) x
 unfolding seatsIn
 leaves-above l x h = rw (le-ltb x seats h)
 
--- the seats from s on, and from the one before it
+-- the tests from s on with the one before it are those from t on
 pub packed-before : (p : ℕ → Bool) (m n s t : ℕ) → m ≡ n + 1 → s ≡ t + 1
     → packed n (λ j. p (s + j)) * 2 + oneIf (p t) ≡ packed m (λ j. p (t + j))
 unfolding packed

@@ -64,7 +64,7 @@ module _ (set : ℕ) where
       by false true = refl
       by false false = refl
 
-  -- a link that is left is as before, so links name seats as before
+  -- a link that is left is as before
   unlinked-kept : (x y : ℕ) (o : Option ℕ) → cond (hasBit set x) none (unlinked (hasBit set) o) ≡ some y → o ≡ some y
   unfolding unlinked
   unlinked-kept x y none e = by (hasBit set x) e
@@ -79,14 +79,12 @@ module _ (set : ℕ) where
       by false true q = none-some refl q
       by false false q = q
 
-  pub freed-linked : (M : Meaning) → Linked M → Linked (freed set M)
-  freed-linked M c x k y d e = c x k y d (unlinked-kept x y (M .link x k d) e)
-
   module _ (s x k : ℕ) (d : Side) (h : x < seats) (g : k < levels) (M : Meaning) (c : Linked M) where
-    -- the place of the link of x at level k on side d, before and after it is changed
+    -- the place of the link of x at level k on side d
     abbrev here : ℕ
     here = linkPlace x k (sideNumber d)
 
+    -- the link is still that of the meaning, and so is its byte
     old-link : freedTo set s here M .link x k d ≡ M .link x k d
     unfolding freedTo
     old-link = rw (le-ltb here here (omega arith))
@@ -131,6 +129,7 @@ module _ (set : ℕ) where
           relink (unlinking (hasBit set) (M .link) x k d) (λ y q. c x k y d (unlinked-kept x y (M .link x k d) q)) refl
           ∙ rw (v, e) (ap (put (bytesOf (freedTo set s here M)) (linkAt x k d)) (unlinked-byte x (M .link x k d) (λ y q. c x k y d q)))
 
+      -- none, and kept
       cut : goes x b ≡ true → put l (linkAt x k d) noLink ≡ bytesOf (freedTo set s (here + 1) M)
       cut t = sym (relinked ∙ rw t)
 

@@ -41,6 +41,7 @@ fn unlink(rec: &mut [u8], set: u64, x: usize, k: usize, d: usize)
     }
 }
 
+// The same for every link of x.
 fn unlink_lot(rec: &mut [u8], set: u64, x: usize)
     requires { ⌜ (length (now rec) ≡ size) × (x < seats) ⌝ }
     ensures { λ _. ⌜ Step (freedTo set (x + 1) (linkPlace x 0 0)) (freedTo set (x + 1) (linkPlace (x + 1) 0 0)) (now (rec .entry)) (now (rec .exit)) ⌝ }
@@ -63,7 +64,7 @@ fn clear_seat(rec: &mut [u8], set: u64, s: usize)
     }
 }
 
-// The seats of the set become free as opened; links of them and to them become none.
+// The seats of the set become free as opened, and links of them and to them become none. The phase and the pending messages stay.
 pub fn free_seats(rec: &mut [u8], set: u64)
     requires { ⌜ length (now rec) ≡ size ⌝ }
     ensures { λ _. ⌜ Step same (freed set) (now (rec .entry)) (now (rec .exit)) ⌝ }

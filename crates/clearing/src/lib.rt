@@ -44,7 +44,7 @@ fn one_if(b: bool) -> u64
     0
 }
 
-// The set of leavers: bit s is 1 if the lot on seat s leaves.
+// The set of leavers: bit s, the lowest is 0, is 1 exactly if the lot on seat s leaves.
 fn leavers(rec: &[u8]) -> u64
     requires { ⌜ length (now rec) ≡ size ⌝ }
     ensures { λ r. ⌜ ((x : ℕ) → hasBit r x ≡ leaves (seatsIn (now (rec .entry))) x) ⌝ }
@@ -58,6 +58,7 @@ fn leavers(rec: &[u8]) -> u64
     set
 }
 
+// Whether a lot leaves.
 fn has_leaver(rec: &[u8]) -> bool
     requires { ⌜ length (now rec) ≡ size ⌝ }
     ensures { λ r. ⌜ r ≡ any seats (leaves (seatsIn (now (rec .entry)))) ⌝ }

@@ -67,7 +67,7 @@ calls =
 refused : refusals (logOf (meaningRun 3 2 calls .history)) ≡ 9 ∷ 0 ∷ 11 ∷ 10 ∷ 10 ∷ 0 ∷ 10 ∷ 3 ∷ 0 ∷ 6 ∷ 3 ∷ 3 ∷ 5 ∷ 0 ∷ 0 ∷ 6 ∷ []
 unfolding refusals calls logOf meaningRun stepsFrom step steps opened nobody call unlessRefused accept refusal rows first any isPending seatsAfter at sends
     takes isTaken pendingAfter deliverySends linksAfter deliveryLinks applied rule effect setting meeting probing pulling parting passing
-    seeking toLink onSide sideOf bit equalBits shared named ifZero ifBit sameMsg among somePending count messageAt split pairAt pullAt
+    seeking toLink onSide sideOf bit equalBits shared named ifZero ifBit sameMsg among somePending messageAt split pairAt pullAt
     sideAt
 refused = refl
 
@@ -95,14 +95,14 @@ links M =
 Q-settled : somePending 3 2 (settled-Q .pending) ≡ false
 unfolding settled-Q drain search meaningRun stepsFrom step steps opened nobody call unlessRefused accept refusal rows first any isPending seatsAfter at
     sends takes isTaken pendingAfter deliverySends linksAfter deliveryLinks applied rule effect setting meeting probing pulling parting
-    passing seeking toLink onSide sideOf bit equalBits shared named ifZero ifBit sameMsg among somePending count messageAt split pairAt
+    passing seeking toLink onSide sideOf bit equalBits shared named ifZero ifBit sameMsg among somePending messageAt split pairAt
     pullAt sideAt
 Q-settled = refl
 
 Q-links : links settled-Q ≡ some 1 ∷ some 0 ∷ some 2 ∷ some 1 ∷ some 2 ∷ some 0 ∷ none ∷ none ∷ none ∷ []
 unfolding links settled-Q drain search meaningRun stepsFrom step steps opened nobody call unlessRefused accept refusal rows first any isPending seatsAfter
     at sends takes isTaken pendingAfter deliverySends linksAfter deliveryLinks applied rule effect setting meeting probing pulling parting
-    passing seeking toLink onSide sideOf bit equalBits shared named ifZero ifBit sameMsg among somePending count messageAt split pairAt
+    passing seeking toLink onSide sideOf bit equalBits shared named ifZero ifBit sameMsg among somePending messageAt split pairAt
     pullAt sideAt
 Q-links = refl
 
@@ -117,5 +117,5 @@ case-k : links left-Q ≡ some 2 ∷ none ∷ none ∷ some 0 ∷ some 2 ∷ som
 unfolding links left-Q after settled-Q drain search afterTurn each farewell farewells turnSends unlinked turnLinks meaningRun stepsFrom step steps
     opened nobody call unlessRefused accept refusal rows first any isPending seatsAfter at sends takes isTaken pendingAfter deliverySends
     linksAfter deliveryLinks applied rule effect setting meeting probing pulling parting passing seeking toLink onSide sideOf bit equalBits
-    shared named ifZero ifBit sameMsg among somePending count messageAt split pairAt pullAt sideAt
+    shared named ifZero ifBit sameMsg among somePending messageAt split pairAt pullAt sideAt
 case-k = refl

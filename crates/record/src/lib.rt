@@ -16,7 +16,7 @@ pub mod refusals;
 // The seats, the width of a vector, and the levels that it gives.
 pub const SEATS: usize = 64;
 
-pub const WIDTH: usize = 8;
+pub const WIDTH: usize = graph::WIDTH as usize;
 
 pub const LEVELS: usize = WIDTH + 1;
 
