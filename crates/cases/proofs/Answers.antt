@@ -1,38 +1,32 @@
 -- What calls, find and readings answer on the bytes after a list of calls, told by the view after the list. Assumes nothing.
 use Prim.Native.Nat.{ℕ, suc, _^_}
-use mathlib.Core.Path.{_≡_, sym, ap, _∙_, subst}
+use mathlib.Core.Path.{_≡_, ap, _∙_, subst}
 use mathlib.Core.Bool.{Bool, true, false, _&&_}
 use mathlib.Core.List.{List, [], _∷_}
 use lib.Dec.{T, ltb, ltb→lt}
-use lib.ListN.{length}
-use borrow.Author.Tests.{eq-eqb, lt-ltb}
 use Rattle.base.specs.Loops.{count}
 use Rattle.graph.specs.Side.{Side, left, right}
 use Rattle.graph.specs.Vector.{width}
-use Rattle.base.proofs.Tests.{T-true, and-fst, and-snd}
+use Rattle.base.proofs.Tests.{and-fst, and-snd}
 use Rattle.graph.specs.Side.{sideNumber}
 use Rattle.protocol.specs.Message.{Msg, among}
 use Rattle.protocol.specs.Numbering.{somePending}
 use Rattle.protocol.specs.State.{open-phase, Meaning, seated}
 use Rattle.protocol.specs.Calls.{Call, join, leave, deliver, turn, Outcome}
-use Rattle.protocol.specs.Refusals.{first}
 use Rattle.protocol.specs.Sound.{Sound, numberBits}
 use Rattle.protocol.specs.Run.{logOf, AllInRange}
 use Rattle.protocol.proofs.SoundFacts.{seated-below}
 use Rattle.protocol.proofs.Numbering.{pending-none}
-use Rattle.record.specs.Layout.{seats, levels, size}
-use Rattle.record.specs.Meaning.{seatsIn, bytesOf, phaseByte, linkByte}
-use Rattle.record.specs.Reading.{seatedRefusal, openRefusal, readLot, readLink, readMessage, readCounts}
-use Rattle.record.proofs.Places.{length-bytesOf}
-use Rattle.record.proofs.Form.{meaning-seats}
-use Rattle.record.proofs.Round.{meaning-bytes}
-use Rattle.record.proofs.Sound.{bytes-sound}
+use Rattle.record.specs.Layout.{seats, levels}
+use Rattle.record.specs.Meaning.{bytesOf, phaseByte, linkByte}
+use Rattle.record.specs.Reading.{openRefusal, readLot, readLink, readMessage, readCounts}
 use Rattle.record.specs.Call.{called}
 use Rattle.record.proofs.Call.{call-bytes, refused-same}
 use Rattle.search.specs.Walk.{find}
 use Rattle.find.specs.Find.{findIn}
 use Rattle.runs.specs.Run.{bytesRun, lotOf}
 use Rattle.runs.specs.Run as runs
+use Rattle.runs.proofs.Right.{find-bytes}
 use Rattle.runs.proofs.Readings.{countsOf, read-lot, read-link, read-message, read-counts, count-none}
 use Rattle.cases.proofs.View.{View, meant, viewRefusal, viewCall, view-call}
 use Rattle.cases.specs.Lists.{accepted, Pending, LinksOf, Settles, Lot100}
@@ -57,18 +51,6 @@ fits-in (join s n b c ∷ cs) t =
 fits-in (leave s ∷ cs) t = (tt, fits-in cs t)
 fits-in (deliver n ∷ cs) t = (tt, fits-in cs t)
 fits-in (turn ∷ cs) t = (tt, fits-in cs t)
-
--- find on the bytes of a sound meaning
-module _ (M : Meaning) (h : Sound seats width M) where
-  seats-bytes : seatsIn (bytesOf M) ≡ M .seats
-  seats-bytes = sym (meaning-seats (bytesOf M)) ∙ ap (λ (X : Meaning). X .seats) (meaning-bytes h)
-
-  find-bytes : (s x : ℕ) → T (seated (M .seats) s)
-      → findIn (bytesOf M) s x ≡ (let f = find (M .seats .number) (M .link) x seats width s in record { refused = 0; holder = f .holder; hops = f .hops })
-  unfolding findIn seatedRefusal first
-  find-bytes s x m =
-      let f : seated (M .seats) s ≡ true = T-true m in
-      rw (eq-eqb (length (bytesOf M)) size (length-bytesOf M), bytes-sound h, lt-ltb s seats (seated-below h s m), seats-bytes, f, meaning-bytes h)
 
 module _ (l : List ℕ) (e : openRefusal l ≡ 0) (cs : List Call) (t : T (fits cs)) where
   abbrev v : View

@@ -12,7 +12,7 @@ use lib.ListN.{length, length-append}
 use borrow.Author.Tests.{lt-ltb, le-ltb, leb-true, eqb-false}
 use Rattle.command.specs.Command.{isDigit, digitsFrom, decimal}
 use Rattle.command.specs.Text.{shownIn, shown}
-use Rattle.command.proofs.Cases.{lt-or-ge, eq-or-ne, and-left, and-right}
+use Rattle.base.proofs.Cases.{lt-or-ge, eq-or-ne, and-left, and-right}
 use Rattle.command.proofs.Reading.{digits-digit, decimal-digits}
 
 -- the digits of a number, however many are allowed

@@ -6,7 +6,7 @@ use mathlib.Core.List.{List, [], _∷_, _++_, append-nil}
 use mathlib.Core.Logic.{⊎-elim}
 use Rattle.command.specs.Command.{fields}
 use Rattle.command.specs.Text.{spaced, joined}
-use Rattle.command.proofs.Cases.{eq-or-ne}
+use Rattle.base.proofs.Cases.{eq-or-ne}
 use Rattle.command.proofs.Decimal.{Plain}
 use Rattle.command.proofs.Fields.{first, rest, fields-first, first-end, rest-end, first-space, first-byte, rest-space, rest-byte}
 

@@ -1,5 +1,4 @@
 -- Laws of the definitions of specs/.
-pub mod Cases
 pub mod Fields
 pub mod Reading
 pub mod Commands

@@ -8,7 +8,7 @@ use native.Mathlib.Omega.{arith}
 use lib.ListN.{length, getD, drop}
 use borrow.Author.Tests.{ne-eqb}
 use Rattle.command.specs.Command.{fields, commandOf, parsed}
-use Rattle.command.proofs.Cases.{eq-or-ne}
+use Rattle.base.proofs.Cases.{eq-or-ne}
 use Rattle.command.proofs.Fields.{first, rest, fields-first, first-end, rest-end, first-space, first-byte, rest-space, rest-byte}
 
 -- no command begins with an empty field, or with two bytes

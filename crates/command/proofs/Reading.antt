@@ -10,7 +10,7 @@ use lib.Dec.{ltb}
 use borrow.Author.Tests.{eq-eqb, ne-eqb, le-leb, lt-leb, lt-ltb, le-ltb}
 use Rattle.command.specs.Command.{fields, isDigit, digitsFrom, decimal, fitting, byteField, numberField}
 use Rattle.command.specs.inner.Reading.{Read, wrong, last, more, readAs, read, digitsField}
-use Rattle.command.proofs.Cases.{lt-or-ge}
+use Rattle.base.proofs.Cases.{lt-or-ge}
 use Rattle.command.proofs.Fields.{first, rest, fields-first, first-space, first-byte, rest-space, rest-byte}
 
 pub read-first : (v : List ℕ → Option ℕ) (l : List ℕ) → read v (fields l) ≡ readAs (v (first l)) (rest l)

@@ -14,7 +14,7 @@ use borrow.Author.Tests.{lt-ltb, ltb-true, eqb-true}
 use Rattle.command.specs.Command.{Command, join, leave, deliver, turn, settle, find, print}
 use Rattle.command.specs.Command.{fields, decimal, fitting, given, isLetter, when, commandOf, parsed}
 use Rattle.command.specs.Text.{shown, spaced, joined, letterOf, numbersOf, fieldsOf, text, fits}
-use Rattle.command.proofs.Cases.{lt-or-ge}
+use Rattle.base.proofs.Cases.{lt-or-ge}
 use Rattle.command.proofs.Decimal.{Plain, decimal-shown, shown-decimal, plain-shown, shown-length}
 use Rattle.command.proofs.Joined.{AllPlain, fields-joined, joined-fields}
 

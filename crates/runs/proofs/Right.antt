@@ -47,7 +47,7 @@ module _ (M : Meaning) (h : Sound seats width M) where
   unfolding checkIn recordRefusal first
   check-bytes = rw (eq-eqb (length (bytesOf M)) size (length-bytesOf M), bytes-sound h, seats-bytes, meaning-bytes h)
 
-  find-bytes : (s x : ℕ) → T (seated (M .seats) s)
+  pub find-bytes : (s x : ℕ) → T (seated (M .seats) s)
       → findIn (bytesOf M) s x ≡ (let f = find (M .seats .number) (M .link) x seats width s in record { refused = 0; holder = f .holder; hops = f .hops })
   unfolding findIn seatedRefusal first
   find-bytes s x m =
