@@ -5,10 +5,9 @@ use mathlib.Core.Bool.{Bool, true, false, _&&_}
 use mathlib.Core.List.{List, [], _∷_}
 use lib.Dec.{T, ltb, ltb→lt}
 use Rattle.base.specs.Loops.{count}
-use Rattle.graph.specs.Side.{Side, left, right}
+use Rattle.graph.specs.Side.{Side, left, right, sideNumber}
 use Rattle.graph.specs.Vector.{width}
 use Rattle.base.proofs.Tests.{and-fst, and-snd}
-use Rattle.graph.specs.Side.{sideNumber}
 use Rattle.protocol.specs.Message.{Msg, among}
 use Rattle.protocol.specs.Numbering.{somePending}
 use Rattle.protocol.specs.State.{open-phase, Meaning, seated}

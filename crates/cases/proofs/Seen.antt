@@ -12,8 +12,7 @@ use Rattle.base.proofs.Tests.{and-fst, and-snd, or-cases}
 use Rattle.protocol.specs.Message.{Msg, sameMsg, among}
 use Rattle.protocol.specs.Numbering.{place}
 use Rattle.protocol.specs.State.{Meaning, nobody, opened}
-use Rattle.protocol.specs.Calls.{Call}
-use Rattle.protocol.specs.Calls.{takes, Outcome, call}
+use Rattle.protocol.specs.Calls.{Call, takes, Outcome, call}
 use Rattle.protocol.specs.Sound.{Sound}
 use Rattle.protocol.specs.Run.{Logged, Standing, logOf, step, steps, stepsFrom, meaningRun, AllInRange}
 use Rattle.protocol.proofs.Message.{same-eq}

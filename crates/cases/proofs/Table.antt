@@ -4,26 +4,19 @@ use Prim.Native.Nat.{ℕ}
 use mathlib.Core.Path.{_≡_, refl, ap, _∙_}
 use mathlib.Core.Option.{Option, none, some}
 use mathlib.Core.List.{List, [], _∷_, _++_}
-use Rattle.base.specs.Loops.{count}
+use Rattle.base.specs.Loops.{count, any}
 use Rattle.graph.specs.Side.{onSide, sideOf}
 use Rattle.graph.specs.Vector.{width, bit, equalBits, shared}
 use Rattle.protocol.specs.Message.{meet, probe, name, ifZero, ifBit, named, sameMsg, among}
-use Rattle.base.specs.Loops.{any}
 use Rattle.protocol.specs.Numbering.{place}
 use Rattle.protocol.specs.Rules.{toLink, setting, meeting, probing, pulling, parting, passing, seeking, effect}
-use Rattle.protocol.specs.State.{nobody, opened}
-use Rattle.protocol.specs.Calls.{join, deliver, rows, refusal}
+use Rattle.protocol.specs.State.{nobody, opened, isPending}
+use Rattle.protocol.specs.Calls.{join, deliver, rows, refusal, seatsAfter, Outcome, sends, takes, linksAfter, unlessRefused}
 use Rattle.protocol.specs.Refusals.{first}
-use Rattle.protocol.specs.State.{isPending}
-use Rattle.protocol.specs.Page.{at}
-use Rattle.protocol.specs.pages.Turn.{afterTurn, each, farewell, farewells, turnSends}
-use Rattle.protocol.specs.Calls.{seatsAfter, Outcome}
-use Rattle.protocol.specs.pages.Deliver.{rule, deliverySends}
-use Rattle.protocol.specs.Calls.{sends, takes, linksAfter, unlessRefused}
-use Rattle.protocol.specs.Page.{isTaken}
-use Rattle.protocol.specs.pages.Deliver.{applied, deliveryLinks}
+use Rattle.protocol.specs.Page.{at, isTaken}
+use Rattle.protocol.specs.pages.Turn.{afterTurn, each, farewell, farewells, turnSends, turnLinks}
+use Rattle.protocol.specs.pages.Deliver.{rule, deliverySends, applied, deliveryLinks}
 use Rattle.protocol.specs.Freeing.{unlinked}
-use Rattle.protocol.specs.pages.Turn.{turnLinks}
 use Rattle.record.specs.Meaning.{bytesOf}
 use Rattle.record.specs.Reading.{openRefusal, LotAnswer, readLot}
 use Rattle.record.specs.Call.{called}

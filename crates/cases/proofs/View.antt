@@ -12,9 +12,8 @@ use Rattle.base.proofs.Tests.{T-true, true-T, or-left, dec-T, not-T-false, fals
 use Rattle.protocol.specs.Message.{Msg, sameMsg, among}
 use Rattle.protocol.specs.Numbering.{exists, somePending}
 use Rattle.protocol.specs.State.{Seats, Meaning}
-use Rattle.protocol.specs.Calls.{Call, join, leave, deliver, turn, rows, refusal}
+use Rattle.protocol.specs.Calls.{Call, join, leave, deliver, turn, rows, refusal, seatsAfter, linksAfter, sends, takes, unlessRefused, accept, call}
 use Rattle.protocol.specs.Refusals.{row, first}
-use Rattle.protocol.specs.Calls.{seatsAfter, linksAfter, sends, takes, unlessRefused, accept, call}
 use Rattle.protocol.specs.Page.{isTaken, pendingAfter}
 use Rattle.protocol.specs.Sound.{Sound}
 use Rattle.protocol.proofs.Message.{same-eq, same-self}

@@ -10,10 +10,8 @@ use Rattle.base.specs.Loops.{oneIf}
 use Rattle.graph.specs.Vector.{width}
 use Rattle.protocol.specs.Message.{Msg, Name, name, named, among}
 use Rattle.protocol.specs.Numbering.{place}
-use Rattle.protocol.specs.State.{Meaning}
-use Rattle.protocol.specs.Calls.{Call, join, leave, deliver, turn}
-use Rattle.protocol.specs.State.{isPending}
-use Rattle.protocol.specs.Calls.{takes}
+use Rattle.protocol.specs.State.{Meaning, isPending}
+use Rattle.protocol.specs.Calls.{Call, join, leave, deliver, turn, takes}
 use Rattle.protocol.specs.Run.{Logged, Past, logOf}
 use Rattle.record.specs.Layout.{seats}
 use Rattle.record.specs.Reading.{readLink, readMessage, readCounts}

@@ -5,10 +5,9 @@ use mathlib.Core.Bool.{Bool, true, false, not}
 use mathlib.Core.List.{List, [], _∷_}
 use Rattle.graph.specs.Vector.{width}
 use Rattle.protocol.specs.Message.{Name, named}
-use Rattle.protocol.specs.Calls.{deliver, rows, refusal}
+use Rattle.protocol.specs.Calls.{deliver, rows, refusal, accept, unlessRefused}
 use Rattle.protocol.specs.Refusals.{row, first}
 use Rattle.protocol.specs.State.{isPending}
-use Rattle.protocol.specs.Calls.{accept, unlessRefused}
 use Rattle.record.specs.Layout.{seats}
 use Rattle.record.specs.Meaning.{meaning, bytesOf}
 use Rattle.record.specs.Reading.{recordRefusal}

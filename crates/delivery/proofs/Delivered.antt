@@ -13,12 +13,10 @@ use Rattle.base.proofs.Tests.{T-true, true-T, or-left, some-inj, none-some}
 use Rattle.protocol.specs.Message.{Msg, meet, probe, pull, going, seek, found, none-found, Name, nameOf, named, among}
 use Rattle.protocol.specs.Numbering.{exists, place}
 use Rattle.protocol.specs.Rules.{Entry, Change, keep, set, Effect, sending, setting, meeting, effect}
-use Rattle.protocol.specs.State.{Meaning}
+use Rattle.protocol.specs.State.{Meaning, isPending}
 use Rattle.protocol.specs.Sound.{Sound, messageOk}
-use Rattle.protocol.specs.Calls.{deliver, rows, refusal}
+use Rattle.protocol.specs.Calls.{deliver, rows, refusal, accept}
 use Rattle.protocol.specs.Refusals.{first}
-use Rattle.protocol.specs.State.{isPending}
-use Rattle.protocol.specs.Calls.{accept}
 use Rattle.protocol.specs.pages.Deliver.{rule}
 use Rattle.protocol.proofs.Message.{named-name, mem-among}
 use Rattle.protocol.proofs.SoundFacts.{pending-exists, pending-after}

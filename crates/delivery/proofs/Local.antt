@@ -16,10 +16,8 @@ use Rattle.graph.specs.Vector.{width}
 use Rattle.protocol.specs.Message.{Msg, Name, nameOf, named, sameMsg, among}
 use Rattle.protocol.specs.Numbering.{exists, place}
 use Rattle.protocol.specs.Rules.{Entry}
-use Rattle.protocol.specs.State.{Meaning}
-use Rattle.protocol.specs.Calls.{deliver}
-use Rattle.protocol.specs.State.{isPending}
-use Rattle.protocol.specs.Calls.{accept, seatsAfter, unlessRefused}
+use Rattle.protocol.specs.State.{Meaning, isPending}
+use Rattle.protocol.specs.Calls.{deliver, accept, seatsAfter, unlessRefused}
 use Rattle.protocol.specs.pages.Deliver.{rule}
 use Rattle.protocol.proofs.Message.{name-named}
 use Rattle.protocol.proofs.Numbering.{sideNumber-lt}

@@ -1,5 +1,5 @@
-// Delivery over a lent record (document 01, "Messages", "Calls" and "Refused calls"). The answer and the bytes left are those of outcome's
-// specs/Made.antt.
+// Delivery over a lent record (document 01, "Messages", "Calls" and "Refused calls"). The answer and the bytes left are those of record's
+// specs/Call.antt.
 ghost use mathlib.Core.Path.{_≡_};
 ghost use lib.Dec.{T};
 ghost use lib.ListN.{length};

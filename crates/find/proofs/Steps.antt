@@ -10,14 +10,12 @@ use lib.ListN.{length}
 use borrow.Author.Tests.{lt-ltb, le-ltb, eq-eqb, ne-eqb}
 use Rattle.memory.specs.Bytes.{AreBytes}
 use Rattle.memory.proofs.Bytes.{numberAt-lt}
-use Rattle.graph.specs.Side.{Side, onSide, sideOf}
+use Rattle.graph.specs.Side.{Side, onSide, sideOf, sideNumber, sideOfNumber}
 use Rattle.graph.specs.Graph.{Links}
 use Rattle.graph.specs.Vector.{width}
-use Rattle.graph.specs.Side.{sideNumber}
 use Rattle.protocol.specs.State.{seated}
 use Rattle.record.specs.Layout.{seats, numberSize, numberFrom}
 use Rattle.record.specs.Meaning.{seatsIn, meaning}
-use Rattle.graph.specs.Side.{sideOfNumber}
 use Rattle.record.proofs.Places.{side-sideNumber}
 use Rattle.search.specs.Walk.{stop, move, drop, along, stepAt, holderAt, find}
 use Rattle.base.proofs.Count.{count-le}

@@ -14,9 +14,8 @@ use Rattle.base.proofs.Tests.{none-some}
 use Rattle.graph.specs.inner.Order.{Lt}
 use Rattle.graph.proofs.Order.{lt-opp, opp-lt, lt-asym, lt-side, lt-ne, lt-on}
 use Rattle.graph.proofs.Laws.{member-compare}
-use Rattle.graph.proofs.Neighbour.{InList, list-refl, list-sym, list-trans, list-lower, Nearest, nobody, nearest}
+use Rattle.graph.proofs.Neighbour.{InList, list-refl, list-sym, list-trans, list-lower, Nearest, nobody, nearest, graph-nearest, nearest-graph}
 use Rattle.graph.proofs.Neighbour.{nobody-there, nearest-list, nearest-side, nearest-first, nearest-unique}
-use Rattle.graph.proofs.Neighbour.{graph-nearest, nearest-graph}
 use Rattle.graph.proofs.Walk.{Walk, here, there, walk-iterate, iterate-walk, walk-zero, walk-rest}
 use Rattle.graph.proofs.Walk.{Sorted, constraints-sorted, distance, distance-less, walk-order, walk-beyond}
 use Rattle.graph.proofs.Levels.{walk-up, link-bits, link-ground}

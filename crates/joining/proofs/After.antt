@@ -14,8 +14,7 @@ use Rattle.protocol.specs.Message.{Msg, meet}
 use Rattle.protocol.specs.Numbering.{exists, place}
 use Rattle.protocol.specs.Rules.{staying, leaving}
 use Rattle.protocol.specs.State.{isFree}
-use Rattle.protocol.specs.Calls.{join, leave}
-use Rattle.protocol.specs.Calls.{seatsAfter, linksAfter, sends, takes, accept}
+use Rattle.protocol.specs.Calls.{join, leave, seatsAfter, linksAfter, sends, takes, accept}
 use Rattle.protocol.proofs.Accepted.{join-rows, leave-rows}
 use Rattle.record.specs.Layout.{seats, numberSize, vectorSize, stateAt, numberFrom, vectorFrom, pendingFrom}
 use Rattle.record.specs.Meaning.{meaning, bytesOf}

@@ -1,1 +1,1 @@
--- The calls' contracts cite outcome's specs alone.
+-- The calls' contracts cite record's specs alone.

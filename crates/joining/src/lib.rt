@@ -1,5 +1,5 @@
-// Join and leave over a lent record (document 01, "Calls" and "Refused calls"). The answer and the bytes left are those of outcome's
-// specs/Made.antt.
+// Join and leave over a lent record (document 01, "Calls" and "Refused calls"). The answer and the bytes left are those of record's
+// specs/Call.antt.
 ghost use mathlib.Core.Path.{_≡_};
 ghost use mathlib.Core.Bool.{not, cond, _&&_, _||_};
 ghost use Prim.Native.Nat.{ℕ, _<_};
@@ -12,9 +12,8 @@ ghost use Rattle.protocol.specs.Message.{meet};
 ghost use Rattle.base.specs.Loops.{any};
 ghost use Rattle.protocol.specs.Numbering.{place};
 ghost use Rattle.protocol.specs.State.{taken, seated, empty};
-ghost use Rattle.protocol.specs.Calls.{join as joining, leave as leaving, refusal};
+ghost use Rattle.protocol.specs.Calls.{join as joining, leave as leaving, refusal, accept};
 ghost use Rattle.protocol.specs.pages.Join.{nobodyToContact};
-ghost use Rattle.protocol.specs.Calls.{accept};
 ghost use Rattle.record.specs.Layout.{seats, levels, numberSize, vectorSize, size, stateAt, numberFrom, vectorFrom, pendingFrom};
 ghost use Rattle.record.specs.Meaning.{seatsIn, meaning, bytesOf};
 ghost use Rattle.record.specs.Call.{callRefusal, called};

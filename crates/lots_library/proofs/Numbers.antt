@@ -10,8 +10,7 @@ use lib.Dec.{eqb}
 use borrow.Author.Tests.{ne-eqb}
 use Rattle.base.specs.Loops.{oneIf}
 use Rattle.protocol.specs.Message.{Name, named}
-use Rattle.protocol.specs.State.{isPending}
-use Rattle.protocol.specs.State.{oneComponent, members}
+use Rattle.protocol.specs.State.{isPending, oneComponent, members}
 use Rattle.graph.specs.Vector.{width}
 use Rattle.search.specs.Check.{check}
 use Rattle.record.specs.Layout.{seats, noLink}

@@ -7,13 +7,12 @@ use mathlib.Core.Bool.{Bool, true, false, cond, _&&_}
 use native.Mathlib.Omega.{arith}
 use lib.Dec.{T, eqb, ltb, ltb→lt}
 use borrow.Author.Tests.{ne-eqb, le-ltb}
-use Rattle.graph.specs.Side.{Side, left, right}
+use Rattle.graph.specs.Side.{Side, left, right, sideOfNumber}
 use Rattle.graph.specs.Vector.{width}
 use Rattle.base.proofs.Tests.{and-fst, and-snd}
 use Rattle.protocol.specs.Message.{Msg, meet, probe, pull, going, seek, found, none-found, name, ifZero, ifBit, named, bitNumber}
 use Rattle.protocol.specs.Numbering.{exists, place}
 use Rattle.record.specs.Layout.{seats, messages}
-use Rattle.graph.specs.Side.{sideOfNumber}
 use Rattle.messages.specs.inner.Places.{placeOf, isMessage}
 
 -- a message under a condition

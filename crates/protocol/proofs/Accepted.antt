@@ -8,9 +8,8 @@ use borrow.Author.Tests.{ltb-true, lt-ltb, le-ltb, not-false, eq-eqb}
 use Rattle.base.proofs.Tests.{true-T, and-T}
 use Rattle.protocol.specs.Message.{Msg, Name, named}
 use Rattle.protocol.specs.Numbering.{somePending}
-use Rattle.protocol.specs.State.{open-phase, Seats, noSeat, taken, seated, empty, leaves}
+use Rattle.protocol.specs.State.{open-phase, Seats, noSeat, taken, seated, empty, leaves, isPending}
 use Rattle.protocol.specs.Calls.{join, leave, deliver, turn, rows, refusal}
-use Rattle.protocol.specs.State.{isPending}
 use Rattle.protocol.specs.Refusals.{noSuchSeat, seatTaken, numberInUse, noContact, inClearing, emptySeat, alreadyLeaving, noSuchMessage, messagesLeft}
 use Rattle.protocol.specs.pages.Join.{nobodyToContact}
 use Rattle.protocol.proofs.Calls.{no-row}

@@ -10,11 +10,9 @@ use Rattle.graph.specs.Side.{Side}
 use Rattle.protocol.specs.Message.{Msg, Name, nameOf, named, among}
 use Rattle.protocol.specs.Rules.{Change, set, Effect}
 use Rattle.protocol.specs.State.{Meaning}
-use Rattle.protocol.specs.Calls.{deliver}
+use Rattle.protocol.specs.Calls.{deliver, seatsAfter, sends, takes, linksAfter, accept}
 use Rattle.protocol.specs.Page.{isTaken, pendingAfter}
 use Rattle.protocol.specs.pages.Deliver.{applied, rule, deliverySends, deliveryLinks}
-use Rattle.protocol.specs.Calls.{seatsAfter, sends, takes, linksAfter}
-use Rattle.protocol.specs.Calls.{accept}
 use Rattle.protocol.proofs.Message.{same-eq, eq-same, among-mem, mem-among}
 use Rattle.protocol.proofs.Calls.{after-came, after-kept, after-only, applied-at, applied-frame}
 use Rattle.protocol.proofs.World.{State}

@@ -10,21 +10,14 @@ use Rattle.graph.specs.Vector.{bit, equalBits, shared}
 use Rattle.protocol.specs.Message.{meet, probe, name, nameOf, ifZero, ifBit, named, sameMsg, among}
 use Rattle.base.specs.Loops.{any}
 use Rattle.protocol.specs.Numbering.{count, pairAt, pullAt, sideAt, split, messageAt, somePending}
-use Rattle.protocol.specs.Rules.{Entry, staying, keep, set, toLink}
-use Rattle.protocol.specs.Rules.{setting, meeting, probing, pulling, parting, passing, seeking, effect}
-use Rattle.protocol.specs.State.{Meaning, nobody, opened}
-use Rattle.protocol.specs.Calls.{Call, join, leave, deliver, turn, rows, refusal}
+use Rattle.protocol.specs.Rules.{Entry, staying, keep, set, toLink, setting, meeting, probing, pulling, parting, passing, seeking, effect}
+use Rattle.protocol.specs.State.{Meaning, nobody, opened, isPending}
+use Rattle.protocol.specs.Calls.{Call, join, leave, deliver, turn, rows, refusal, seatsAfter, sends, takes, linksAfter}
 use Rattle.protocol.specs.Refusals.{first}
-use Rattle.protocol.specs.State.{isPending}
-use Rattle.protocol.specs.Page.{at}
-use Rattle.protocol.specs.pages.Turn.{afterTurn, each, farewell, farewells, turnSends}
-use Rattle.protocol.specs.Calls.{seatsAfter}
-use Rattle.protocol.specs.pages.Deliver.{rule, deliverySends}
-use Rattle.protocol.specs.Calls.{sends, takes, linksAfter}
-use Rattle.protocol.specs.Page.{isTaken, pendingAfter}
-use Rattle.protocol.specs.pages.Deliver.{applied, deliveryLinks}
+use Rattle.protocol.specs.Page.{at, isTaken, pendingAfter}
+use Rattle.protocol.specs.pages.Turn.{afterTurn, each, farewell, farewells, turnSends, turnLinks}
+use Rattle.protocol.specs.pages.Deliver.{rule, deliverySends, applied, deliveryLinks}
 use Rattle.protocol.specs.Freeing.{unlinked}
-use Rattle.protocol.specs.pages.Turn.{turnLinks}
 use Rattle.protocol.specs.Calls.{accept, unlessRefused, call}
 use Rattle.protocol.specs.Run.{stepsFrom, Logged, logOf, step, steps, meaningRun}
 

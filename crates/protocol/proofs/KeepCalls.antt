@@ -14,9 +14,8 @@ use Rattle.graph.specs.inner.Order.{Lt, toL, toR}
 use Rattle.protocol.specs.Message.{Msg, meet}
 use Rattle.protocol.specs.Rules.{SeatState, staying, leaving}
 use Rattle.protocol.specs.State.{Phase, open-phase, Seats, Meaning, isFree, isSeated, taken, seated}
-use Rattle.protocol.specs.Calls.{join, leave, refusal}
+use Rattle.protocol.specs.Calls.{join, leave, refusal, seatsAfter, sends, takes, linksAfter, accept}
 use Rattle.protocol.specs.Page.{at}
-use Rattle.protocol.specs.Calls.{seatsAfter, sends, takes, linksAfter, accept}
 use Rattle.protocol.specs.Sound.{numberBits, linkOk, messageOk, Sound}
 use Rattle.protocol.proofs.Calls.{at-same, at-other, at-all}
 use Rattle.protocol.proofs.SoundFacts.{Two, Linked, Proper, p-meet, p-probe, p-pull, linked-ok, proper-ok, link-linked, pending-proper}

@@ -17,10 +17,8 @@ use Rattle.graph.proofs.Order.{lt-trans, lt-opp, lt-ne′}
 use Rattle.protocol.specs.Message.{Msg, meet, probe, pull, Name, nameOf, named}
 use Rattle.protocol.specs.Rules.{Change, keep, set, Effect, effect, toLink, sending, setting, meeting, probing, pulling, parting, passing}
 use Rattle.protocol.specs.Rules.{seeking}
-use Rattle.protocol.specs.State.{Phase, open-phase, clearing, Seats, Meaning, isFree, stays, entry}
-use Rattle.protocol.specs.Calls.{deliver, refusal}
-use Rattle.protocol.specs.State.{isPending}
-use Rattle.protocol.specs.Calls.{seatsAfter, sends, takes, linksAfter, accept}
+use Rattle.protocol.specs.State.{Phase, open-phase, clearing, Seats, Meaning, isFree, stays, entry, isPending}
+use Rattle.protocol.specs.Calls.{deliver, refusal, seatsAfter, sends, takes, linksAfter, accept}
 use Rattle.protocol.specs.pages.Deliver.{rule, deliverySends, applied, deliveryLinks}
 use Rattle.protocol.specs.Page.{pendingAfter}
 use Rattle.protocol.specs.Sound.{messageOk, Sound}

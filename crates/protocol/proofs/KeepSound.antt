@@ -7,10 +7,8 @@ use lib.Pow.{pow-pos}
 use Rattle.base.proofs.Tests.{false-T, none-some}
 use Rattle.protocol.specs.Numbering.{somePending}
 use Rattle.protocol.specs.State.{Meaning, nobody, opened}
-use Rattle.protocol.specs.Calls.{Call, join, leave, deliver, turn, refusal}
-use Rattle.protocol.specs.Calls.{accept, unlessRefused, call}
+use Rattle.protocol.specs.Calls.{Call, join, leave, deliver, turn, refusal, accept, unlessRefused, call, InRange}
 use Rattle.protocol.specs.Sound.{numberBits, Sound}
-use Rattle.protocol.specs.Calls.{InRange}
 use Rattle.protocol.proofs.Numbering.{none-pending}
 use Rattle.protocol.proofs.SoundFacts.{pending-exists}
 use Rattle.protocol.proofs.Accepted.{turn-row}

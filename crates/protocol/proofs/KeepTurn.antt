@@ -14,13 +14,10 @@ use Rattle.protocol.specs.Message.{Msg, going}
 use Rattle.base.specs.Loops.{any}
 use Rattle.protocol.specs.Rules.{free}
 use Rattle.protocol.specs.State.{Phase, open-phase, clearing, Seats, Meaning, isFree, taken, seated, leaves}
-use Rattle.protocol.specs.Calls.{turn}
-use Rattle.protocol.specs.pages.Turn.{afterTurn, each, farewell, farewells, turnSends}
-use Rattle.protocol.specs.Calls.{seatsAfter, sends, takes}
+use Rattle.protocol.specs.Calls.{turn, seatsAfter, sends, takes, linksAfter, accept}
+use Rattle.protocol.specs.pages.Turn.{afterTurn, each, farewell, farewells, turnSends, turnLinks}
 use Rattle.protocol.specs.Page.{pendingAfter}
 use Rattle.protocol.specs.Freeing.{unlinked}
-use Rattle.protocol.specs.pages.Turn.{turnLinks}
-use Rattle.protocol.specs.Calls.{linksAfter, accept}
 use Rattle.protocol.specs.Sound.{numberBits, messageOk, Sound}
 use Rattle.base.proofs.Any.{any-in}
 use Rattle.protocol.proofs.Calls.{link-out, each-out}

@@ -11,11 +11,9 @@ use Rattle.graph.specs.Graph.{Links}
 use Rattle.protocol.specs.Message.{Msg, meet, probe, pull, going, seek, found, none-found, nameOf, sameMsg, among}
 use Rattle.protocol.specs.Rules.{Entry, Change, keep, set, Effect, setting, meeting, probing, pulling, parting, passing, seeking, effect}
 use Rattle.protocol.specs.State.{Meaning, entry}
-use Rattle.protocol.specs.Calls.{deliver}
-use Rattle.protocol.specs.Calls.{seatsAfter, sends, takes}
+use Rattle.protocol.specs.Calls.{deliver, seatsAfter, sends, takes, linksAfter, accept}
 use Rattle.protocol.specs.pages.Deliver.{rule, deliverySends, sameSide, applied, deliveryLinks}
 use Rattle.protocol.specs.Page.{isTaken, pendingAfter}
-use Rattle.protocol.specs.Calls.{linksAfter, accept}
 use Rattle.protocol.specs.Local.{Names, by-link, by-meet, by-probe, by-seek, by-found, AgreeFor}
 use Rattle.protocol.proofs.Message.{named-name}
 use Rattle.protocol.proofs.Calls.{applied-other}

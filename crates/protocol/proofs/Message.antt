@@ -8,9 +8,8 @@ use mathlib.Core.List.{List, [], _∷_, List·Memᴰ, List·Memᴰ·head, List·
 use native.Mathlib.Omega.{arith}
 use lib.Dec.{T, eqb, eqb→eq}
 use borrow.Author.Tests.{eqb-true, eq-eqb}
-use Rattle.graph.specs.Side.{Side, left, right}
+use Rattle.graph.specs.Side.{Side, left, right, sideNumber}
 use Rattle.base.proofs.Tests.{and-fst, and-snd, or-cases, or-left, or-right}
-use Rattle.graph.specs.Side.{sideNumber}
 use Rattle.protocol.specs.Message.{Msg, meet, probe, pull, going, seek, found, none-found, Name, name, nameOf, ifZero, ifBit, named}
 use Rattle.protocol.specs.Message.{sameMsg, among}
 

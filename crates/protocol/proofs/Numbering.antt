@@ -7,9 +7,8 @@ use native.Mathlib.Omega.{arith}
 use native.Mathlib.Decide.{decLt}
 use lib.Dec.{T, eqb, ltb, ltb→lt, lt→ltb}
 use borrow.Author.Tests.{lt-ltb, le-ltb}
-use Rattle.graph.specs.Side.{Side, left, right}
+use Rattle.graph.specs.Side.{Side, left, right, sideNumber}
 use Rattle.base.proofs.Tests.{and-T, and-fst, and-snd, false-T, not-T-false}
-use Rattle.graph.specs.Side.{sideNumber}
 use Rattle.protocol.specs.Message.{Msg, meet, probe, pull, going, seek, found, none-found, bitNumber}
 use Rattle.protocol.specs.Numbering.{pairs, pulls, sides, exists, count, place, pairAt, pullAt, sideAt, split, messageAt, somePending}
 use Rattle.base.proofs.Any.{any-none, none-any}

@@ -15,9 +15,8 @@ use Rattle.base.proofs.Tests.{false-T, true-false}
 use Rattle.protocol.specs.Message.{Msg, meet, nameOf, among}
 use Rattle.protocol.specs.Rules.{staying, leaving}
 use Rattle.protocol.specs.State.{open-phase, Seats, Meaning, isSeated, seated}
-use Rattle.protocol.specs.Calls.{join, leave}
+use Rattle.protocol.specs.Calls.{join, leave, seatsAfter, sends, takes, linksAfter, accept}
 use Rattle.protocol.specs.Page.{at, isTaken, pendingAfter}
-use Rattle.protocol.specs.Calls.{seatsAfter, sends, takes, linksAfter, accept}
 use Rattle.protocol.specs.Sound.{numberBits, Sound}
 use Rattle.protocol.proofs.Message.{among-mem, mem-among}
 use Rattle.protocol.proofs.Calls.{at-same, at-other, after-came, after-kept, after-only}

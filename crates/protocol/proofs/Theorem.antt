@@ -11,14 +11,11 @@ use Rattle.graph.specs.Graph.{IsGraph}
 use Rattle.base.proofs.Tests.{false-T, not-T-false}
 use Rattle.protocol.specs.Message.{Msg, Name, named}
 use Rattle.protocol.specs.Numbering.{somePending}
-use Rattle.protocol.specs.State.{Meaning, oneComponent, nobody, opened}
-use Rattle.protocol.specs.Calls.{Call, join, leave, deliver, turn, refusal}
-use Rattle.protocol.specs.State.{isPending}
-use Rattle.protocol.specs.Calls.{seatsAfter, sends, takes, accept, unlessRefused, call}
+use Rattle.protocol.specs.State.{Meaning, oneComponent, nobody, opened, isPending}
+use Rattle.protocol.specs.Calls.{Call, join, leave, deliver, turn, refusal, seatsAfter, sends, takes, accept, unlessRefused, call, InRange}
 use Rattle.protocol.specs.Page.{pendingAfter}
 use Rattle.protocol.specs.Sound.{Sound}
 use Rattle.protocol.specs.Run.{Logged, Roster, membersOf, rosterAfter, stepsFrom, Standing, logOf, step, steps, meaningRun, rosterOf, pendingOf, RefusedByTable, NothingPending, accepted, MeaningDemand3}
-use Rattle.protocol.specs.Calls.{InRange}
 use Rattle.protocol.specs.Run.{AllInRange}
 use Rattle.protocol.proofs.Numbering.{none-pending, pending-none}
 use Rattle.protocol.proofs.Delivery.{stateOf, accept-deliver}

@@ -1,5 +1,5 @@
 -- The lots during deliveries, with the two laws that the proofs use of them: numbers are small, and different for different lots.
--- Assumes nothing beyond these fields; Invariant makes one of every sound roster.
+-- Assumes nothing beyond these fields; Reached makes one of the seats of every sound meaning.
 use Prim.Native.Nat.{ℕ, suc, _^_, _≤_, _<_}
 use mathlib.Core.Path.{_≡_, sym, _∙_}
 use mathlib.Core.Logic.{_⊎_, inl, inr, _≢_}

@@ -3,8 +3,7 @@ use Prim.Native.Nat.{ℕ, zero, suc, _+_, _-_, _*_, _/_, _%_}
 use mathlib.Core.Bool.{Bool, false, cond, _&&_, _||_}
 use lib.Dec.{eqb, ltb}
 use Rattle.base.specs.Loops.{any}
-use Rattle.graph.specs.Side.{Side, left, right}
-use Rattle.graph.specs.Side.{sideNumber}
+use Rattle.graph.specs.Side.{Side, left, right, sideNumber}
 use Rattle.protocol.specs.Message.{Msg, meet, probe, pull, going, seek, found, none-found, bitNumber}
 
 module _ (N W : ℕ) where

@@ -11,8 +11,7 @@ use Rattle.memory.specs.Bytes.{numberAt}
 use Rattle.memory.specs.Bits.{bitSet}
 use Rattle.base.specs.Loops.{oneIf, count}
 use Rattle.protocol.specs.Message.{Name, named}
-use Rattle.protocol.specs.State.{seated}
-use Rattle.protocol.specs.State.{isPending}
+use Rattle.protocol.specs.State.{seated, isPending}
 use Rattle.record.specs.Layout.{seats, levels, numberSize, vectorSize, messages, phaseAt, stateAt, numberFrom, vectorFrom, linkAt, pendingFrom}
 use Rattle.record.specs.Meaning.{meaning, seatsIn, linkByte}
 use Rattle.graph.specs.Side.{sideOfNumber}

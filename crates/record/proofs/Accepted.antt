@@ -7,8 +7,7 @@ use mathlib.Core.List.{List}
 use Rattle.memory.specs.Bytes.{AreBytes}
 use Rattle.graph.specs.Vector.{width}
 use Rattle.protocol.specs.Sound.{Sound}
-use Rattle.protocol.specs.Calls.{Call, join, leave, deliver, turn, rows, refusal}
-use Rattle.protocol.specs.Calls.{accept, unlessRefused}
+use Rattle.protocol.specs.Calls.{Call, join, leave, deliver, turn, rows, refusal, accept, unlessRefused}
 use Rattle.record.specs.Layout.{seats}
 use Rattle.record.specs.Meaning.{meaning, bytesOf}
 use Rattle.record.specs.Reading.{recordRefusal}

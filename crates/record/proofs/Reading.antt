@@ -8,23 +8,20 @@ use mathlib.Core.List.{List, [], _∷_}
 use lib.Dec.{T}
 use lib.ListN.{length}
 use borrow.Author.Tests.{lt-ltb, not-true}
-use Rattle.base.specs.Loops.{oneIf, all}
-use Rattle.base.specs.Loops.{count as howMany}
+use Rattle.base.specs.Loops.{oneIf, all, count as howMany}
 use Rattle.memory.specs.Bytes.{AreBytes, zeros}
 use Rattle.memory.specs.Bits.{bitSet}
 use Rattle.base.proofs.Cases.{same-test}
 use Rattle.base.proofs.All.{all-at, all-from}
 use Rattle.base.proofs.Count.{count-same, count-zero}
 use Rattle.memory.proofs.Zeros.{zeros-bits}
-use Rattle.graph.specs.Side.{Side}
+use Rattle.graph.specs.Side.{Side, sideNumber}
 use Rattle.graph.specs.Vector.{width}
 use Rattle.base.proofs.Tests.{T-true}
-use Rattle.graph.specs.Side.{sideNumber}
 use Rattle.protocol.specs.Message.{Msg, Name, nameOf, named}
 use Rattle.protocol.specs.Numbering.{place, messageAt, somePending}
-use Rattle.protocol.specs.State.{Meaning, isFree, taken, seated}
+use Rattle.protocol.specs.State.{Meaning, isFree, taken, seated, isPending}
 use Rattle.protocol.specs.Refusals.{first}
-use Rattle.protocol.specs.State.{isPending}
 use Rattle.protocol.specs.Sound.{messageOk}
 use Rattle.protocol.proofs.Message.{named-name}
 use Rattle.protocol.proofs.Numbering.{sideNumber-lt, messageAt-place, none-pending, pending-none}

@@ -29,8 +29,7 @@ use Rattle.record.specs.Layout.{seats, levels, byteBits, numberSize, vec
 use Rattle.record.specs.Layout.{pendingFrom, size}
 use Rattle.record.specs.Cell.{Cell, phaseCell, stateCell, numberCell, vectorCell, linkCell, pendingCell, cellFrom, cellSize}
 use Rattle.record.specs.inner.Cell.{InRecord, cellIn}
-use Rattle.record.specs.Meaning.{phaseOf, stateOf, linkOf, seatsIn, meaning}
-use Rattle.record.specs.Meaning.{phaseByte, stateByte, linkByte, valueOf, byteOf, bytesOf}
+use Rattle.record.specs.Meaning.{phaseOf, stateOf, linkOf, seatsIn, meaning, phaseByte, stateByte, linkByte, valueOf, byteOf, bytesOf}
 use Rattle.record.proofs.Values.{NamesSeat, phaseOf-phaseByte, stateOf-stateByte, linkOf-linkByte}
 use Rattle.record.proofs.Values.{phaseByte-lt, stateByte-lt, linkByte-lt, linkByte-byte, isFree-free}
 use Rattle.record.proofs.Places.{place-within, length-bytesOf, getD-bytesOf}

@@ -3,9 +3,8 @@
 use Prim.Native.Nat.{ℕ}
 use mathlib.Core.List.{List, _∷_}
 use Rattle.graph.specs.Vector.{width}
-use Rattle.protocol.specs.Calls.{Call, rows}
+use Rattle.protocol.specs.Calls.{Call, rows, Outcome, accept, unlessRefused}
 use Rattle.protocol.specs.Refusals.{first}
-use Rattle.protocol.specs.Calls.{Outcome, accept, unlessRefused}
 use Rattle.record.specs.Layout.{seats}
 use Rattle.record.specs.Meaning.{meaning, bytesOf}
 use Rattle.record.specs.Reading.{sizeRow, soundRow}

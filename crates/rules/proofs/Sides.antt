@@ -26,7 +26,7 @@ same-bits (suc (suc m)) n h g = absurd (omega arith)
 same-bits zero (suc (suc n)) h g = absurd (omega arith)
 same-bits (suc zero) (suc (suc n)) h g = absurd (omega arith)
 
--- whether a lot stays, by the roster in the bytes
+-- whether a lot stays, by the seats in the bytes
 pub staying-in : (l : List ℕ) (s : ℕ) → isStaying (meaning l .seats .state s) ≡ stays (seatsIn l) s
 unfolding meaning
 staying-in l s = refl

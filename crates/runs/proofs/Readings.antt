@@ -6,14 +6,12 @@ use mathlib.Core.Bool.{Bool, true, false, not}
 use mathlib.Core.List.{List}
 use lib.Dec.{T}
 use Rattle.base.specs.Loops.{oneIf, count}
-use Rattle.graph.specs.Side.{Side}
+use Rattle.graph.specs.Side.{Side, sideNumber}
 use Rattle.graph.specs.Vector.{width}
 use Rattle.base.proofs.Tests.{true-T}
-use Rattle.graph.specs.Side.{sideNumber}
 use Rattle.protocol.specs.Message.{Name, named}
 use Rattle.protocol.specs.Numbering.{somePending}
-use Rattle.protocol.specs.State.{Meaning, isFree, seated}
-use Rattle.protocol.specs.State.{isPending}
+use Rattle.protocol.specs.State.{Meaning, isFree, seated, isPending}
 use Rattle.protocol.specs.Sound.{Sound}
 use Rattle.record.specs.Layout.{seats, levels}
 use Rattle.record.specs.Meaning.{bytesOf, phaseByte, linkByte}

@@ -10,15 +10,13 @@ use lib.ListN.{length}
 use borrow.Author.Tests.{ne-eqb}
 use native.Mathlib.Decide.{ℕ-discrete}
 use Rattle.base.specs.Loops.{oneIf, count}
-use Rattle.graph.specs.Side.{Side}
+use Rattle.graph.specs.Side.{Side, sideNumber}
 use Rattle.graph.specs.Vector.{width}
 use Rattle.graph.specs.Graph.{graph, IsGraph}
-use Rattle.graph.specs.Side.{sideNumber}
 use Rattle.protocol.specs.Message.{Msg, named}
-use Rattle.protocol.specs.State.{Seats, Meaning, seated, member}
+use Rattle.protocol.specs.State.{Seats, Meaning, seated, member, isPending}
 use Rattle.protocol.specs.Calls.{Call}
 use Rattle.protocol.specs.Refusals.{first}
-use Rattle.protocol.specs.State.{isPending}
 use Rattle.protocol.specs.Run.{Past, Standing, logOf, meaningRun, membersOf, rosterOf, pendingOf, RefusedByTable, NothingPending, MeaningDemand3, AllInRange}
 use Rattle.protocol.proofs.SoundFacts.{seated-below}
 use Rattle.protocol.proofs.Reached.{member-seated}

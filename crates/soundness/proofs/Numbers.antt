@@ -3,9 +3,8 @@ use Prim.Native.Nat.{ℕ, zero, suc}
 use mathlib.Core.Path.{_≡_, refl, _∙_}
 use mathlib.Core.Bool.{Bool, true, false, not, _&&_, _||_}
 use mathlib.Core.List.{List}
-use Rattle.base.specs.Loops.{all}
+use Rattle.base.specs.Loops.{all, any}
 use Rattle.base.proofs.All.{all-from, all-same, all-and}
-use Rattle.base.specs.Loops.{any}
 use Rattle.protocol.specs.State.{taken}
 use Rattle.record.specs.Layout.{seats}
 use Rattle.record.specs.Meaning.{seatsIn}

@@ -1,9 +1,8 @@
 -- `find::along` meets its contract. Assumes nothing.
 use mathlib.Core.Path.{sym, _∙_, ap}
 use borrow.Author.Needs.{needs}
-use Rattle.graph.specs.Side.{onSide}
+use Rattle.graph.specs.Side.{onSide, sideOfNumber}
 use Rattle.record.specs.Meaning.{seatsIn, meaning}
-use Rattle.graph.specs.Side.{sideOfNumber}
 use Rattle.find.proofs.Read.{number-read, link-some, link-none}
 use Rattle.find.proofs.Steps.{along-moves, along-past, along-none}
 use Rattle.find.proofs.along.Statement.{statement}

@@ -2,8 +2,7 @@
 use Prim.Native.Nat.{ℕ}
 use mathlib.Core.Path.{sym, _∙_, ap}
 use borrow.Author.Needs.{needs}
-use Rattle.graph.specs.Side.{sideOf}
-use Rattle.graph.specs.Side.{sideNumber}
+use Rattle.graph.specs.Side.{sideOf, sideNumber}
 use Rattle.record.specs.Meaning.{seatsIn, meaning}
 use Rattle.find.proofs.Read.{number-read}
 use Rattle.find.proofs.Steps.{step-side}

@@ -6,8 +6,7 @@ use mathlib.Core.List.{List}
 use lib.ListN.{set}
 use Rattle.graph.specs.Vector.{width}
 use Rattle.protocol.specs.Message.{Msg, nameOf}
-use Rattle.protocol.specs.Rules.{Change, keep, Effect}
-use Rattle.protocol.specs.Rules.{set as setLink}
+use Rattle.protocol.specs.Rules.{Change, keep, Effect, set as setLink}
 use Rattle.protocol.specs.pages.Deliver.{rule}
 use Rattle.record.specs.Layout.{linkAt}
 use Rattle.record.specs.Meaning.{meaning, linkByte}

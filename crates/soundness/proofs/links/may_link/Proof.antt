@@ -1,8 +1,7 @@
 -- `soundness::links::may_link` meets its contract. Assumes nothing.
 use mathlib.Core.Path.{sym, ap₂, _∙_}
 use borrow.Author.Needs.{needs}
-use Rattle.graph.specs.Side.{onSide}
-use Rattle.graph.specs.Side.{sideOfNumber}
+use Rattle.graph.specs.Side.{onSide, sideOfNumber}
 use Rattle.base.proofs.Stops.{and-stop, and-go}
 use Rattle.protocol.proofs.SoundFacts.{seated-held}
 use Rattle.record.specs.Meaning.{seatsIn}
