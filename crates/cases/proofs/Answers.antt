@@ -10,7 +10,7 @@ use Rattle.graph.specs.Vector.{width}
 use Rattle.base.proofs.Tests.{and-fst, and-snd}
 use Rattle.protocol.specs.Message.{Msg, among}
 use Rattle.protocol.specs.Numbering.{somePending}
-use Rattle.protocol.specs.State.{open-phase, Meaning, seated}
+use Rattle.protocol.specs.State.{open-phase, seated}
 use Rattle.protocol.specs.Calls.{Call, join, leave, deliver, turn, Outcome}
 use Rattle.protocol.specs.Sound.{Sound, numberBits}
 use Rattle.protocol.specs.Run.{logOf, AllInRange}

@@ -1,5 +1,5 @@
 -- The parts of the check of the links (search's LinkCheck), by the bytes that the code reads. Assumes nothing.
-use Prim.Native.Nat.{ℕ, suc, _+_, _-_, _*_, _^_, _/_, _%_, _≤_, _<_}
+use Prim.Native.Nat.{ℕ, _-_, _%_, _≤_, _<_}
 use mathlib.Core.Path.{_≡_, refl}
 use mathlib.Core.Logic.{⊎-elim}
 use mathlib.Core.Option.{none, some}
@@ -9,18 +9,16 @@ use native.Mathlib.Omega.{arith}
 use lib.Dec.{T, eqb, leb}
 use lib.ListN.{getD}
 use borrow.Author.Tests.{ne-eqb, lt-leb, le-leb}
-use Rattle.base.proofs.Cases.{lt-or-ge, eq-or-ne, and-true, and-false}
+use Rattle.base.proofs.Cases.{lt-or-ge, eq-or-ne}
 use Rattle.base.specs.Loops.{oneIf}
-use Rattle.memory.specs.Bytes.{numberAt}
 use Rattle.graph.specs.Side.{left, sideOfNumber}
-use Rattle.graph.specs.Vector.{width, bit}
 use Rattle.base.proofs.Tests.{T-true}
 use Rattle.protocol.specs.State.{oneComponent, seated, member, members}
-use Rattle.record.specs.Layout.{seats, levels, vectorSize, phaseAt, stateAt, vectorFrom, linkAt}
+use Rattle.record.specs.Layout.{seats, levels, phaseAt, stateAt, linkAt}
 use Rattle.record.specs.Meaning.{linkOf, seatsIn, meaning}
 use Rattle.search.specs.Check.{sameLink}
 use Rattle.search.specs.inner.LinkCheck.{backOf, startsAt}
-use Rattle.record.proofs.SeatBytes.{clearing-byte, seated-byte, stays-byte, vector-bytes}
+use Rattle.record.proofs.SeatBytes.{clearing-byte, stays-byte}
 use Rattle.record.proofs.Links.{linkOf-some, linkOf-none, side-opp, link-read}
 
 -- a test of those that m picks, which r says: one that it does not pick, and one that it does
@@ -41,10 +39,6 @@ same-seat y x h = ⊎-elim
 pub same-none : (y : ℕ) → sameLink (linkOf y) none ≡ leb seats y
 unfolding sameLink
 same-none y = ⊎-elim (λ q. rw (linkOf-some y q, lt-leb seats y q)) (λ q. rw (linkOf-none y q, le-leb seats y q)) (lt-or-ge y seats)
-
--- a bit as a number
-odd-one : (n : ℕ) → n % 2 ≡ oneIf (eqb (n % 2) 1)
-odd-one n = ⊎-elim (λ e. rw e) (λ ne. rw (ne-eqb (n % 2) 1 ne) (omega (arith, ne))) (eq-or-ne (n % 2) 1)
 
 module _ (l : List ℕ) where
   -- whether a seated lot is a member, by the bytes of phase and state

@@ -9,7 +9,7 @@ use lib.Dec.{T}
 use lib.Pow.{pow-pos}
 use Rattle.graph.specs.Side.{Side, left, right, opp}
 use Rattle.graph.specs.Graph.{Links}
-use Rattle.base.proofs.Tests.{T-true, true-T, true-false, none-some, some-inj}
+use Rattle.base.proofs.Tests.{T-true, true-T, none-some, some-inj}
 use Rattle.protocol.specs.Message.{Msg, going}
 use Rattle.base.specs.Loops.{any}
 use Rattle.protocol.specs.Rules.{free}

@@ -3,7 +3,7 @@ use Prim.Native.Nat.{ℕ}
 use mathlib.Core.Option.{Option, none, some}
 use mathlib.Core.Bool.{Bool, cond}
 use Rattle.graph.specs.Graph.{Links}
-use Rattle.protocol.specs.Rules.{SeatState, free}
+use Rattle.protocol.specs.Rules.{free}
 use Rattle.protocol.specs.State.{Phase, Seats}
 
 -- the set of seats that are freed

@@ -1,6 +1,6 @@
 -- All messages among N seats at width W in ascending order of their names: which exist, how many, and the place of each. Assumes nothing.
-use Prim.Native.Nat.{ℕ, zero, suc, _+_, _-_, _*_, _/_, _%_}
-use mathlib.Core.Bool.{Bool, false, cond, _&&_, _||_}
+use Prim.Native.Nat.{ℕ, suc, _+_, _-_, _*_, _/_, _%_}
+use mathlib.Core.Bool.{Bool, cond, _&&_}
 use lib.Dec.{eqb, ltb}
 use Rattle.base.specs.Loops.{any}
 use Rattle.graph.specs.Side.{Side, left, right, sideNumber}

@@ -8,7 +8,7 @@ use lib.ListN.{length}
 use Rattle.memory.specs.Bytes.{AreBytes}
 use Rattle.graph.specs.Vector.{width}
 use Rattle.protocol.specs.State.{Meaning}
-use Rattle.protocol.specs.Calls.{Call, refusal, Outcome, rows, accept, unlessRefused, call, InRange}
+use Rattle.protocol.specs.Calls.{Call, refusal, Outcome, accept, unlessRefused, call, InRange}
 use Rattle.protocol.specs.Sound.{Sound}
 use Rattle.protocol.proofs.KeepSound.{call-sound}
 use Rattle.record.specs.Layout.{seats, size}

@@ -2,7 +2,6 @@
 -- Assumes nothing.
 use Prim.Native.Nat.{ℕ, _≤_, _<_}
 use mathlib.Core.Path.{_≡_, refl}
-use mathlib.Core.Option.{some}
 use mathlib.Core.Bool.{Bool, _&&_}
 use lib.Dec.{T}
 use Rattle.graph.specs.Side.{Side, onSide}

@@ -1,6 +1,6 @@
 -- The check: every link of every member is its link in the graph of the members. (By `skip-graph` of the graph crate that is exactly
 -- Constraints 1 to 6 and one level-0 list.) Assumes nothing.
-use Prim.Native.Nat.{ℕ, zero, suc}
+use Prim.Native.Nat.{ℕ, suc}
 use mathlib.Core.Option.{Option, none, some}
 use mathlib.Core.Bool.{Bool, true, false, not, _&&_, _||_}
 use lib.Dec.{eqb}
