@@ -48,10 +48,10 @@ pub fn empty_refusal(rec: &[u8], s: usize) -> u8
     requires { ⌜ (length (now rec) ≡ size) × (s < seats) ⌝ }
     ensures { λ r. ⌜ r ≡ first (emptyRow (now (rec .entry)) s ∷ []) ⌝ }
 {
-    if is_seated(rec, s) {
-        return 0;
+    if !is_seated(rec, s) {
+        return EMPTY_SEAT;
     }
-    EMPTY_SEAT
+    0
 }
 
 // 8 empty seat, of reading a lot: the seat is free.
