@@ -3,7 +3,7 @@ use Prim.Native.Nat.{ℕ}
 use mathlib.Core.Path.{_≡_, refl}
 use mathlib.Core.Option.{Option, none, some}
 use mathlib.Core.List.{List, [], _∷_}
-use Rattle.command.specs.Command.{Command, join, leave, deliver, find, byteField, numberField, given, commandOf}
+use Rattle.command.specs.Command.{Command, join, leave, deliver, find, byteField, vectorField, numberField, given, commandOf}
 use Rattle.command.specs.inner.Reading.{Read, wrong, last, more, readAs, read}
 
 -- a number that other fields must follow, and one that none may follow
@@ -64,7 +64,7 @@ find-reads (a ∷ b ∷ d ∷ e ∷ f ∷ g ∷ l) = simp by-fields
 pub join-reads : (fs : List (List ℕ))
     → commandOf ((74 ∷ []) ∷ fs)
     ≡ next (read byteField fs)
-    (λ s fs₁. next (read numberField fs₁) (λ n fs₂. next (read byteField fs₂) (λ v fs₃. ends (read byteField fs₃) (λ w. some (join s n v w)))))
+    (λ s fs₁. next (read numberField fs₁) (λ n fs₂. next (read vectorField fs₂) (λ v fs₃. ends (read byteField fs₃) (λ w. some (join s n v w)))))
 unfolding commandOf read
 join-reads [] = refl
 join-reads (a ∷ []) = simp by-fields

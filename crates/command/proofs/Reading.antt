@@ -8,8 +8,9 @@ use mathlib.Core.Logic.{⊎-elim}
 use native.Mathlib.Omega.{arith}
 use lib.Dec.{ltb}
 use borrow.Author.Tests.{eq-eqb, ne-eqb, le-leb, lt-leb, lt-ltb, le-ltb}
-use Rattle.command.specs.Command.{fields, isDigit, digitsFrom, decimal, fitting, byteField, numberField}
+use Rattle.command.specs.Command.{fields, isDigit, digitsFrom, decimal, fitting, byteField, vectorField, numberField}
 use Rattle.command.specs.inner.Reading.{Read, wrong, last, more, readAs, read, digitsField}
+use Rattle.graph.specs.Vector.{width}
 use Rattle.base.proofs.Cases.{lt-or-ge}
 use Rattle.command.proofs.Fields.{first, rest, fields-first, first-space, first-byte, rest-space, rest-byte}
 
@@ -104,30 +105,36 @@ pub number-digits : (b : ℕ) (l : List ℕ) → (b ≡ 32 → ⊥) → (b ≡ 4
 number-digits b l e h =
     read-byte numberField b l e ∙ rw (decimal-digits b (first l) h) (sym (read-byte (digitsField 0) b l e))
 
--- a byte is a number below 256
-abbrev pub narrow : Read → Read
-narrow wrong = wrong
-narrow (last n) = cond (ltb n 256) (last n) wrong
-narrow (more n after) = cond (ltb n 256) (more n after) wrong
+-- a number of w bits is a number below 2 ^ w
+abbrev pub narrow : (w : ℕ) → Read → Read
+narrow w wrong = wrong
+narrow w (last n) = cond (ltb n (2 ^ w)) (last n) wrong
+narrow w (more n after) = cond (ltb n (2 ^ w)) (more n after) wrong
 
-fitting-byte : (o : Option ℕ) (after : List (List ℕ)) → readAs (fitting 8 o) after ≡ narrow (readAs (fitting 64 o) after)
+fitting-narrow : (w : ℕ) → 2 ^ w ≤ 2 ^ 64 → (o : Option ℕ) (after : List (List ℕ))
+    → readAs (fitting w o) after ≡ narrow w (readAs (fitting 64 o) after)
 unfolding fitting
-fitting-byte none after = refl
-fitting-byte (some n) after = ⊎-elim
-    (λ h. rw (lt-ltb n 256 h, lt-ltb n (2 ^ 64) (omega arith)) (small after h))
-    (λ h. rw (le-ltb n 256 h) (big after (ltb n (2 ^ 64)) h))
-    (lt-or-ge n 256)
+fitting-narrow w le none after = refl
+fitting-narrow w le (some n) after = ⊎-elim
+    (λ h. rw (lt-ltb n (2 ^ w) h, lt-ltb n (2 ^ 64) (omega arith)) (small after h))
+    (λ h. rw (le-ltb n (2 ^ w) h) (big after (ltb n (2 ^ 64)) h))
+    (lt-or-ge n (2 ^ w))
   where
-    small : (after : List (List ℕ)) → n < 256 → readAs (some n) after ≡ narrow (readAs (some n) after)
-    small [] h = rw (lt-ltb n 256 h)
-    small (f ∷ after) h = rw (lt-ltb n 256 h)
+    small : (after : List (List ℕ)) → n < 2 ^ w → readAs (some n) after ≡ narrow w (readAs (some n) after)
+    small [] h = rw (lt-ltb n (2 ^ w) h)
+    small (f ∷ after) h = rw (lt-ltb n (2 ^ w) h)
 
-    big : (after : List (List ℕ)) (t : Bool) → 256 ≤ n → wrong ≡ narrow (readAs (cond t (some n) none) after)
+    big : (after : List (List ℕ)) (t : Bool) → 2 ^ w ≤ n → wrong ≡ narrow w (readAs (cond t (some n) none) after)
     big after false h = refl
-    big [] true h = rw (le-ltb n 256 h)
-    big (f ∷ after) true h = rw (le-ltb n 256 h)
+    big [] true h = rw (le-ltb n (2 ^ w) h)
+    big (f ∷ after) true h = rw (le-ltb n (2 ^ w) h)
 
-pub read-narrow : (fs : List (List ℕ)) → read byteField fs ≡ narrow (read numberField fs)
+pub read-narrow : (fs : List (List ℕ)) → read byteField fs ≡ narrow 8 (read numberField fs)
 unfolding read
 read-narrow [] = refl
-read-narrow (f ∷ fs) = fitting-byte (decimal f) fs
+read-narrow (f ∷ fs) = fitting-narrow 8 (omega arith) (decimal f) fs
+
+pub read-vector : (fs : List (List ℕ)) → read vectorField fs ≡ narrow width (read numberField fs)
+unfolding read
+read-vector [] = refl
+read-vector (f ∷ fs) = fitting-narrow width (omega arith) (decimal f) fs

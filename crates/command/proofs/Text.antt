@@ -1,6 +1,6 @@
 -- THE check of the definition: a line is a command exactly if it is the text of that command, and the command's numbers fit. So no line
--- longer than 34 bytes is a command, and a longer line may be cut. Assumes nothing.
-use Prim.Native.Nat.{ℕ, suc, _+_, _^_, _≤_, _<_}
+-- longer than `longest` bytes is a command, and a longer line may be cut. Assumes nothing.
+use Prim.Native.Nat.{ℕ, suc, _+_, _*_, _/_, _^_, _≤_, _<_}
 use mathlib.Core.Path.{_≡_, refl, sym, ap, subst, _∙_}
 use mathlib.Core.Bool.{Bool, true, false, cond}
 use mathlib.Core.Option.{Option, none, some, Option·none-ne-some, Option·some-injective}
@@ -13,7 +13,8 @@ use lib.Seq.{length-take-le, take-all}
 use borrow.Author.Tests.{lt-ltb, ltb-true, eqb-true}
 use Rattle.command.specs.Command.{Command, join, leave, deliver, turn, settle, find, print}
 use Rattle.command.specs.Command.{fields, decimal, fitting, given, isLetter, when, commandOf, parsed}
-use Rattle.command.specs.Text.{shown, spaced, joined, letterOf, numbersOf, fieldsOf, text, fits}
+use Rattle.command.specs.Text.{shown, spaced, joined, letterOf, numbersOf, fieldsOf, text, fits, decimals, longest}
+use Rattle.graph.specs.Vector.{width}
 use Rattle.base.proofs.Cases.{lt-or-ge}
 use Rattle.command.proofs.Decimal.{Plain, decimal-shown, shown-decimal, plain-shown, shown-length}
 use Rattle.command.proofs.Joined.{AllPlain, fields-joined, joined-fields}
@@ -25,7 +26,7 @@ field-shown w n h = rw (decimal-shown n, lt-ltb n (2 ^ w) h)
 
 command-fields : (c : Command) → fits c → commandOf (fieldsOf c) ≡ some c
 unfolding commandOf fieldsOf
-command-fields (join s n v w) h = rw (field-shown 8 s (h .0), field-shown 64 n (h .1), field-shown 8 v (h .2), field-shown 8 w (h .3))
+command-fields (join s n v w) h = rw (field-shown 8 s (h .0), field-shown 64 n (h .1), field-shown width v (h .2), field-shown 8 w (h .3))
 command-fields (leave s) h = rw (field-shown 8 s h)
 command-fields (deliver k t a l d) h =
     rw (field-shown 8 k (h .0), field-shown 8 t (h .1), field-shown 8 a (h .2), field-shown 8 l (h .3), field-shown 8 d (h .4))
@@ -111,7 +112,7 @@ spelt (x ∷ a ∷ b ∷ []) c e =
 spelt (x ∷ a ∷ b ∷ d ∷ []) c e = absurd (Option·none-ne-some c e)
 spelt (x ∷ a ∷ b ∷ d ∷ f ∷ []) c e =
     word-then 74 x _ c e λ k e₀. number-then 8 a _ c e₀ λ s p₁ h₁ e₁. number-then 64 b _ c e₁ λ n p₂ h₂ e₂.
-    number-then 8 d _ c e₂ λ v p₃ h₃ e₃. number-then 8 f _ c e₃ λ w p₄ h₄ e₄.
+    number-then width d _ c e₂ λ v p₃ h₃ e₃. number-then 8 f _ c e₃ λ w p₄ h₄ e₄.
     spelt-as (join s n v w) c e₄ (cc) (h₁, h₂, h₃, h₄)
 spelt (x ∷ a ∷ b ∷ d ∷ f ∷ g ∷ []) c e =
     word-then 68 x _ c e λ k e₀. number-then 8 a _ c e₀ λ m p₁ h₁ e₁. number-then 8 b _ c e₁ λ t p₂ h₂ e₂.
@@ -127,7 +128,7 @@ text-parsed l c e = let s = spelt (fields l) c e in (ap joined (s .0) ∙ joined
 pub line-command : (l : List ℕ) (c : Command) → (parsed l ≡ some c) ↔ ((text c ≡ l) × fits c)
 line-command l c = (text-parsed l c, λ h. rw (← h .0) (parsed-text c (h .1)))
 
--- the longest text is `J 255 18446744073709551615 255 255`
+-- the longest text at width 8 is `J 255 18446744073709551615 255 255`
 spaced-length : (f : List ℕ) (fs : List (List ℕ)) → length (spaced (f ∷ fs)) ≡ suc (length f + length (spaced fs))
 unfolding spaced
 spaced-length f fs = ap suc (length-append f (spaced fs))
@@ -136,16 +137,19 @@ spaced-end : length (spaced []) ≡ 0
 unfolding spaced
 spaced-end = refl
 
-byte-length : (n : ℕ) → n < 2 ^ 8 → length (shown n) ≤ 3
+byte-length : (n : ℕ) → n < 2 ^ 8 → length (shown n) ≤ decimals 8
 byte-length n h = shown-length 2 n (omega arith)
 
-number-length : (n : ℕ) → n < 2 ^ 64 → length (shown n) ≤ 20
+vector-length : (n : ℕ) → n < 2 ^ width → length (shown n) ≤ decimals width
+vector-length n h = shown-length (width * 3 / 10) n (omega arith)
+
+number-length : (n : ℕ) → n < 2 ^ 64 → length (shown n) ≤ decimals 64
 number-length n h = shown-length 19 n (omega arith)
 
-text-length : (c : Command) → fits c → length (text c) ≤ 34
+text-length : (c : Command) → fits c → length (text c) ≤ longest
 unfolding text joined fieldsOf
 text-length (join s n v w) h =
-    simp (spaced-length, spaced-end) (omega (arith, byte-length s (h .0), number-length n (h .1), byte-length v (h .2), byte-length w (h .3)))
+    simp (spaced-length, spaced-end) (omega (arith, byte-length s (h .0), number-length n (h .1), vector-length v (h .2), byte-length w (h .3)))
 text-length (leave s) h = simp (spaced-length, spaced-end) (omega (arith, byte-length s h))
 text-length (deliver k t a l d) h =
     simp (spaced-length, spaced-end)
@@ -155,15 +159,15 @@ text-length settle h = simp spaced-end (omega arith)
 text-length (find s n) h = simp (spaced-length, spaced-end) (omega (arith, byte-length s (h .0), number-length n (h .1)))
 text-length print h = simp spaced-end (omega arith)
 
-pub long-bad : (l : List ℕ) → 34 < length l → parsed l ≡ none
+pub long-bad : (l : List ℕ) → longest < length l → parsed l ≡ none
 long-bad l h = by (parsed l) refl
   where
     by : (o : Option Command) → parsed l ≡ o → o ≡ none
     by none e = refl
     by (some c) e = let t = text-parsed l c e in absurd (omega (arith, text-length c (t .1), ap length (t .0)))
 
--- so a reader may cut a line anywhere past its 34th byte
-pub cut-line : (k : ℕ) (l : List ℕ) → 34 < k → parsed (take k l) ≡ parsed l
+-- so a reader may cut a line anywhere past that
+pub cut-line : (k : ℕ) (l : List ℕ) → longest < k → parsed (take k l) ≡ parsed l
 cut-line k l h = ⊎-elim
     (λ p. long-bad (take k l) (rw (length-take-le k l (omega arith)) h) ∙ sym (long-bad l (omega arith)))
     (λ p. ap parsed (take-all k l p))

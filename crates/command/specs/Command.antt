@@ -5,6 +5,7 @@ use mathlib.Core.Option.{Option, none, some}
 use mathlib.Core.Bool.{Bool, true, false, cond, _&&_}
 use mathlib.Core.List.{List, [], _∷_}
 use lib.Dec.{eqb, leb, ltb}
+use Rattle.graph.specs.Vector.{width}
 
 pub data Command : Type 0 where
   join : (seat number vector contact : ℕ) → Command
@@ -47,9 +48,12 @@ unfoldable pub fitting : (w : ℕ) → Option ℕ → Option ℕ
 fitting w none = none
 fitting w (some n) = cond (ltb n (2 ^ w)) (some n) none
 
--- a field of 8 bits, and of 64
+-- a field of 8 bits, of a vector's bits, and of 64
 abbrev pub byteField : List ℕ → Option ℕ
 byteField f = fitting 8 (decimal f)
+
+abbrev pub vectorField : List ℕ → Option ℕ
+vectorField f = fitting width (decimal f)
 
 abbrev pub numberField : List ℕ → Option ℕ
 numberField f = fitting 64 (decimal f)
@@ -78,7 +82,7 @@ commandOf (c ∷ a ∷ b ∷ []) = when (isLetter 70 c) (given (byteField a) (λ
 commandOf (c ∷ a ∷ b ∷ d ∷ []) = none
 commandOf (c ∷ a ∷ b ∷ d ∷ e ∷ []) =
     when (isLetter 74 c)
-    (given (byteField a) (λ s. given (numberField b) (λ n. given (byteField d) (λ v. given (byteField e) (λ w. some (join s n v w))))))
+    (given (byteField a) (λ s. given (numberField b) (λ n. given (vectorField d) (λ v. given (byteField e) (λ w. some (join s n v w))))))
 commandOf (c ∷ a ∷ b ∷ d ∷ e ∷ f ∷ []) =
     when (isLetter 68 c)
     (given (byteField a) (λ k. given (byteField b) (λ t. given (byteField d) (λ x.

@@ -1,9 +1,10 @@
 -- The text of a command: its letter and its numbers in decimal, with one space between. `proofs/Text.antt` shows that a line is a command
 -- exactly if it is that command's text. Assumes nothing.
-use Prim.Native.Nat.{ℕ, zero, suc, _+_, _/_, _%_, _^_, _<_}
+use Prim.Native.Nat.{ℕ, zero, suc, _+_, _*_, _/_, _%_, _^_, _<_}
 use mathlib.Core.Bool.{true, false}
 use mathlib.Core.List.{List, [], _∷_, _++_, map}
 use lib.Dec.{ltb}
+use Rattle.graph.specs.Vector.{width}
 use Rattle.command.specs.Command.{Command, join, leave, deliver, turn, settle, find, print}
 
 -- the decimal digits of a number n: one below 10, else those of n / 10 and one more. There are at most suc k
@@ -48,12 +49,19 @@ fieldsOf c = (letterOf c ∷ []) ∷ map shown (numbersOf c)
 unfoldable pub text : Command → List ℕ
 text c = joined (fieldsOf c)
 
--- a lot's number fits 64 bits, all other numbers fit 8
+-- a lot's number fits 64 bits, its vector the width, all other numbers fit 8
 abbrev pub fits : Command → Type 0
-fits (join s n v c) = (s < 2 ^ 8) × (n < 2 ^ 64) × (v < 2 ^ 8) × (c < 2 ^ 8)
+fits (join s n v c) = (s < 2 ^ 8) × (n < 2 ^ 64) × (v < 2 ^ width) × (c < 2 ^ 8)
 fits (leave s) = s < 2 ^ 8
 fits (deliver k t a l d) = (k < 2 ^ 8) × (t < 2 ^ 8) × (a < 2 ^ 8) × (l < 2 ^ 8) × (d < 2 ^ 8)
 fits turn = Unit
 fits settle = Unit
 fits (find s n) = (s < 2 ^ 8) × (n < 2 ^ 64)
 fits print = Unit
+
+-- the decimal digits of the largest number of w bits, and the bytes of the longest text, `J` with four numbers
+abbrev pub decimals : (w : ℕ) → ℕ
+decimals w = suc (w * 3 / 10)
+
+abbrev pub longest : ℕ
+longest = 1 + suc (decimals 8) + suc (decimals 64) + suc (decimals width) + suc (decimals 8)

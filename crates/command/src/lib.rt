@@ -21,6 +21,9 @@ const FIRST: usize = 2;
 // The largest number of 8 bits.
 const BYTE_MAX: u64 = 255;
 
+// The largest vector.
+const VECTOR_MAX: u64 = (1 << graph::WIDTH) - 1;
+
 // A command with its numbers in the order of the line, or no command.
 pub enum Parsed {
     Bad,
@@ -130,13 +133,16 @@ fn join(line: &[u8]) -> Parsed
     let Number::More(n, at_vector) = number_at(line, at_number) else {
         return Parsed::Bad;
     };
-    let Byte::More(vector, at_contact) = byte_at(line, at_vector) else {
+    let Number::More(vector, at_contact) = number_at(line, at_vector) else {
         return Parsed::Bad;
     };
+    if vector > VECTOR_MAX {
+        return Parsed::Bad;
+    }
     let Byte::Last(contact) = byte_at(line, at_contact) else {
         return Parsed::Bad;
     };
-    Parsed::Join(seat, n, vector, contact)
+    Parsed::Join(seat, n, vector as u8, contact)
 }
 
 // `L seat`
@@ -197,7 +203,7 @@ fn alone(letter: u8) -> Parsed
 }
 
 // The command that a line is: `J 0 100 0 255` is `Join(0, 100, 0, 255)`. A line of another form, or with a number too wide, is `Bad`: an empty
-// line too, one with two spaces together or with a space at an end, and any line of more than 34 bytes (proofs/Text.antt, `long-bad`).
+// line too, one with two spaces together or with a space at an end, and any line of more than `longest` bytes (proofs/Text.antt, `long-bad`).
 pub fn parse(line: &[u8]) -> Parsed
     ensures { λ r. ⌜ asCommand r ≡ parsed (now (line .entry)) ⌝ }
 {

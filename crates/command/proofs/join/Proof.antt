@@ -1,7 +1,12 @@
 -- `command::join` meets its contract. a1, a2, .. are the places after each read. Assumes nothing.
+use Prim.Native.Nat.{_^_}
+use native.Mathlib.Omega.{arith}
+use borrow.Author.Tests.{lt-ltb, le-ltb}
 use borrow.Author.Needs.{needs}
+use Rattle.graph.specs.Vector.{width}
+use Rattle.command.proofs.Reading.{read-vector}
 use Rattle.command.proofs.Commands.{join-reads}
-use Rattle.command.proofs.Answers.{byte-no-last, byte-no-more, number-no-more}
+use Rattle.command.proofs.Answers.{byte-no-last, byte-no-more, number-no-more, vector-no-more}
 use Rattle.command.proofs.join.Statement.{statement}
 use Rattle.command.proofs.join.Tie as tie
 use Rattle.command.proofs.join.Reads as reads
@@ -42,8 +47,8 @@ returns-2 c =
       number-no-more (a1 .before .before .args .line .now) (a2 .number-at .result) _ (c .match2 .keys2),
     )
 
-byte-at-requires-2 : tie.Need-byte-at-requires-2
-byte-at-requires-2 c κs = search needs
+number-at-requires-2 : tie.Need-number-at-requires-2
+number-at-requires-2 c κs = search needs
 
 enum-known-vector : tie.Need-enum-known-vector
 enum-known-vector c = search needs
@@ -59,38 +64,40 @@ returns-3 c =
       a2 .before .before .seat .given .1,
       ← a2 .number-at .ensures,
       a3 .before .before .n .given .1,
-      ← a3 .byte-at2 .ensures,
-      byte-no-more (a1 .before .before .args .line .now) (a3 .byte-at2 .result) _ (c .match3 .keys2),
+      read-vector,
+      ← a3 .number-at2 .ensures,
+      vector-no-more (a1 .before .before .args .line .now) (a3 .number-at2 .result) _ (c .match3 .keys2),
     )
 
-byte-at-requires-3 : tie.Need-byte-at-requires-3
-byte-at-requires-3 c κs = search needs
+returns-4 : tie.Need-returns-4
+returns-4 c =
+    let v = c .before .before in
+    let a3 = v .before .before in
+    let a2 = a3 .before .before .before .before in
+    let a1 = a2 .before .before .before .before in
+    rw (
+      join-reads,
+      ← a1 .byte-at .ensures,
+      a2 .before .before .seat .given .1,
+      ← a2 .number-at .ensures,
+      a3 .before .before .n .given .1,
+      read-vector,
+      ← a3 .number-at2 .ensures,
+      v .vector .given .1,
+      le-ltb (v .vector .given .0 .0) (2 ^ width) (omega arith),
+    )
+
+byte-at-requires-2 : tie.Need-byte-at-requires-2
+byte-at-requires-2 c κs = search needs
 
 enum-known-contact : tie.Need-enum-known-contact
 enum-known-contact c = search needs
 
-returns-4 : tie.Need-returns-4
-returns-4 c =
-    let a4 = c .before in
-    let a3 = a4 .before .before .before .before in
-    let a2 = a3 .before .before .before .before in
-    let a1 = a2 .before .before .before .before in
-    rw (
-      join-reads,
-      ← a1 .byte-at .ensures,
-      a2 .before .before .seat .given .1,
-      ← a2 .number-at .ensures,
-      a3 .before .before .n .given .1,
-      ← a3 .byte-at2 .ensures,
-      a4 .before .before .vector .given .1,
-      ← a4 .byte-at3 .ensures,
-      byte-no-last (a1 .before .before .args .line .now) (a4 .byte-at3 .result) _ (c .match4 .keys2),
-    )
-
 returns-5 : tie.Need-returns-5
 returns-5 c =
-    let a4 = c .before .before .before in
-    let a3 = a4 .before .before .before .before in
+    let a4 = c .before in
+    let v = a4 .before .before .before in
+    let a3 = v .before .before in
     let a2 = a3 .before .before .before .before in
     let a1 = a2 .before .before .before .before in
     rw (
@@ -99,9 +106,35 @@ returns-5 c =
       a2 .before .before .seat .given .1,
       ← a2 .number-at .ensures,
       a3 .before .before .n .given .1,
-      ← a3 .byte-at2 .ensures,
-      a4 .before .before .vector .given .1,
-      ← a4 .byte-at3 .ensures,
+      read-vector,
+      ← a3 .number-at2 .ensures,
+      v .vector .given .1,
+      lt-ltb (v .vector .given .0 .0) (2 ^ width) (omega arith),
+      ← a4 .byte-at2 .ensures,
+      byte-no-last (a1 .before .before .args .line .now) (a4 .byte-at2 .result) _ (c .match4 .keys2),
+    )
+
+cast-t14 : tie.Need-cast-t14
+cast-t14 c = search needs
+
+returns-6 : tie.Need-returns-6
+returns-6 c =
+    let a4 = c .before .before .before in
+    let v = a4 .before .before .before in
+    let a3 = v .before .before in
+    let a2 = a3 .before .before .before .before in
+    let a1 = a2 .before .before .before .before in
+    rw (
+      join-reads,
+      ← a1 .byte-at .ensures,
+      a2 .before .before .seat .given .1,
+      ← a2 .number-at .ensures,
+      a3 .before .before .n .given .1,
+      read-vector,
+      ← a3 .number-at2 .ensures,
+      v .vector .given .1,
+      lt-ltb (v .vector .given .0 .0) (2 ^ width) (omega arith),
+      ← a4 .byte-at2 .ensures,
       c .before .contact .given .1,
     )
 
@@ -115,10 +148,12 @@ join-spec =
     number-at-requires
     enum-known-n
     returns-2
-    byte-at-requires-2
+    number-at-requires-2
     enum-known-vector
     returns-3
-    byte-at-requires-3
-    enum-known-contact
     returns-4
-    returns-5)
+    byte-at-requires-2
+    enum-known-contact
+    returns-5
+    cast-t14
+    returns-6)
