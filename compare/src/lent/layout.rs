@@ -15,8 +15,8 @@ pub const PENDING_AT: usize = ENTRIES_AT + SEATS * ENTRY;
 pub const ENTRY: usize = LINKS_AT + LEVELS * SIDE_COUNT;
 pub const STATE_AT: usize = 0;
 pub const NUMBER_AT: usize = 1;
-pub const VECTOR_AT: usize = 9;
-pub const LINKS_AT: usize = 10;
+pub const VECTOR_AT: usize = NUMBER_AT + size_of::<u64>();
+pub const LINKS_AT: usize = VECTOR_AT + BITS / 8;
 
 /// A link to none.
 pub const NO_LINK: u8 = 255;
