@@ -101,7 +101,8 @@ module _ (l : List ℕ) (e : openRefusal l ≡ 0) (cs : List Call) (t : T (fits 
       → linkByte (v .link 0 0 left) ≡ 255 → linkByte (v .link 0 0 right) ≡ right-link → v .pending ≡ ms → Lot100 l cs right-link ms
   lot100-seen y ms a m p q w = record {
     log = log-seen a;
-    links = subst (λ (x : ℕ). LinksOf (bytesRun l cs .now) 0 0 x y) p (subst (LinksOf (bytesRun l cs .now) 0 0 (linkByte (v .link 0 0 left))) q (links-seen 0 0 m tt));
+    links = subst (λ (x : ℕ). LinksOf (bytesRun l cs .now) 0 0 x y) p
+        (subst (LinksOf (bytesRun l cs .now) 0 0 (linkByte (v .link 0 0 left))) q (links-seen 0 0 m tt));
     pending = subst (Pending (bytesRun l cs .now)) w pending-seen;
   }
 

@@ -60,7 +60,9 @@ module _ (l : List ℕ) where
     pub back-some : y < seats → backOf (members oneComponent (seatsIn l)) (meaning l .link) x k (sideOfNumber d) (meaning l .link x k (sideOfNumber d))
         ≡ member (seatsIn l) y && eqb (getD l (linkAt y k (sideOfNumber (1 - d))) 0) x
     unfolding backOf
-    back-some q = rw (link-read l x k (sideOfNumber d) y h g e, linkOf-some y q, ← side-opp d a, link-read l y k (sideOfNumber (1 - d)) _ q g refl, same-seat _ x h)
+    back-some q =
+        let other = link-read l y k (sideOfNumber (1 - d)) (getD l (linkAt y k (sideOfNumber (1 - d))) 0) q g refl in
+        rw (link-read l x k (sideOfNumber d) y h g e, linkOf-some y q, ← side-opp d a, other, same-seat _ x h)
 
   -- a start
   pub starts-byte : (x : ℕ) → x < seats

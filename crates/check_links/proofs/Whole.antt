@@ -83,7 +83,8 @@ module _ (l : List ℕ) (e : length l ≡ size) (b : AreBytes l) (s : sound l �
     above-near = rw (up-link, link-read l x k right w h (omega arith) low, near) (sym (T-true (eq-link run-ends)))
 
   -- so the test of the links is the check of specs/
-  links-right : linksOk seats width (members oneComponent (seatsIn l)) (meaning l .link) ≡ check seats width (members oneComponent (seatsIn l)) (meaning l .link)
+  links-right : linksOk seats width (members oneComponent (seatsIn l)) (meaning l .link)
+      ≡ check seats width (members oneComponent (seatsIn l)) (meaning l .link)
   links-right = links-check lots-laws links-sided (λ x y m n. refl)
 
 -- the answers

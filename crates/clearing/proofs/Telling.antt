@@ -68,8 +68,9 @@ module _ (M : Meaning) (c : Linked M) (y k d b : ℕ) (h : y < seats) (g : k < l
   link-named : M .link y k (sideOfNumber d) ≡ linkOf b
   link-named =
       let s = sideOfNumber d in
+      let byte = read-link M y h k s g (λ z q. c y k z s q) in
       let back = linkOf-linkByte (M .link y k s) (λ z q. c y k z s q) in
-      sym (f ∙ ap (λ (m : List ℕ). meaning m .link y k s) e ∙ meaning-link (bytesOf M) y k s h g ∙ ap linkOf (read-link M y h k s g (λ z q. c y k z s q)) ∙ back)
+      sym (f ∙ ap (λ (m : List ℕ). meaning m .link y k s) e ∙ meaning-link (bytesOf M) y k s h g ∙ ap linkOf byte ∙ back)
 
   pub tell-sent : b < seats
       → setBit l pendingFrom (place seats width (going b k (sideOfNumber (1 - d)))) ≡ bytesOf (saying M (farewell (M .link) y k (sideOfNumber d)))

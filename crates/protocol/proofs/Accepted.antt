@@ -40,7 +40,8 @@ module _ (N W : ℕ) (r : Seats) (p : Msg → Bool) where
             (or-false (noSeat N s) (noSeat N c && not (eqb c nobodyToContact)) (no-row rs noSuchSeat tt e)));
         opens = phase-open (r .phase) (false-not (no-row rs inClearing tt e));
         free = no-row rs seatTaken tt e;
-        unused = λ x l t q. any-none N (λ z. taken r z && eqb (r .number z) n) (no-row rs numberInUse tt e) x l (and-T (taken r x) (eqb (r .number x) n) t (true-T (eq-eqb _ _ q)));
+        unused = λ x l t q. any-none N (λ z. taken r z && eqb (r .number z) n) (no-row rs numberInUse tt e) x l
+            (and-T (taken r x) (eqb (r .number x) n) t (true-T (eq-eqb _ _ q)));
         contact = λ l. true-T (not-false (seated r c) (rw (lt-ltb c N l) at known));
         alone = λ l x m t. any-none N (seated r) (rw (le-ltb c N l) at known) x m t;
       }

@@ -15,7 +15,8 @@ use Rattle.protocol.specs.State.{Meaning, oneComponent, nobody, opened, 
 use Rattle.protocol.specs.Calls.{Call, join, leave, deliver, turn, refusal, seatsAfter, sends, takes, accept, unlessRefused, call, InRange}
 use Rattle.protocol.specs.Page.{pendingAfter}
 use Rattle.protocol.specs.Sound.{Sound}
-use Rattle.protocol.specs.Run.{Logged, Roster, membersOf, rosterAfter, stepsFrom, Standing, logOf, step, steps, meaningRun, rosterOf, pendingOf, RefusedByTable, NothingPending, accepted, MeaningDemand3}
+use Rattle.protocol.specs.Run.{Logged, Standing, logOf, step, steps, stepsFrom, accepted, Roster, membersOf, meaningRun, rosterAfter, rosterOf}
+use Rattle.protocol.specs.Run.{pendingOf, RefusedByTable, NothingPending, MeaningDemand3}
 use Rattle.protocol.specs.Run.{AllInRange}
 use Rattle.protocol.proofs.Numbering.{none-pending, pending-none}
 use Rattle.protocol.proofs.Delivery.{stateOf, accept-deliver}
@@ -77,10 +78,12 @@ module _ (N W : ℕ) where
       (sane-join oneComponent (g .sound) s n v c ok (λ l. refl) (subst (Sane oneComponent W M) (ok .opens) (g .sane)))
   sane-accept {M} g (leave s) e =
       let ok = leave-rows N W (M .seats) (M .pending) s e in
-      subst (Sane oneComponent W (accept N W M (leave s))) (sym (phase-leave M s ∙ ok .opens)) (sane-leave oneComponent M s ok (subst (Sane oneComponent W M) (ok .opens) (g .sane)))
+      subst (Sane oneComponent W (accept N W M (leave s))) (sym (phase-leave M s ∙ ok .opens))
+      (sane-leave oneComponent M s ok (subst (Sane oneComponent W M) (ok .opens) (g .sane)))
   sane-accept {M} g (deliver n) e =
       let t = deliver-taken N W M n e in
-      subst (λ (K : Meaning). Sane oneComponent W K (K .seats .phase)) (sym (accept-deliver N W M n (t .message) (t .is))) (sane-deliver (g .sane) (t .message) (t .was))
+      subst (λ (K : Meaning). Sane oneComponent W K (K .seats .phase)) (sym (accept-deliver N W M n (t .message) (t .is)))
+      (sane-deliver (g .sane) (t .message) (t .was))
   sane-accept {M} g turn e = sane-turn oneComponent (g .sound) (quiet-none (g .sound) (turn-row N W (M .seats) (M .pending) e)) (g .sane)
 
   reached-accept : {M : Meaning} → Reached oneComponent N W M → (c : Call) → InRange N W c → refusal N W (M .seats) (M .pending) c ≡ 0
@@ -96,7 +99,8 @@ module _ (N W : ℕ) where
       by (suc n) e = g
 
   -- part 5: no list of deliveries has more accepted ones than the bound
-  ends-step : {M : Meaning} → Reached oneComponent N W M → (n : Name) (ns : List Name) → ((K : Meaning) → Reached oneComponent N W K → accepted (call N W) K ns ≤ bound N W K)
+  ends-step : {M : Meaning} → Reached oneComponent N W M → (n : Name) (ns : List Name)
+      → ((K : Meaning) → Reached oneComponent N W K → accepted (call N W) K ns ≤ bound N W K)
       → unlessRefused (call N W M (deliver n) .refused) 0 1 + accepted (call N W) (call N W M (deliver n) .after) ns ≤ bound N W M
   unfolding call unlessRefused
   ends-step {M} g n ns ih = by (refusal N W (M .seats) (M .pending) (deliver n)) refl

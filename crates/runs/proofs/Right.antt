@@ -54,7 +54,8 @@ module _ (M : Meaning) (h : Sound seats width M) where
       let f : seated (M .seats) s ≡ true = T-true m in
       rw (eq-eqb (length (bytesOf M)) size (length-bytesOf M), bytes-sound h, lt-ltb s seats (seated-below h s m), seats-bytes, f, meaning-bytes h)
 
-module _ (l : List ℕ) (e : openRefusal l ≡ 0) (cs : List Call) (r : AllInRange seats width cs) (q : NothingPending seats width (meant (bytesRun l cs .history))) where
+module _ (l : List ℕ) (e : openRefusal l ≡ 0) (cs : List Call) (r : AllInRange seats width cs)
+    (q : NothingPending seats width (meant (bytesRun l cs .history))) where
   abbrev M : Meaning
   M = meaningRun seats width cs .now
 
@@ -73,7 +74,8 @@ module _ (l : List ℕ) (e : openRefusal l ≡ 0) (cs : List Call) (r : AllInRan
   kept o e f g = rw (e, ← f) g
 
   right : IsGraph seats width (members oneComponent (M .seats)) (M .link)
-  right = kept (rosterOf seats width (logOf (meaningRun seats width cs .history))) (D .lots) together (D .graph (subst (NothingPending seats width) (both .history) q))
+  right = kept (rosterOf seats width (logOf (meaningRun seats width cs .history))) (D .lots) together
+      (D .graph (subst (NothingPending seats width) (both .history) q))
 
   pub checked : checkIn (bytesRun l cs .now) ≡ record { refused = 0; yes = true }
   checked = ap checkIn (both .now) ∙ check-bytes M (both .fine)
@@ -89,7 +91,8 @@ module _ (l : List ℕ) (e : openRefusal l ≡ 0) (cs : List Call) (r : AllInRan
 
   pub found : roster (bytesRun l cs .history) .seats .phase ≡ open-phase → (s x : ℕ) → T (seated (roster (bytesRun l cs .history) .seats) s)
       → (findIn (bytesRun l cs .now) s x .refused ≡ 0)
-      × RightHolder (seated (roster (bytesRun l cs .history) .seats)) (roster (bytesRun l cs .history) .seats .number) x (findIn (bytesRun l cs .now) s x .holder)
+      × RightHolder (seated (roster (bytesRun l cs .history) .seats)) (roster (bytesRun l cs .history) .seats .number) x
+      (findIn (bytesRun l cs .now) s x .holder)
   found p s x m =
       let n : T (seated (M .seats) s) = subst (λ (r : Seats). T (seated r s)) (sym who) m in
       let a = ap (λ (b : List ℕ). findIn b s x) (both .now) ∙ find-bytes M (both .fine) s x n in

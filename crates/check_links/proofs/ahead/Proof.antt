@@ -17,7 +17,8 @@ use Rattle.check_links.proofs.ahead.Tie as tie
 
 abbrev Inv-loop : tie.InvT-loop
 Inv-loop rec x k b y₀ counter₀ y counter = (counter ≤ seats)
-    × (runOf rec k (bit width k (seatsIn rec .vector x)) (seats - counter) (linkOf y) ≡ aheadOf seats width (members oneComponent (seatsIn rec)) (meaning rec .link) x k)
+    × (runOf rec k (bit width k (seatsIn rec .vector x)) (seats - counter) (linkOf y)
+    ≡ aheadOf seats width (members oneComponent (seatsIn rec)) (meaning rec .link) x k)
 
 abbrev μ-loop : tie.MeasureT-loop
 μ-loop rec x k b y₀ counter₀ y counter = seats - counter

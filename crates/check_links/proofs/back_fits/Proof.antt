@@ -20,7 +20,8 @@ cast-y c = search needs
 returns : tie.Need-returns
 returns c =
     let s = c .before .before .before .args in
-    back-none (s .rec .now) (s .x) (s .k) (s .d) (c .before .link .result) (search needs) (search needs) (search needs) (c .before .link .ensures) (c .if1 .taken)
+    back-none (s .rec .now) (s .x) (s .k) (s .d) (c .before .link .result) (search needs) (search needs) (search needs)
+    (c .before .link .ensures) (c .if1 .taken)
 
 seated-is-member-requires : tie.Need-seated-is-member-requires
 seated-is-member-requires c κs =

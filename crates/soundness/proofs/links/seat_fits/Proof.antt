@@ -14,7 +14,8 @@ is-seated-requires c κs = search needs
 returns : tie.Need-returns
 returns c =
     let r = c .before .before .before in
-    free-links _ _ (r .pre .3) (r .pre .2) (empty-free (seatsIn (r .args .rec .now)) (r .args .x) (sym (c .before .is-seated .ensures) ∙ not-true _ (c .if1 .taken)))
+    let none = sym (c .before .is-seated .ensures) ∙ not-true _ (c .if1 .taken) in
+    free-links _ _ (r .pre .3) (r .pre .2) (empty-free (seatsIn (r .args .rec .now)) (r .args .x) none)
 
 lot-fits-requires : tie.Need-lot-fits-requires
 lot-fits-requires c κs =
