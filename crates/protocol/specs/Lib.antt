@@ -1,6 +1,7 @@
 -- What the protocol does, on the meaning of a record. Names no byte.
 pub mod Message
 pub mod Numbering
+pub mod Order
 pub mod Rules
 pub mod State
 pub mod Refusals
