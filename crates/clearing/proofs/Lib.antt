@@ -5,3 +5,4 @@ pub mod Freed
 pub mod Unlinking
 pub mod Accepted
 pub mod Refused
+pub mod Idle
