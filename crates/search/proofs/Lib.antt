@@ -11,3 +11,4 @@ pub mod LinkTests
 pub mod LinkCheck
 pub mod OneStart
 pub mod Examples
+pub mod Agree
