@@ -3,3 +3,4 @@ pub mod Same
 pub mod Readings
 pub mod Theorem
 pub mod Right
+pub mod History
