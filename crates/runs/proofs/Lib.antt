@@ -1,6 +1,7 @@
 -- Demand 3 on the bytes.
 pub mod Same
 pub mod Readings
+pub mod Typed
 pub mod Theorem
 pub mod Right
 pub mod History

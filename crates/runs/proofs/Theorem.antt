@@ -1,4 +1,6 @@
--- Demand 3 on the bytes, for every list of calls on an opened record: `every-list`. Assumes nothing.
+-- Demand 3 on the bytes, for every list of calls on an opened record: `demand-3`, `every-list`. The bound of its last part, "a number, fixed
+-- by the record alone", is `bound`: computed from the bytes and from nothing else, how far the links still are and a rank for each pending
+-- message, as crates/protocol/proofs/Measure.antt has it. Every accepted delivery lowers it. Assumes nothing.
 use Prim.Native.Nat.{ℕ, zero, suc, _<_}
 use mathlib.Core.Path.{_≡_, sym, ap, _∙_, subst, fun-ext}
 use mathlib.Core.Bool.{Bool, false}
@@ -26,11 +28,13 @@ use Rattle.record.specs.Layout.{seats, levels, size}
 use Rattle.record.specs.Meaning.{meaning, bytesOf, phaseByte, linkByte}
 use Rattle.record.specs.Reading.{openRefusal, readLot, readLink, readMessage, CountAnswer, readCounts}
 use Rattle.record.proofs.Round.{meaning-bytes}
-use Rattle.runs.specs.Run.{bytesRun, meant, lotOf, Demand3}
+use Rattle.runs.specs.Typed.{AllTyped}
+use Rattle.runs.specs.Run.{bytesRun, meant, lotOf, Demand3, EveryList}
+use Rattle.runs.proofs.Typed.{all-typed}
 use Rattle.runs.proofs.Same.{Same, run-same, accepted-same}
 use Rattle.runs.proofs.Readings.{countsOf, read-lot, read-message, read-counts, read-link, count-none}
 
--- a number computed from the bytes alone
+-- the bound: a number computed from the bytes alone
 unfoldable pub bound : List ℕ → ℕ
 bound l = measure.bound seats width (meaning l)
 
@@ -89,5 +93,13 @@ carried s t h D = record {
         (sym (h .history)) (D .graph) q
         .link x k d m (omega arith)
 
-pub every-list : (l : List ℕ) → openRefusal l ≡ 0 → (cs : List Call) → AllInRange seats width cs → Demand3 bound (bytesRun l cs)
-every-list l e cs r = carried (bytesRun l cs) (meaningRun seats width cs) (run-same l (open-sized l e) cs r) (protocol-theorem.every-list seats width cs r)
+in-range : (l : List ℕ) → openRefusal l ≡ 0 → (cs : List Call) → AllInRange seats width cs → Demand3 bound (bytesRun l cs)
+in-range l e cs r = carried (bytesRun l cs) (meaningRun seats width cs) (run-same l (open-sized l e) cs r) (protocol-theorem.every-list seats width cs r)
+
+-- the arguments are any that the types of the code can hold
+pub every-list : (l : List ℕ) → openRefusal l ≡ 0 → (cs : List Call) → AllTyped cs → Demand3 bound (bytesRun l cs)
+every-list l e cs t = in-range l e cs (all-typed cs t)
+
+-- THE THEOREM: one bound for all lists
+pub demand-3 : EveryList
+demand-3 = record { bound = bound; after = every-list }

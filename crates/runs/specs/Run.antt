@@ -1,6 +1,6 @@
 -- Lists of calls on the bytes of a record that open has just written, by the definitions that the contracts of the calls cite, and what
 -- demand 3 says of the readings after every list. The roster is kept from the log alone, pending messages from the history; table,
--- members and graph are the protocol's and the graph's. Assumes nothing.
+-- members and graph are the protocol's and the graph's. `EveryList` is demand 3 whole. Assumes nothing.
 use Prim.Native.Nat.{ℕ, _≤_, _<_}
 use mathlib.Core.Path.{_≡_}
 use mathlib.Core.Logic.{_↔_}
@@ -14,12 +14,13 @@ use Rattle.graph.specs.Graph.{graph}
 use Rattle.protocol.specs.Message.{Name, named}
 use Rattle.protocol.specs.State.{Seats, Meaning, taken, seated, isPending, member}
 use Rattle.protocol.specs.Refusals.{emptySeat}
-use Rattle.protocol.specs.Calls.{Call}
+use Rattle.protocol.specs.Calls.{Call, deliver}
 use Rattle.protocol.specs.Run.{Past, Standing, logOf, stepsFrom, accepted, Roster, membersOf, rosterOf, pendingOf, RefusedByTable, NothingPending}
 use Rattle.record.specs.Layout.{seats, levels}
 use Rattle.record.specs.Meaning.{meaning, phaseByte, stateByte, linkByte}
-use Rattle.record.specs.Reading.{openBytes, LotAnswer, readLot, readLink, readMessage, readCounts}
+use Rattle.record.specs.Reading.{openRefusal, openBytes, LotAnswer, readLot, readLink, readMessage, readCounts}
 use Rattle.record.specs.Call.{called}
+use Rattle.runs.specs.Typed.{AllTyped}
 
 -- open on the bytes l, then the calls
 unfoldable pub bytesRun : List ℕ → List Call → Standing (List ℕ)
@@ -39,7 +40,7 @@ unfoldable pub lotOf : Seats → ℕ → LotAnswer
 lotOf r x = cond (not (taken r x)) (record { refused = emptySeat; state = 0; number = 0; vector = 0 })
     (record { refused = 0; state = stateByte (r .state x); number = r .number x; vector = r .vector x })
 
--- demand 3 after a list; the bound is a number fixed by the bytes alone
+-- demand 3 after a list, with a bound for the bytes of a record
 pub record Demand3 (bound : List ℕ → ℕ) (s : Standing (List ℕ)) : Type 0 where
   -- each refusal number is the table's, from the roster and the pending messages before the call
   pub refusals : RefusedByTable seats width (meant (s .history))
@@ -55,5 +56,16 @@ pub record Demand3 (bound : List ℕ → ℕ) (s : Standing (List ℕ)) : Type 0
   -- with none pending, each link of each member reads as in the graph of the members
   pub links : NothingPending seats width (meant (s .history)) → (x k : ℕ) (d : Side) → T (member (roster (s .history) .seats) x) → k < levels
       → readLink (s .now) x k (sideNumber d) ≡ record { refused = 0; seat = linkByte (graph seats width (membersOf (roster (s .history))) x k d) }
-  -- no list of deliveries from here has more accepted ones
+  -- no list of deliveries from here has more accepted ones than the bound
   pub ends : (ns : List Name) → accepted called (s .now) ns ≤ bound (s .now)
+
+-- DEMAND 3: there is a number for the bytes of a record, the same whatever list made them, and with it demand 3 holds after every list of
+-- calls on a record that open has just written over any bytes that it accepts. The arguments are any that the types of the code can hold.
+pub record EveryList : Type 0 where
+  pub bound : List ℕ → ℕ
+  pub after : (l : List ℕ) → openRefusal l ≡ 0 → (cs : List Call) → AllTyped cs → Demand3 bound (bytesRun l cs)
+
+-- each of a list of deliveries is accepted, made of what the one before left
+abbrev pub AllAccepted : List ℕ → List Name → Type 0
+AllAccepted l [] = Unit {0}
+AllAccepted l (n ∷ ns) = (called l (deliver n) .refused ≡ 0) × AllAccepted (called l (deliver n) .after) ns
