@@ -5,3 +5,4 @@ pub mod Typed
 pub mod Theorem
 pub mod Right
 pub mod History
+pub mod SameLots

@@ -1,5 +1,5 @@
 -- Lots that agree on their members have the same graph: what is said of a seat that is no member does not matter. A link of the graph names a
--- member. Assumes the laws of the lots.
+-- member. And the right answers to a search are the same. Assumes the laws of the lots.
 use Prim.Native.Nat.{ℕ}
 use mathlib.Core.Path.{_≡_, sym, _∙_, subst}
 use mathlib.Core.Logic.{_⊎_, inl, inr}
@@ -9,7 +9,8 @@ use lib.Dec.{T}
 use Rattle.graph.specs.Side.{Side}
 use Rattle.graph.specs.Graph.{Lots, Laws, graph}
 use Rattle.graph.specs.inner.Order.{Lt, toL, toR}
-use Rattle.graph.proofs.Neighbour.{InList, Nearest, nobody, nearest, nearest-list, graph-nearest, nearest-graph}
+use Rattle.graph.proofs.Neighbour.{InList, Nearest, nobody as nobody-near, nearest, nearest-list, graph-nearest, nearest-graph}
+use Rattle.search.specs.Right.{RightHolder, holds, nobody}
 
 -- the same members, and of each the same number, vector and component
 pub record Agree (G H : Lots) : Type 0 where
@@ -61,7 +62,7 @@ module _ {G H : Lots} (a : Agree G H) {x : ℕ} (m : T (G .member x)) where
   side-back n l = side-agrees (agree-sym a) (member-there a x m) n l
 
   nearest-agrees : {W k : ℕ} {d : Side} {o : Option ℕ} → Nearest W G k x d o → Nearest W H k x d o
-  nearest-agrees (nobody f) = nobody (λ z p l. f z (list-back p) (side-back (p .member) l))
+  nearest-agrees (nobody-near f) = nobody-near (λ z p l. f z (list-back p) (side-back (p .member) l))
   nearest-agrees {d = d} (nearest {y = y} p l f) = nearest (list-agrees a m p) (side-agrees a m (p .member) l) (λ z q r.
       by z (q .member) (f z (list-back q) (side-back (q .member) r)))
     where
@@ -77,3 +78,15 @@ graph-agrees W laws a x k d m = nearest-graph (agree-laws a laws) (nearest-agree
 -- a link of the graph names a member
 pub graph-member : {N : ℕ} (W : ℕ) {G : Lots} → Laws N G → (x k y : ℕ) (d : Side) → graph N W G x k d ≡ some y → T (G .member y)
 graph-member W {G} laws x k y d e = nearest-list (subst (Nearest W G k x d) e (graph-nearest laws x k d)) .member
+
+-- tests and numbers that agree have the same right answers
+pub holder-agrees : {m n : ℕ → Bool} {f g : ℕ → ℕ} {x : ℕ} {o : Option ℕ} → ((z : ℕ) → m z ≡ n z) → ((z : ℕ) → T (m z) → f z ≡ g z)
+    → RightHolder m f x o → RightHolder n g x o
+holder-agrees {m} {n} {f} {g} {x} e h (holds {h = y} r) = holds (record {
+  seated = subst (λ (t : Bool). T t) (e y) (r .seated);
+  below = rw (← h y (r .seated)) (r .below);
+  largest = λ z t l. let u : T (m z) = subst (λ (v : Bool). T v) (sym (e z)) t in
+      rw (← h y (r .seated), ← h z u) (r .largest z u (rw (h z u) l));
+})
+holder-agrees {m} {n} {f} {g} {x} e h (nobody no-one) = nobody (λ z t l. let u : T (m z) = subst (λ (v : Bool). T v) (sym (e z)) t in
+    no-one z u (rw (h z u) l))
