@@ -6,3 +6,4 @@ pub mod Theorem
 pub mod Right
 pub mod History
 pub mod SameLots
+pub mod Uses

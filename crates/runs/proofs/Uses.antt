@@ -1,0 +1,95 @@
+-- What follows from demand 3, and from it alone, of any standing: with nothing pending the links are the graph's, so the check says yes; in
+-- phase open the record is settled, and a search from any lot names the right holder. Assumes only that its bytes are bytes.
+use Prim.Native.Nat.{ℕ, _≤_}
+use mathlib.Core.Path.{_≡_, sym, ap, _∙_, subst}
+use mathlib.Core.Option.{Option}
+use mathlib.Core.Bool.{Bool, true, false}
+use mathlib.Core.List.{List}
+use native.Mathlib.Omega.{arith}
+use lib.Dec.{T}
+use Rattle.memory.specs.Bytes.{AreBytes}
+use Rattle.graph.specs.Side.{Side, sideNumber}
+use Rattle.graph.specs.Vector.{width}
+use Rattle.graph.specs.Graph.{Laws, graph, IsGraph}
+use Rattle.protocol.specs.Numbering.{somePending}
+use Rattle.protocol.specs.State.{oneComponent, open-phase, Seats, seated, member, members}
+use Rattle.protocol.specs.Run.{Standing, membersOf, NothingPending}
+use Rattle.protocol.proofs.SoundFacts.{seated-below, seated-taken}
+use Rattle.protocol.proofs.Reached.{member-seated, members-laws}
+use Rattle.record.specs.Layout.{seats, levels}
+use Rattle.record.specs.Meaning.{seatsIn, meaning, linkOf, linkByte}
+use Rattle.record.specs.Reading.{LinkAnswer, readLink, CountAnswer}
+use Rattle.record.proofs.Reading.{pendingCount-zero, link-read, counts-read}
+use Rattle.record.proofs.Round.{link-seat}
+use Rattle.record.proofs.Values.{NamesSeat, linkOf-linkByte}
+use Rattle.search.specs.Right.{RightHolder}
+use Rattle.search.proofs.Check.{check-graph}
+use Rattle.search.proofs.Agree.{Agree, member-there, agree-laws, graph-agrees, graph-member, holder-agrees}
+use Rattle.find.specs.Find.{findIn}
+use Rattle.find.proofs.Settled.{is-settled, settled-holder}
+use Rattle.check_links.specs.Check.{CheckAnswer, checkIn}
+use Rattle.check_links.specs.Settled.{settled}
+use Rattle.check_links.proofs.Facts.{check-says}
+use Rattle.runs.specs.Run.{meant, roster, Demand3}
+use Rattle.runs.proofs.SameLots.{passed, same-phase, fine, same-seat, same-seated, agree}
+
+-- a link is known by its byte
+same-link : (o p : Option ℕ) → NamesSeat o → NamesSeat p → linkByte o ≡ linkByte p → o ≡ p
+same-link o p h g e = sym (linkOf-linkByte o h) ∙ ap linkOf e ∙ linkOf-linkByte p g
+
+module _ {bound : List ℕ → ℕ} {s : Standing (List ℕ)} (D : Demand3 bound s) (b : AreBytes (s .now)) where
+  -- the bytes and the roster's seats
+  abbrev l : List ℕ
+  l = s .now
+
+  abbrev R : Seats
+  R = roster (s .history) .seats
+
+  laws : Laws seats (members oneComponent (seatsIn l))
+  unfolding meaning
+  laws = members-laws oneComponent (fine D b)
+
+  pub roster-laws : Laws seats (membersOf (roster (s .history)))
+  roster-laws = agree-laws (agree D b) laws
+
+  -- what a member's link reads as
+  link-reads : (x k : ℕ) (d : Side) → T (member (seatsIn l) x) → k ≤ width
+      → readLink l x k (sideNumber d) ≡ record { refused = 0; seat = linkByte (meaning l .link x k d) }
+  unfolding meaning
+  link-reads x k d m w =
+      let t = member-seated (seatsIn l) x m in
+      link-read l (passed D .sized) (passed D .fine) x (seated-below (fine D b) x t) t k d (omega arith)
+
+  module _ (q : NothingPending seats width (meant (s .history))) where
+    -- a member's link is the one of the roster's graph
+    pub link-is : (x k : ℕ) (d : Side) → T (member (seatsIn l) x) → k ≤ width
+        → meaning l .link x k d ≡ graph seats width (membersOf (roster (s .history))) x k d
+    link-is x k d m w =
+        let e = sym (link-reads x k d m w) ∙ D .links q x k d (member-there (agree D b) x m) (omega arith) in
+        same-link (meaning l .link x k d) (graph seats width (membersOf (roster (s .history))) x k d)
+        (λ y f. link-seat (fine D b) x k y d f)
+        (λ y f. roster-laws .seat y (graph-member width roster-laws x k y d f))
+        (ap (λ (a : LinkAnswer). a .seat) e)
+
+    pub links-graph : IsGraph seats width (members oneComponent (seatsIn l)) (meaning l .link)
+    links-graph = record { link = λ x k d m w. link-is x k d m w ∙ sym (graph-agrees width laws (agree D b) x k d m) }
+
+    -- the check says yes
+    pub check-yes : checkIn l ≡ record { refused = 0; yes = true }
+    check-yes = check-says l (passed D .sized) b (passed D .fine)
+        ∙ ap (λ (y : Bool). record { refused = 0; yes = y }) (check-graph (laws .seat) .1 links-graph)
+
+    -- nothing is pending by the bytes
+    pub quiet : somePending seats width (meaning l .pending) ≡ false
+    quiet = pendingCount-zero (meaning l) .0
+        (sym (ap (λ (a : CountAnswer). a .pending) (counts-read l (passed D .sized) (passed D .fine))) ∙ D .none-left .1 q)
+
+    module _ (o : roster (s .history) .seats .phase ≡ open-phase) where
+      pub is-settled-now : settled l ≡ true
+      is-settled-now = is-settled l (same-phase D ∙ o) quiet (ap (λ (a : CheckAnswer). a .yes) check-yes)
+
+      -- a search from any lot of the roster
+      pub right-holder : (x n : ℕ) → T (seated R x) → (findIn l x n .refused ≡ 0) × RightHolder (seated R) (R .number) n (findIn l x n .holder)
+      right-holder x n m =
+          let h = settled-holder l b is-settled-now x n (subst (λ (t : Bool). T t) (sym (same-seated D b x)) m) in
+          (h .0, holder-agrees (same-seated D b) (λ z t. same-seat D b z .number (seated-taken (seatsIn l) z t)) (h .1))
