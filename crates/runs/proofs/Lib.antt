@@ -7,3 +7,4 @@ pub mod Right
 pub mod History
 pub mod SameLots
 pub mod Uses
+pub mod Fields
