@@ -8,3 +8,4 @@ pub mod History
 pub mod SameLots
 pub mod Uses
 pub mod Fields
+pub mod Unmet

@@ -53,7 +53,7 @@ module _ {bound : List ℕ → ℕ} {s : Standing (List ℕ)} (D : Demand3 bound
   roster-laws = agree-laws (agree D b) laws
 
   -- what a member's link reads as
-  link-reads : (x k : ℕ) (d : Side) → T (member (seatsIn l) x) → k ≤ width
+  pub link-reads : (x k : ℕ) (d : Side) → T (member (seatsIn l) x) → k ≤ width
       → readLink l x k (sideNumber d) ≡ record { refused = 0; seat = linkByte (meaning l .link x k d) }
   unfolding meaning
   link-reads x k d m w =
