@@ -1,11 +1,11 @@
--- Demand 3 on the bytes.
+-- Demand 3 on the bytes, and what follows from it alone.
 pub mod Same
 pub mod Readings
 pub mod Typed
 pub mod Theorem
-pub mod Right
 pub mod History
 pub mod SameLots
 pub mod Uses
 pub mod Fields
 pub mod Unmet
+pub mod Right
