@@ -1,6 +1,9 @@
--- Every argument that the types of the code can hold is in the range that the pages of the calls ask for. Assumes nothing.
+-- Every argument that the types of the code can hold is in the range that the pages of the calls ask for; and the largest values of the types
+-- are among them, so that neither range can narrow unseen. Assumes nothing.
 use mathlib.Core.List.{List, [], _∷_}
+use native.Mathlib.Omega.{arith}
 use Rattle.graph.specs.Vector.{width}
+use Rattle.protocol.specs.Message.{name}
 use Rattle.protocol.specs.Calls.{Call, join, leave, deliver, turn, InRange}
 use Rattle.protocol.specs.Run.{AllInRange}
 use Rattle.record.specs.Layout.{seats}
@@ -15,3 +18,13 @@ typed-fits turn t = tt
 pub all-typed : (cs : List Call) → AllTyped cs → AllInRange seats width cs
 all-typed [] t = tt
 all-typed (c ∷ cs) t = (typed-fits c (t .0), all-typed cs (t .1))
+
+-- the largest values
+pub widest-join : Typed (join 255 18446744073709551615 255 255)
+widest-join = (omega arith, omega arith, omega arith, omega arith)
+
+pub widest-leave : Typed (leave 255)
+widest-leave = omega arith
+
+pub widest-deliver : Typed (deliver (name 255 255 255 255 255))
+widest-deliver = (omega arith, omega arith, omega arith, omega arith, omega arith)

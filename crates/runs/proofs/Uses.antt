@@ -82,7 +82,7 @@ module _ {bound : List ℕ → ℕ} {s : Standing (List ℕ)} (D : Demand3 bound
     -- nothing is pending by the bytes
     pub quiet : somePending seats width (meaning l .pending) ≡ false
     quiet = pendingCount-zero (meaning l) .0
-        (sym (ap (λ (a : CountAnswer). a .pending) (counts-read l (passed D .sized) (passed D .fine))) ∙ D .none-left .1 q)
+        (omega (arith, ap (λ (a : CountAnswer). a .pending) (counts-read l (passed D .sized) (passed D .fine)), D .none-left .1 q))
 
     module _ (o : roster (s .history) .seats .phase ≡ open-phase) where
       pub is-settled-now : settled l ≡ true
