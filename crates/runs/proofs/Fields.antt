@@ -48,7 +48,7 @@ module _ {bound : List ℕ → ℕ} {s : Standing (List ℕ)} (D : Demand3 bound
   pub count-exactly : (readCounts (s .now) .pending ≡ 0) ↔ ((n : Name) → readMessage (s .now) n ≡ record { refused = 0; pending = 0 })
   count-exactly = (
     λ e n. D .messages n ∙ ap (λ (t : Bool). record { refused = 0; pending = oneIf t }) (none-named (D .none-left .0 e) n),
-    λ h. D .none-left .1 (λ m. unread m (ap (λ (a : MessageAnswer). a .pending) (h (nameOf m)))),
+    λ h. omega (arith, D .none-left .1 (λ m. unread m (ap (λ (a : MessageAnswer). a .pending) (h (nameOf m))))),
   )
 
 -- `seated`, `lots`: the count of lots is how many seats read as a lot

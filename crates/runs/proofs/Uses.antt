@@ -18,7 +18,7 @@ use Rattle.protocol.proofs.SoundFacts.{seated-below, seated-taken}
 use Rattle.protocol.proofs.Reached.{member-seated, members-laws}
 use Rattle.record.specs.Layout.{seats, levels}
 use Rattle.record.specs.Meaning.{seatsIn, meaning, linkOf, linkByte}
-use Rattle.record.specs.Reading.{LinkAnswer, readLink, CountAnswer}
+use Rattle.record.specs.Reading.{LinkAnswer, readLink, CountAnswer, readCounts}
 use Rattle.record.proofs.Reading.{pendingCount-zero, link-read, counts-read}
 use Rattle.record.proofs.Round.{link-seat}
 use Rattle.record.proofs.Values.{NamesSeat, linkOf-linkByte}
@@ -93,3 +93,7 @@ module _ {bound : List ℕ → ℕ} {s : Standing (List ℕ)} (D : Demand3 bound
       right-holder x n m =
           let h = settled-holder l b is-settled-now x n (subst (λ (t : Bool). T t) (sym (same-seated D b x)) m) in
           (h .0, holder-agrees (same-seated D b) (λ z t. same-seat D b z .number (seated-taken (seatsIn l) z t)) (h .1))
+
+  -- the same by the count that a reader sees
+  pub count-check : readCounts l .pending ≡ 0 → checkIn l ≡ record { refused = 0; yes = true }
+  count-check e = check-yes (D .none-left .0 e)
