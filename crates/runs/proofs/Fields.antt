@@ -1,10 +1,10 @@
 -- What each other part of demand 3 says, of any standing and from that part alone: the pending count and the messages, the count of lots, the
 -- refusal numbers, and how long deliveries can go on. Assumes nothing.
-use Prim.Native.Nat.{ℕ, suc, _+_, _≤_}
+use Prim.Native.Nat.{ℕ, _≤_}
 use mathlib.Core.Path.{_≡_, refl, sym, ap, _∙_, subst}
 use mathlib.Core.Logic.{_↔_, _≢_}
 use mathlib.Core.Option.{Option, none, some}
-use mathlib.Core.Bool.{Bool, true, false, not, cond}
+use mathlib.Core.Bool.{Bool, false, not, cond}
 use mathlib.Core.List.{List, [], _∷_, _++_}
 use native.Mathlib.Omega.{arith}
 use lib.Dec.{eqb}
@@ -17,7 +17,7 @@ use Rattle.protocol.specs.Rules.{SeatState, free, staying, leaving}
 use Rattle.protocol.specs.State.{Seats, Meaning, isFree, isSeated, seated, isPending}
 use Rattle.protocol.specs.Refusals.{wrongSize, unsound, noSuchLevel, emptySeat, noSuchMessage}
 use Rattle.protocol.specs.Calls.{deliver, unlessRefused, refusal}
-use Rattle.protocol.specs.Run.{Past, Standing, accepted, pendingOf, RefusedByTable, NothingPending}
+use Rattle.protocol.specs.Run.{Past, Standing, accepted, pendingOf, RefusedByTable}
 use Rattle.protocol.proofs.Message.{named-name}
 use Rattle.record.specs.Layout.{seats}
 use Rattle.record.specs.Meaning.{meaning, stateByte}
@@ -102,5 +102,6 @@ unfolding accepted unlessRefused
 all-counted l [] t = refl
 all-counted l (n ∷ ns) t = rw (t .0) (omega (arith, all-counted (called l (deliver n) .after) ns (t .1)))
 
-pub at-most : {bound : List ℕ → ℕ} {s : Standing (List ℕ)} → Demand3 bound s → (ns : List Name) → AllAccepted (s .now) ns → length ns ≤ bound (s .now)
+pub at-most : {bound : List ℕ → ℕ} {s : Standing (List ℕ)} → Demand3 bound s → (ns : List Name) → AllAccepted (s .now) ns
+    → length ns ≤ bound (s .now)
 at-most {s = s} D ns t = omega (arith, D .ends ns, all-counted (s .now) ns t)

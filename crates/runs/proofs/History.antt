@@ -7,7 +7,6 @@ use mathlib.Core.Logic.{_≢_, ⊎-elim}
 use mathlib.Core.Bool.{Bool, true, false, not, cond}
 use mathlib.Core.List.{List, [], _∷_, _++_}
 use native.Mathlib.Omega.{arith}
-use native.Mathlib.Decide.{ℕ-discrete}
 use lib.Dec.{T}
 use Rattle.base.proofs.Cases.{eq-or-ne}
 use Rattle.base.proofs.Tests.{true-false}
@@ -19,7 +18,7 @@ use Rattle.protocol.specs.Page.{at}
 use Rattle.protocol.specs.pages.Turn.{afterTurn}
 use Rattle.protocol.specs.Calls.{Call, join, leave, deliver, turn, unlessRefused, rows, refusal, seatsAfter}
 use Rattle.protocol.specs.Run.{Past, logOf, Roster, rosterAfter, rosterOf, pendingOf, RefusedByTable}
-use Rattle.protocol.proofs.Calls.{at-same, at-other}
+use Rattle.protocol.proofs.Calls.{at-other}
 use Rattle.protocol.proofs.Accepted.{join-rows, leave-rows}
 
 -- a refusal that is given applies
@@ -27,7 +26,8 @@ given-applies : (ns : List ℕ) (rs : List Row) (n : ℕ) → n ≢ 0 → firstO
 given-applies [] rs n h e = absurd (h (sym e))
 given-applies (m ∷ ms) rs n h e = by (appliesIn rs m) refl e (given-applies ms rs n h)
   where
-    by : (b : Bool) → appliesIn rs m ≡ b → cond b m (firstOf ms rs) ≡ n → (firstOf ms rs ≡ n → appliesIn rs n ≡ true) → appliesIn rs n ≡ true
+    by : (b : Bool) → appliesIn rs m ≡ b → cond b m (firstOf ms rs) ≡ n → (firstOf ms rs ≡ n → appliesIn rs n ≡ true)
+        → appliesIn rs n ≡ true
     by true f e ih = ap (appliesIn rs) (sym e) ∙ f
     by false f e ih = ih e
 

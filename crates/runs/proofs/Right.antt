@@ -12,7 +12,7 @@ use Rattle.memory.specs.Bytes.{AreBytes}
 use Rattle.graph.specs.Side.{Side, sideNumber}
 use Rattle.graph.specs.Vector.{width}
 use Rattle.base.proofs.Tests.{T-true}
-use Rattle.protocol.specs.State.{open-phase, clearing, Meaning, seated, stays, leaves}
+use Rattle.protocol.specs.State.{open-phase, clearing, Seats, Meaning, seated, stays, leaves}
 use Rattle.protocol.specs.Calls.{Call, turn}
 use Rattle.protocol.specs.Refusals.{first}
 use Rattle.protocol.specs.Sound.{Sound}
@@ -52,32 +52,35 @@ module _ (M : Meaning) (h : Sound seats width M) where
       rw (eq-eqb (length (bytesOf M)) size (length-bytesOf M), bytes-sound h, lt-ltb s seats (seated-below h s m), seats-bytes, f, meaning-bytes h)
 
 module _ (l : List ℕ) (e : openRefusal l ≡ 0) (cs : List Call) (t : AllTyped cs) where
-  -- the bytes after the list are bytes
-  pub run-bytes : AreBytes (bytesRun l cs .now)
+  -- the bytes after the list, and the roster's seats
+  abbrev here : List ℕ
+  here = bytesRun l cs .now
+
+  abbrev R : Seats
+  R = roster (bytesRun l cs .history) .seats
+
+  pub run-bytes : AreBytes here
   run-bytes = subst AreBytes (sym (run-same l (open-sized l e) cs (all-typed cs t) .now)) (bytes-bytes _)
 
   D : Demand3 bound (bytesRun l cs)
   D = every-list l e cs t
 
   module _ (q : NothingPending seats width (meant (bytesRun l cs .history))) where
-    pub checked : checkIn (bytesRun l cs .now) ≡ record { refused = 0; yes = true }
+    pub checked : checkIn here ≡ record { refused = 0; yes = true }
     checked = check-yes D run-bytes q
 
-    pub settles : roster (bytesRun l cs .history) .seats .phase ≡ open-phase → settled (bytesRun l cs .now) ≡ true
+    pub settles : R .phase ≡ open-phase → settled here ≡ true
     settles o = is-settled-now D run-bytes q o
 
-    pub found : roster (bytesRun l cs .history) .seats .phase ≡ open-phase → (s x : ℕ) → T (seated (roster (bytesRun l cs .history) .seats) s)
-        → (findIn (bytesRun l cs .now) s x .refused ≡ 0)
-        × RightHolder (seated (roster (bytesRun l cs .history) .seats)) (roster (bytesRun l cs .history) .seats .number) x
-        (findIn (bytesRun l cs .now) s x .holder)
+    pub found : R .phase ≡ open-phase → (s x : ℕ) → T (seated R s)
+        → (findIn here s x .refused ≡ 0) × RightHolder (seated R) (R .number) x (findIn here s x .holder)
     found o s x m = right-holder D run-bytes q o s x m
 
     -- no link of a staying lot reads as a leaving lot's seat
-    pub unmet : roster (bytesRun l cs .history) .seats .phase ≡ clearing → (x k y : ℕ) (d : Side) → T (stays (roster (bytesRun l cs .history) .seats) x)
-        → k < levels → T (leaves (roster (bytesRun l cs .history) .seats) y) → readLink (bytesRun l cs .now) x k (sideNumber d) .seat ≢ y
+    pub unmet : R .phase ≡ clearing → (x k y : ℕ) (d : Side) → T (stays R x) → k < levels → T (leaves R y) → readLink here x k (sideNumber d) .seat ≢ y
     unmet c = never-met D run-bytes c q
 
     -- and the turn leaves each of its links
-    pub turn-links : roster (bytesRun l cs .history) .seats .phase ≡ clearing → (x k : ℕ) (d : Side) → T (stays (roster (bytesRun l cs .history) .seats) x)
-        → k < levels → readLink (called (bytesRun l cs .now) turn .after) x k (sideNumber d) ≡ readLink (bytesRun l cs .now) x k (sideNumber d)
+    pub turn-links : R .phase ≡ clearing → (x k : ℕ) (d : Side) → T (stays R x) → k < levels
+        → readLink (called here turn .after) x k (sideNumber d) ≡ readLink here x k (sideNumber d)
     turn-links c = turn-keeps D run-bytes c q

@@ -1,7 +1,7 @@
 -- From the readings of demand 3 alone: the bytes are a sound record, and their lots and phase are the roster's. Any standing is meant, not
 -- only one that calls made. Assumes only that its bytes are bytes.
 use Prim.Native.Nat.{ℕ, _≤_, _<_}
-use mathlib.Core.Path.{_≡_, refl, sym, ap, _∙_, subst}
+use mathlib.Core.Path.{_≡_, refl, sym, ap, _∙_}
 use mathlib.Core.Logic.{⊎-elim}
 use mathlib.Core.Bool.{Bool, true, false, not, cond}
 use mathlib.Core.List.{List}
@@ -9,27 +9,25 @@ use native.Mathlib.Omega.{arith}
 use lib.Dec.{T, eqb}
 use borrow.Author.Tests.{eqb-true}
 use Rattle.base.proofs.Cases.{lt-or-ge}
-use Rattle.base.proofs.Tests.{not-T-false}
 use Rattle.memory.specs.Bytes.{AreBytes}
 use Rattle.graph.specs.Vector.{width}
-use Rattle.graph.specs.Graph.{Laws}
 use Rattle.protocol.specs.Refusals.{emptySeat}
 use Rattle.protocol.specs.Rules.{SeatState, free, staying, leaving}
-use Rattle.protocol.specs.State.{oneComponent, Seats, Meaning, isFree, isSeated, taken, seated, member, members}
+use Rattle.protocol.specs.State.{oneComponent, Seats, isFree, isSeated, taken, seated, member, members}
 use Rattle.protocol.specs.Sound.{Sound}
 use Rattle.protocol.specs.Run.{Standing, logOf, membersOf}
 use Rattle.protocol.proofs.SoundFacts.{seated-taken}
 use Rattle.protocol.proofs.Reached.{member-seated}
 use Rattle.protocol.proofs.Theorem.{one-component}
 use Rattle.record.specs.Layout.{seats}
-use Rattle.record.specs.Meaning.{seatsIn, meaning, bytesOf, phaseOf, phaseByte, stateByte}
+use Rattle.record.specs.Meaning.{seatsIn, meaning, bytesOf, phaseOf, stateByte}
 use Rattle.record.specs.Reading.{LotAnswer, readLot, CountAnswer, recordRefusal, readCounts}
 use Rattle.record.proofs.Form.{no-seat-state}
 use Rattle.record.proofs.Refused.{Passed, record-passed}
 use Rattle.record.proofs.Reading.{counts-read}
 use Rattle.record.proofs.Round.{bytes-meaning}
 use Rattle.record.proofs.Sound.{sound-is}
-use Rattle.record.proofs.Values.{phaseOf-phaseByte, isFree-free}
+use Rattle.record.proofs.Values.{phaseOf-phaseByte}
 use Rattle.search.proofs.Agree.{Agree}
 use Rattle.runs.specs.Run.{meant, roster, lotOf, Demand3}
 use Rattle.runs.proofs.Readings.{read-lot}

@@ -5,17 +5,17 @@ use Prim.Native.Nat.{ℕ, _≤_, _<_}
 use mathlib.Core.Path.{_≡_, refl, sym, ap, _∙_, subst}
 use mathlib.Core.Logic.{_≢_}
 use mathlib.Core.Option.{Option, none, some}
-use mathlib.Core.Bool.{Bool, true, false}
+use mathlib.Core.Bool.{Bool, false}
 use mathlib.Core.List.{List}
 use native.Mathlib.Omega.{arith}
 use lib.Dec.{T}
-use Rattle.base.proofs.Tests.{not-T-false, some-inj, true-T, T-true}
+use Rattle.base.proofs.Tests.{not-T-false}
 use Rattle.memory.specs.Bytes.{AreBytes}
 use Rattle.graph.specs.Side.{Side, sideNumber}
 use Rattle.graph.specs.Vector.{width}
 use Rattle.graph.specs.Graph.{graph}
 use Rattle.protocol.specs.Rules.{SeatState, free, staying, leaving, isStaying}
-use Rattle.protocol.specs.State.{clearing, Seats, Meaning, isFree, isLeaving, taken, stays, leaves, seated, member}
+use Rattle.protocol.specs.State.{clearing, Seats, Meaning, isFree, isLeaving, stays, leaves, seated, member}
 use Rattle.protocol.specs.Refusals.{first}
 use Rattle.protocol.specs.Calls.{turn, rows, refusal, seatsAfter, linksAfter, accept, unlessRefused}
 use Rattle.protocol.specs.Freeing.{unlinked}

@@ -16,7 +16,7 @@ use Rattle.protocol.specs.State.{oneComponent, open-phase, Seats, seated, membe
 use Rattle.protocol.specs.Run.{Standing, membersOf, NothingPending}
 use Rattle.protocol.proofs.SoundFacts.{seated-below, seated-taken}
 use Rattle.protocol.proofs.Reached.{member-seated, members-laws}
-use Rattle.record.specs.Layout.{seats, levels}
+use Rattle.record.specs.Layout.{seats}
 use Rattle.record.specs.Meaning.{seatsIn, meaning, linkOf, linkByte}
 use Rattle.record.specs.Reading.{LinkAnswer, readLink, CountAnswer, readCounts}
 use Rattle.record.proofs.Reading.{pendingCount-zero, link-read, counts-read}
@@ -24,7 +24,7 @@ use Rattle.record.proofs.Round.{link-seat}
 use Rattle.record.proofs.Values.{NamesSeat, linkOf-linkByte}
 use Rattle.search.specs.Right.{RightHolder}
 use Rattle.search.proofs.Check.{check-graph}
-use Rattle.search.proofs.Agree.{Agree, member-there, agree-laws, graph-agrees, graph-member, holder-agrees}
+use Rattle.search.proofs.Agree.{member-there, agree-laws, graph-agrees, graph-member, holder-agrees}
 use Rattle.find.specs.Find.{findIn}
 use Rattle.find.proofs.Settled.{is-settled, settled-holder}
 use Rattle.check_links.specs.Check.{CheckAnswer, checkIn}
