@@ -1,10 +1,10 @@
 -- The three demands meet, after every list and by demand 3 alone: with nothing pending the check says yes; in phase open the record is settled
 -- and a search from any lot names the right holder; in clearing the turn meets no link to a freed seat of a staying lot. Assumes nothing.
 use Prim.Native.Nat.{ℕ, _<_}
-use mathlib.Core.Path.{_≡_, sym, ap, _∙_, subst}
+use mathlib.Core.Path.{_≡_, refl, sym, ap, _∙_, subst}
 use mathlib.Core.Logic.{_≢_}
 use mathlib.Core.Bool.{true}
-use mathlib.Core.List.{List}
+use mathlib.Core.List.{List, []}
 use lib.Dec.{T}
 use lib.ListN.{length}
 use borrow.Author.Tests.{lt-ltb, eq-eqb}
@@ -12,11 +12,11 @@ use Rattle.memory.specs.Bytes.{AreBytes}
 use Rattle.graph.specs.Side.{Side, sideNumber}
 use Rattle.graph.specs.Vector.{width}
 use Rattle.base.proofs.Tests.{T-true}
-use Rattle.protocol.specs.State.{open-phase, clearing, Seats, Meaning, seated, stays, leaves}
+use Rattle.protocol.specs.State.{open-phase, clearing, Seats, Meaning, nobody, seated, stays, leaves}
 use Rattle.protocol.specs.Calls.{Call, turn}
 use Rattle.protocol.specs.Refusals.{first}
 use Rattle.protocol.specs.Sound.{Sound}
-use Rattle.protocol.specs.Run.{NothingPending}
+use Rattle.protocol.specs.Run.{stepsFrom, steps, logOf, rosterOf, pendingOf, NothingPending}
 use Rattle.protocol.proofs.SoundFacts.{seated-below}
 use Rattle.record.specs.Layout.{seats, levels, size}
 use Rattle.record.specs.Meaning.{seatsIn, bytesOf}
@@ -84,3 +84,8 @@ module _ (l : List ℕ) (e : openRefusal l ≡ 0) (cs : List Call) (t : AllTyped
     pub turn-links : R .phase ≡ clearing → (x k : ℕ) (d : Side) → T (stays R x) → k < levels
         → readLink (called here turn .after) x k (sideNumber d) ≡ readLink here x k (sideNumber d)
     turn-links c = turn-keeps D run-bytes c q
+
+-- an instance: a record that open has just written is settled
+pub opened-settled : (l : List ℕ) → openRefusal l ≡ 0 → settled (bytesRun l [] .now) ≡ true
+unfolding bytesRun stepsFrom steps meant pendingOf rosterOf logOf nobody
+opened-settled l e = settles l e [] tt (λ m. refl) refl
