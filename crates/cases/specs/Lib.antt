@@ -1,2 +1,3 @@
--- The lists of calls of document 01's proved cases; proofs/Table.antt states the cases over the definitions of the crates below.
+-- Document 01's proved cases over the definitions of the crates below: the lists of calls, and the table of the cases.
 pub mod Lists
+pub mod Cases

@@ -1,1 +1,1 @@
-// Document 01's proved cases (a) to (l): proofs/Table.antt. There is no code here.
+// Document 01's proved cases (a) to (l): specs/Cases.antt. There is no code here.
