@@ -47,8 +47,8 @@ join-examples = record {
   contact-seat = (refl, refl, refl, refl);
   phase = (refl, refl);
   taken = (refl, refl, refl);
-  number = (refl, refl, refl, refl);
-  contact = (refl, refl, refl, refl, refl);
+  number = (refl, refl, refl, refl, refl);
+  contact = (refl, refl, refl, refl, refl, refl);
   leaver = (refl, refl);
   order = (refl, refl, refl, refl, refl);
 }

@@ -1,29 +1,30 @@
 -- The examples of soundness, specs/SoundExamples.antt: each record's clauses by the tests of its lists, evaluated. Assumes nothing.
-use Prim.Native.Nat.{ℕ, _<_}
+use Prim.Native.Nat.{ℕ, zero, suc, _<_}
 use mathlib.Core.Path.{_≡_, refl, sym, ap, _∙_}
 use mathlib.Core.Bool.{Bool, true, false}
 use mathlib.Core.List.{List, [], _∷_}
 use native.Mathlib.Omega.{arith}
-use lib.Dec.{T}
-use lib.ListN.{length, set}
+use lib.Dec.{T, ltb}
+use lib.ListN.{length, getD, set}
 use Rattle.base.specs.Loops.{all}
 use Rattle.base.proofs.Cases.{and-true}
 use Rattle.graph.specs.Side.{left, right, onSide}
 use Rattle.graph.specs.Vector.{width, bit, equalBits, shared}
 use Rattle.protocol.specs.Message.{Msg, meet, probe, pull, going, seek, found, none-found}
 use Rattle.protocol.specs.Numbering.{exists}
-use Rattle.protocol.specs.Rules.{free, staying}
+use Rattle.protocol.specs.Rules.{free, staying, leaving}
 use Rattle.protocol.specs.State.{Phase, open-phase, clearing}
 use Rattle.protocol.specs.Sound.{pairOk, linkOk, messageOk}
 use Rattle.protocol.specs.Page.{at}
 use Rattle.protocol.specs.pages.Deliver.{applied}
-use Rattle.record.specs.Layout.{seats, size, phaseAt, stateAt}
-use Rattle.record.specs.Meaning.{phaseOf, stateOf, meaning}
-use Rattle.record.specs.Sound.{unusedFit, numbersDiffer, linksFit, messagesFit, sound}
+use Rattle.record.specs.Layout.{seats, phaseAt, stateAt}
+use Rattle.record.specs.Meaning.{phaseOf, stateOf, meaning, bytesOf}
+use Rattle.record.specs.Sound.{messagesFit, sound}
 use Rattle.record.proofs.Places.{length-bytesOf}
 use Rattle.record.proofs.Round.{read-phase, read-state}
 use Rattle.cases.specs.Small.{Held, holds, LinkOf, linked, fieldIn, linkIn, seatsOf, small, smallBytes, three, twins}
-use Rattle.cases.specs.SoundExamples.{clauses, every, PhaseBroken, StatesBroken, threeIn, holding, linking, pendingIn, RecordExamples, MessageExamples}
+use Rattle.cases.specs.SoundExamples.{clauses, every, AllHold, PhaseBroken, StatesBroken, threeIn, holding, linking, pendingIn}
+use Rattle.cases.specs.SoundExamples.{RecordExamples, MessageExamples}
 use Rattle.cases.proofs.Small.{heldFit, linksWritten, allExist, allOk, unusedOf, numbersOf, linksOf}
 use Rattle.cases.proofs.Small.{phase-read, states-read, unused-read, numbers-read, links-read, messages-read}
 use Rattle.cases.proofs.OneByte.{unused-alike, numbers-alike, links-fit-alike, messages-alike}
@@ -43,24 +44,11 @@ clauses-small p hs ls ms f w x =
     same-six (phase-read p hs ls ms f) (states-read p hs ls ms f) (unused-read p hs ls ms f w) (numbers-read p hs ls ms f)
     (links-read p hs ls ms f w) (messages-read p hs ls ms f x)
 
--- the three lots without links: the clauses but that of messages hold
-module _ (p : Phase) (ms : List Msg) where
-  three-unused : unusedFit (smallBytes p three [] ms) ≡ true
-  unfolding heldFit linksWritten unusedOf all fieldIn linkIn at
-  three-unused = unused-read p three [] ms tt tt
-
-  three-numbers : numbersDiffer (smallBytes p three [] ms) ≡ true
-  unfolding heldFit numbersOf all fieldIn at
-  three-numbers = numbers-read p three [] ms tt
-
-  three-links : linksFit (smallBytes p three [] ms) ≡ true
-  unfolding heldFit linksWritten linksOf all linkIn
-  three-links = links-read p three [] ms tt tt
-
-  clauses-three : T (allExist ms) → clauses (smallBytes p three [] ms) ≡ true ∷ true ∷ true ∷ true ∷ true ∷ allOk (seatsOf p three) ms ∷ []
-  unfolding heldFit
-  clauses-three x =
-      same-six (phase-read p three [] ms tt) (states-read p three [] ms tt) three-unused three-numbers three-links (messages-read p three [] ms tt x)
+-- the three lots without links: only the messages decide
+clauses-three : (p : Phase) (ms : List Msg) → T (allExist ms)
+    → clauses (smallBytes p three [] ms) ≡ true ∷ true ∷ true ∷ true ∷ true ∷ allOk (seatsOf p three) ms ∷ []
+unfolding heldFit linksWritten unusedOf numbersOf linksOf all fieldIn linkIn at
+clauses-three p ms x = clauses-small p three [] ms tt tt x
 
 -- the three lots with one more seat, one link, one message
 clauses-holding : (h : Held) → T (heldFit (h ∷ three))
@@ -84,32 +72,47 @@ clauses-pending p m x =
     clauses-three p (m ∷ []) (rw (and-true (exists seats width m)) x)
     ∙ ap (λ (b : Bool). true ∷ true ∷ true ∷ true ∷ true ∷ b ∷ []) (and-true (messageOk width (seatsOf p three) m))
 
--- a byte set on top: the clause that names it, and the others as before
-within : (p : Phase) (i : ℕ) → i < size → i < length (threeIn p)
-within p i h = rw (length-bytesOf (small p three [] [])) h
+-- the clauses one by one
+clauseAt : ℕ → List Bool → Bool
+clauseAt n [] = true
+clauseAt zero (c ∷ cs) = c
+clauseAt (suc n) (c ∷ cs) = clauseAt n cs
 
-quiet : (p : Phase) → messagesFit (threeIn p) ≡ true
-unfolding heldFit allExist allOk
-quiet p = messages-read p three [] [] tt tt
+-- a byte set on top of a record in which all hold: the clause that names it, and the others as before
+module _ (l : List ℕ) (h : AllHold l) where
+  phase-broken : (v : ℕ) → phaseAt < length l → ltb v 2 ≡ false → phaseOf v ≡ phaseOf (getD l phaseAt 0) → PhaseBroken (set l phaseAt v)
+  unfolding clauseAt
+  phase-broken v w e q =
+      let a = phase-alike l v w q in
+      same-six (phase-set l v w ∙ e) (states-beside l v w ∙ ap (clauseAt 1) h) (unused-alike a ∙ ap (clauseAt 2) h)
+      (numbers-alike a ∙ ap (clauseAt 3) h) (links-fit-alike a ∙ ap (clauseAt 4) h) (messages-alike a ∙ ap (clauseAt 5) h)
+
+  state-broken : (s v : ℕ) → s < seats → stateAt s < length l → ltb v 3 ≡ false → stateOf v ≡ stateOf (getD l (stateAt s) 0)
+      → StatesBroken (set l (stateAt s) v)
+  unfolding clauseAt
+  state-broken s v g w e q =
+      let a = state-alike l s v g w q in
+      same-six (phase-beside l s v g w ∙ ap (clauseAt 0) h) (state-set l s v g w e) (unused-alike a ∙ ap (clauseAt 2) h)
+      (numbers-alike a ∙ ap (clauseAt 3) h) (links-fit-alike a ∙ ap (clauseAt 4) h) (messages-alike a ∙ ap (clauseAt 5) h)
 
 phase-2 : PhaseBroken (set (threeIn clearing) phaseAt 2)
-unfolding phaseOf heldFit
+unfolding phaseOf allExist allOk
 phase-2 =
-    let l = threeIn clearing in
-    let w = within clearing phaseAt (omega arith) in
-    let a = phase-alike l 2 w (sym (ap phaseOf (read-phase (small clearing three [] [])))) in
-    same-six (phase-set l 2 w) (states-beside l 2 w ∙ states-read clearing three [] [] tt) (unused-alike a ∙ three-unused clearing [])
-    (numbers-alike a ∙ three-numbers clearing []) (links-fit-alike a ∙ three-links clearing []) (messages-alike a ∙ quiet clearing)
+    let M = small clearing three [] [] in
+    let w : phaseAt < length (bytesOf M) = rw (length-bytesOf M) (omega arith) in
+    phase-broken (threeIn clearing) (clauses-three clearing [] tt) 2 w refl (sym (ap phaseOf (read-phase M)))
 
-state-3 : StatesBroken (set (threeIn open-phase) (stateAt 1) 3)
-unfolding stateOf heldFit fieldIn at
+leaver-last : AllHold (holding (holds 63 leaving 400 0))
+unfolding heldFit unusedOf numbersOf linksOf all fieldIn linkIn at
+leaver-last = clauses-holding (holds 63 leaving 400 0) tt
+
+state-3 : StatesBroken (set (holding (holds 63 leaving 400 0)) (stateAt 63) 3)
+unfolding stateOf fieldIn at
 state-3 =
-    let l = threeIn open-phase in
-    let h : 1 < seats = omega arith in
-    let w = within open-phase (stateAt 1) (omega arith) in
-    let a = state-alike l 1 3 h w (sym (ap stateOf (read-state (small open-phase three [] []) 1 h))) in
-    same-six (phase-beside l 1 3 h w ∙ phase-read open-phase three [] [] tt) (state-set l 1 3 h w refl) (unused-alike a ∙ three-unused open-phase [])
-    (numbers-alike a ∙ three-numbers open-phase []) (links-fit-alike a ∙ three-links open-phase []) (messages-alike a ∙ quiet open-phase)
+    let M = small open-phase (holds 63 leaving 400 0 ∷ three) [] [] in
+    let g : 63 < seats = omega arith in
+    let w : stateAt 63 < length (bytesOf M) = rw (length-bytesOf M) (omega arith) in
+    state-broken (holding (holds 63 leaving 400 0)) leaver-last 63 3 g w refl (sym (ap stateOf (read-state M 63 g)))
 
 clauses-all : (b : List ℕ) → sound b ≡ every (clauses b)
 unfolding sound every
@@ -120,10 +123,10 @@ unfolding heldFit linksWritten allExist allOk unusedOf numbersOf linksOf all fie
 record-examples = record {
   clauses-all = clauses-all;
   phase = (clauses-three open-phase [] tt, clauses-three clearing [] tt, phase-2);
-  state = state-3;
+  state = (leaver-last, state-3);
   unused = (clauses-holding (holds 3 free 1 0) tt, clauses-holding (holds 63 free 0 1) tt, clauses-holding (holds 3 free 0 0) tt);
   unused-link = clauses-linking (linked 3 0 right 0) tt;
-  numbers = (clauses-holding (holds 3 staying 200 0) tt, clauses-holding (holds 3 staying 201 0) tt, clauses-holding (holds 3 staying 0 0) tt);
+  numbers = (clauses-holding (holds 63 staying 200 0) tt, clauses-holding (holds 63 staying 201 0) tt, clauses-holding (holds 63 staying 0 0) tt);
   link-seat = (clauses-linking (linked 0 0 right 0) tt, clauses-linking (linked 0 0 left 3) tt, clauses-linking (linked 0 0 right 64) tt);
   link-side = (
     clauses-linking (linked 0 0 left 1) tt,
@@ -131,7 +134,11 @@ record-examples = record {
     clauses-linking (linked 0 0 right 1) tt,
     clauses-linking (linked 2 0 left 1) tt,
   );
-  link-level = (clauses-linking (linked 0 2 right 2) tt, clauses-linking (linked 0 1 right 2) tt);
+  link-level = (clauses-linking (linked 0 2 right 2) tt, clauses-linking (linked 0 1 right 2) tt, clauses-linking (linked 2 8 left 0) tt);
+  link-last = (
+    clauses-small open-phase (holds 63 staying 400 0 ∷ three) (linked 63 8 right 0 ∷ []) [] tt tt tt,
+    clauses-small open-phase (holds 63 staying 400 0 ∷ three) (linked 63 8 left 0 ∷ []) [] tt tt tt,
+  );
 }
 
 -- a message that has no place
@@ -185,6 +192,7 @@ message-examples = record {
   none-breaks = (
     clauses-pending clearing (none-found 1 0 right) tt,
     clauses-pending clearing (none-found 3 0 right) tt,
+    clauses-pending clearing (none-found 63 8 right) tt,
     clauses-pending open-phase (none-found 0 8 left) tt,
   );
   level-fits = (clauses-small open-phase twins [] (meet 0 1 8 ∷ []) tt tt tt, clauses-small open-phase twins [] (probe 0 1 7 ∷ []) tt tt tt);

@@ -52,16 +52,18 @@ pub record JoinExamples : Type 0 where
   pub phase : (refused clearingThree (join 3 400 0 0) ≡ 7) × (refused openThree (join 3 400 0 0) ≡ 0)
   -- 4: the seat of a staying lot, and of a leaving one; a free seat
   pub taken : (refused openThree (join 0 400 0 2) ≡ 4) × (refused openThree (join 1 400 0 0) ≡ 4) × (refused openThree (join 3 400 0 0) ≡ 0)
-  -- 5: the number of a staying lot, and of a leaving one; the next number, and 0, which free seats read
+  -- 5: the number of a staying lot, of a leaving one, and of one on the last seat; the next number, and 0, which free seats read
   pub number : (refused openThree (join 3 100 0 0) ≡ 5)
       × (refused openThree (join 3 200 0 0) ≡ 5)
+      × (refused far (join 3 100 0 63) ≡ 5)
       × (refused openThree (join 3 201 0 0) ≡ 0)
       × (refused openThree (join 3 0 0 0) ≡ 0)
-  -- 6: a free seat as contact, and the newcomer's own; 255 while lots are seated, also if all are leaving; a seat while none is
+  -- 6: a free seat as contact, and the newcomer's own; 255 while lots are seated, also if all are leaving, also on the last seat; a seat while none is
   pub contact : (refused openThree (join 3 400 0 4) ≡ 6)
       × (refused openThree (join 3 400 0 3) ≡ 6)
       × (refused openThree (join 3 400 0 255) ≡ 6)
       × (refused soleLeaver (join 3 400 0 255) ≡ 6)
+      × (refused far (join 3 400 0 255) ≡ 6)
       × (refused nobody (join 3 400 0 0) ≡ 6)
   -- a leaving lot is a contact
   pub leaver : (refused openThree (join 3 400 0 1) ≡ 0) × (refused soleLeaver (join 3 400 0 0) ≡ 0)

@@ -8,7 +8,7 @@ use Rattle.graph.specs.Side.{left, right}
 use Rattle.graph.specs.Vector.{width}
 use Rattle.protocol.specs.Message.{Msg, meet, probe, pull, going, seek, found, none-found}
 use Rattle.protocol.specs.Numbering.{exists}
-use Rattle.protocol.specs.Rules.{free, staying}
+use Rattle.protocol.specs.Rules.{free, staying, leaving}
 use Rattle.protocol.specs.State.{Phase, open-phase, clearing}
 use Rattle.protocol.specs.Sound.{messageOk}
 use Rattle.record.specs.Layout.{seats, phaseAt, stateAt}
@@ -65,21 +65,26 @@ pub record RecordExamples : Type 0 where
   pub clauses-all : (b : List ℕ) → sound b ≡ every (clauses b)
   -- the three lots, in phase 0 and in phase 1; phase 2
   pub phase : AllHold (threeIn open-phase) × AllHold (threeIn clearing) × PhaseBroken (set (threeIn clearing) phaseAt 2)
-  -- states 0, 1 and 2 are among those of the three lots; state 3
-  pub state : StatesBroken (set (threeIn open-phase) (stateAt 1) 3)
+  -- states 0, 1 and 2 are among those of the three lots; a leaver on the last seat, and state 3 there
+  pub state : AllHold (holding (holds 63 leaving 400 0)) × StatesBroken (set (holding (holds 63 leaving 400 0)) (stateAt 63) 3)
   -- a free seat with a number; with a vector; as opened
   pub unused : UnusedBroken (holding (holds 3 free 1 0)) × UnusedBroken (holding (holds 63 free 0 1)) × AllHold (holding (holds 3 free 0 0))
   -- with a link: the clause of links breaks too, since only a lot has links
   pub unused-link : clauses (linking (linked 3 0 right 0)) ≡ true ∷ true ∷ false ∷ true ∷ false ∷ true ∷ []
   -- two lots with one number, one of them leaving; the next number; number 0, which no lot has though free seats read 0
-  pub numbers : NumbersBroken (holding (holds 3 staying 200 0)) × AllHold (holding (holds 3 staying 201 0)) × AllHold (holding (holds 3 staying 0 0))
-  -- a link to the lot itself; to a free seat, on its own side and sharing all bits; to a seat that is none
+  pub numbers : NumbersBroken (holding (holds 63 staying 200 0))
+      × AllHold (holding (holds 63 staying 201 0))
+      × AllHold (holding (holds 63 staying 0 0))
+  -- a link to the lot itself, which lies on no side of it; to a free seat, on its own side and sharing all bits; to a seat that is none
   pub link-seat : LinksBroken (linking (linked 0 0 right 0)) × LinksBroken (linking (linked 0 0 left 3)) × LinksBroken (linking (linked 0 0 right 64))
   -- to the wrong side; to the right one, a leaving lot
   pub link-side : LinksBroken (linking (linked 0 0 left 1)) × LinksBroken (linking (linked 2 0 right 1))
       × AllHold (linking (linked 0 0 right 1)) × AllHold (linking (linked 2 0 left 1))
-  -- one bit is shared: level 2, and level 1
-  pub link-level : LinksBroken (linking (linked 0 2 right 2)) × AllHold (linking (linked 0 1 right 2))
+  -- one bit is shared: level 2, and level 1; level 8
+  pub link-level : LinksBroken (linking (linked 0 2 right 2)) × AllHold (linking (linked 0 1 right 2)) × LinksBroken (linking (linked 2 8 left 0))
+  -- the last seat, at the top level: to the wrong side, and to the right one
+  pub link-last : LinksBroken (smallBytes open-phase (holds 63 staying 400 0 ∷ three) (linked 63 8 right 0 ∷ []) [])
+      × AllHold (smallBytes open-phase (holds 63 staying 400 0 ∷ three) (linked 63 8 left 0 ∷ []) [])
 
 -- pending messages
 pub record MessageExamples : Type 0 where
@@ -120,10 +125,11 @@ pub record MessageExamples : Type 0 where
       × MessagesBroken (pendingIn clearing (found 0 3 0))
       × MessagesBroken (pendingIn clearing (found 0 0 0))
       × MessagesBroken (pendingIn open-phase (found 0 2 1))
-  -- NONE: to a leaver; to a free seat; in phase open
+  -- NONE: to a leaver; to a free seat, also the last message of all; in phase open
   pub none-fits : AllHold (pendingIn clearing (none-found 0 8 left)) × AllHold (pendingIn clearing (none-found 2 0 right))
   pub none-breaks : MessagesBroken (pendingIn clearing (none-found 1 0 right))
       × MessagesBroken (pendingIn clearing (none-found 3 0 right))
+      × MessagesBroken (pendingIn clearing (none-found 63 8 right))
       × MessagesBroken (pendingIn open-phase (none-found 0 8 left))
   -- levels, where all bits are shared: a MEET at level 8, a PROBE at level 7
   pub level-fits : AllHold (smallBytes open-phase twins [] (meet 0 1 8 ∷ [])) × AllHold (smallBytes open-phase twins [] (probe 0 1 7 ∷ []))
