@@ -71,7 +71,7 @@ pub record RecordExamples : Type 0 where
   pub unused : UnusedBroken (holding (holds 3 free 1 0)) × UnusedBroken (holding (holds 63 free 0 1)) × AllHold (holding (holds 3 free 0 0))
   -- with a link: the clause of links breaks too, since only a lot has links
   pub unused-link : clauses (linking (linked 3 0 right 0)) ≡ true ∷ true ∷ false ∷ true ∷ false ∷ true ∷ []
-  -- two lots with one number, one of them leaving; the next number; number 0, which no lot has though free seats read 0
+  -- two lots with one number, one of them leaving; the next number; number 0, which free seats read too
   pub numbers : NumbersBroken (holding (holds 63 staying 200 0))
       × AllHold (holding (holds 63 staying 201 0))
       × AllHold (holding (holds 63 staying 0 0))
