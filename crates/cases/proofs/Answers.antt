@@ -67,7 +67,8 @@ module _ (l : List ℕ) (e : openRefusal l ≡ 0) (cs : List Call) (t : T (fits 
       ∙ λ i. record { refused = view-call v h c i .refused; after = bytesOf (view-call v h c i .after) }
 
   -- a refused call leaves every byte
-  pub refused-seen : (c : Call) (n : ℕ) → viewRefusal v c ≡ suc n → called (bytesRun l cs .now) c ≡ record { refused = suc n; after = bytesRun l cs .now }
+  pub refused-seen : (c : Call) (n : ℕ) → viewRefusal v c ≡ suc n
+      → called (bytesRun l cs .now) c ≡ record { refused = suc n; after = bytesRun l cs .now }
   refused-seen c n q =
       let no : called (bytesRun l cs .now) c .refused ≡ suc n = ap (λ (o : Outcome (List ℕ)). o .refused) (call-seen c) ∙ q in
       λ i. record { refused = no i; after = refused-same (bytesRun l cs .now) c n no i }

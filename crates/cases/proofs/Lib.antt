@@ -1,6 +1,10 @@
--- Document 01's proved cases.
+-- Document 01's proved cases, and the examples of the table and of soundness.
 pub mod View
 pub mod Seen
 pub mod Answers
 pub mod Sole
 pub mod Table
+pub mod Small
+pub mod OneByte
+pub mod SoundExamples
+pub mod Refusals

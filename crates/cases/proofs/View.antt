@@ -93,7 +93,7 @@ unfolding pendingAfter
 pending-list sent o l = fun-ext (λ m. sym (among-append sent (without o l) m ∙ ap (λ (b : Bool). among sent m || b) (among-without o l m)))
 
 -- some message is pending exactly if the list is not empty
-some-left : (l : List Msg) → ((m : Msg) → T (among l m) → T (exists seats width m)) → somePending seats width (among l) ≡ someLeft l
+pub some-left : (l : List Msg) → ((m : Msg) → T (among l m) → T (exists seats width m)) → somePending seats width (among l) ≡ someLeft l
 unfolding among
 some-left [] h = pending-none seats width (among []) (λ m x. refl)
 some-left (m ∷ l) h = by (dec-T (somePending seats width (among (m ∷ l))))
