@@ -1,12 +1,11 @@
--- The small functions of the calls, as facts: a value at one place, the pending set after a call, the links after a change, lists made
--- seat by seat, and rows of the table that do not apply. Assumes nothing.
-use Prim.Native.Nat.{ℕ, zero, suc, _<_}
+-- The small functions of the calls, as facts: a value at one place, the pending set after a call, the links after a change, and rows of the
+-- table that do not apply. Assumes nothing.
+use Prim.Native.Nat.{ℕ, zero, suc}
 use mathlib.Core.Path.{_≡_, refl, sym, _∙_, ap, subst}
 use mathlib.Core.Logic.{_⊎_, inl, inr, _≢_}
-use mathlib.Core.Option.{Option, none, some}
+use mathlib.Core.Option.{Option}
 use mathlib.Core.Bool.{Bool, true, false, not, cond, _&&_, _||_}
-use mathlib.Core.List.{List, [], _∷_, _++_, List·Memᴰ, List·Memᴰ·head, List·Memᴰ·eq-of-singleton, List·Memᴰ·not-nil, List·Memᴰ·append-cases}
-use mathlib.Core.List.{Memᴰ·append-left, Memᴰ·append-right}
+use mathlib.Core.List.{List, [], _∷_}
 use native.Mathlib.Omega.{arith}
 use native.Mathlib.Decide.{ℕ-discrete}
 use lib.Dec.{T, eqb, eqb→eq}
@@ -16,9 +15,8 @@ use Rattle.graph.specs.Graph.{Links}
 use Rattle.base.proofs.Tests.{dec-T, not-T-false, and-T, and-fst, and-snd, or-cases, or-left, or-right}
 use Rattle.protocol.specs.Message.{Msg, among}
 use Rattle.protocol.specs.Refusals.{order, Row, appliesIn, firstOf, first}
-use Rattle.protocol.specs.Rules.{Change, keep, set, toLink}
+use Rattle.protocol.specs.Rules.{Change, keep, set}
 use Rattle.protocol.specs.Page.{at, isTaken, pendingAfter}
-use Rattle.protocol.specs.pages.Turn.{each}
 use Rattle.protocol.specs.pages.Deliver.{sameSide, applied}
 
 -- a value at one place

@@ -116,7 +116,8 @@ module _ (G : World) (S : State) (state : ℕ → SeatState) where
   pub clearing-right : {m : Msg} → Sided G m → Does G (Stays state) S m (does m)
   unfolding effect
   clearing-right (s-going {x} {k} {d}) = keeps-right refl (λ a j c v s. elim s [ ]) (λ n s. parted-all x k d s) (parted-only x k d)
-  clearing-right (s-seek {z} {x} {k} l) = keeps-right (seek-keeps z x k) (λ a j c v s. elim s [ ]) (λ n s. sought-all z x k s) (sought-only z x k (rw (side-of (G .num) l) l))
+  clearing-right (s-seek {z} {x} {k} l) =
+      keeps-right (seek-keeps z x k) (λ a j c v s. elim s [ ]) (λ n s. sought-all z x k s) (sought-only z x k (rw (side-of (G .num) l) l))
   clearing-right (s-found {x} {z} {k} {d} l) = sets-right (found-sets l) (to-found l) (λ a j c v s. one s) (λ n s. elim s [ ]) (search all-sent)
     where
       one : {a j : ℕ} {c : Side} {v : Option ℕ} → Sets G (Stays state) S (found x z k) a j c v → (a ≡ x) × (set k d (some z) ≡ set j c v)

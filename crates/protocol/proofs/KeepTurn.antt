@@ -1,7 +1,6 @@
 -- A turn with nothing pending keeps soundness, in phase open and in clearing; and to whom leavers send GOING. Assumes nothing.
-use Prim.Native.Nat.{ℕ, suc, _^_, _<_}
+use Prim.Native.Nat.{ℕ, _^_, _<_}
 use mathlib.Core.Path.{_≡_, refl, sym, _∙_, ap, subst}
-use mathlib.Core.Logic.{_⊎_, inl, inr}
 use mathlib.Core.Option.{Option, none, some}
 use mathlib.Core.Bool.{Bool, true, false, not, cond}
 use mathlib.Core.List.{[], List·Memᴰ, List·Memᴰ·not-nil}
@@ -9,7 +8,7 @@ use lib.Dec.{T}
 use lib.Pow.{pow-pos}
 use Rattle.graph.specs.Side.{Side, left, right, opp}
 use Rattle.graph.specs.Graph.{Links}
-use Rattle.base.proofs.Tests.{T-true, true-T, none-some, some-inj}
+use Rattle.base.proofs.Tests.{T-true, none-some, some-inj}
 use Rattle.protocol.specs.Message.{Msg, going}
 use Rattle.base.specs.Loops.{any}
 use Rattle.protocol.specs.Rules.{free}

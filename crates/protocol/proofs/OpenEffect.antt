@@ -2,8 +2,8 @@
 -- set one. The order of a rule's messages does not matter here. Assumes nothing.
 use Prim.Native.Nat.{ℕ, suc, _<_}
 use mathlib.Core.Path.{_≡_, refl, ap}
-use mathlib.Core.Logic.{inl, inr, _≢_}
-use mathlib.Core.Option.{Option, none, some}
+use mathlib.Core.Logic.{inl, inr}
+use mathlib.Core.Option.{Option, some}
 use mathlib.Core.Bool.{Bool, true, false, not}
 use mathlib.Core.List.{List, List·Memᴰ, Memᴰ·cast}
 use lib.Dec.{T, ltb, ltb→lt, lt→ltb}
@@ -16,7 +16,7 @@ use Rattle.graph.proofs.Shared.{same-eq, eq-same}
 use Rattle.base.proofs.Tests.{T-true, true-T, not-T-false}
 use Rattle.protocol.specs.Message.{Msg, meet, probe, pull, nameOf}
 use Rattle.protocol.specs.Rules.{SeatState, Entry, set, Effect, setting, meeting, probing, pulling, effect}
-use Rattle.protocol.proofs.World.{World, State, share, bitOf, Pair, seat-side}
+use Rattle.protocol.proofs.World.{World, State, share, bitOf, seat-side}
 use Rattle.protocol.proofs.Sent.{is-sent, All, all-both, all-sent}
 use Rattle.protocol.proofs.Delivery.{keeps-right, sets-right}
 use Rattle.protocol.proofs.Open.{Old, no-old, far, Sends, on, back, hand, ask, call, up, pass, hit, go, Sets, sets, Ok, ok-meet, ok-probe}
@@ -27,7 +27,7 @@ use Rattle.protocol.proofs.Open.{not-old, old-far, same-sends, beyond-s
 abbrev pub entryIn : World → State → SeatState → ℕ → Entry
 entryIn G S s x = record { state = s; number = G .num x; vector = G .vec x; link = S .link x }
 
--- PROBE and PULL are below the top level
+-- a PROBE or a PULL is below level W
 abbrev Below : ℕ → Msg → Type 0
 Below W (meet t a l) = Unit {0}
 Below W (probe t a l) = l < W
@@ -46,6 +46,11 @@ module _ (G : World) (S : State) (st : SeatState) where
   module _ (x y k : ℕ) (d : Side) where
     abbrev sends : List Msg
     sends = setting (G .W) (G .num) (G .vec) (entryIn G S st x) x y k d .sent
+
+    -- no PROBE and no PULL at the top level
+    below-top : All (Below (G .W)) sends
+    unfolding setting
+    below-top = search (all-sent, ltb→lt) depth 8
 
     -- y gets to know x
     sends-back : List·Memᴰ (meet y x k) sends
@@ -66,11 +71,6 @@ module _ (G : World) (S : State) (st : SeatState) where
     sends-pull : {z : ℕ} → k < G .W → S .link x k (opp d) ≡ some z → List·Memᴰ (pull z (not (bitOf G k x)) k (opp d)) sends
     unfolding setting
     sends-pull w e = search (is-sent, lt→ltb)
-
-    -- at the top level neither does
-    below-top : All (Below (G .W)) sends
-    unfolding setting
-    below-top = search (all-sent, ltb→lt) depth 8
 
     sends-all : {n : Msg} → Old G S x k d y → MeetSends G S x y k d n → List·Memᴰ n sends
     sends-all p (m-on f n) = not-old f (inr n) p
@@ -114,7 +114,7 @@ module _ (G : World) (S : State) (st : SeatState) where
       let ons : Sends G S (meet x y k) (meet o y k) = on l e n in
       rw (side-of (G .num) l, e, ne-eqb o y (lt-ne n), t)
       (keeps-right refl (λ a j c v s. none-set l e (inr n) s) (λ m s. Memᴰ·cast (beyond-sends e n (meet-sends l s)) (search is-sent))
-          (search all-sent))
+      (search all-sent))
   meet-right {x} {y} {k} {d} l (nearer (no-old e)) = rw (side-of (G .num) l, e) (sets-it x y k d l (no-old e))
   meet-right {x} {y} {k} {d} l (nearer (far o e n)) =
       let f : onSide d (G .num o) (G .num y) ≡ false = not-T-false (λ t. lt-asym (on-lt (G .num) d o y t) n) in

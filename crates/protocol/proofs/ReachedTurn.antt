@@ -4,13 +4,13 @@ use mathlib.Core.Path.{_≡_, refl, sym, _∙_, ap, subst}
 use mathlib.Core.Logic.{_⊎_, inl, inr}
 use mathlib.Core.Option.{Option, none, some}
 use mathlib.Core.Bool.{Bool, true, false, cond}
-use mathlib.Core.List.{List, [], _++_, List·Memᴰ, Memᴰ·append-left, Memᴰ·append-right}
+use mathlib.Core.List.{List, [], List·Memᴰ}
 use native.Mathlib.Omega.{arith}
 use lib.Dec.{T}
 use Rattle.graph.specs.Side.{Side, left, right, opp}
 use Rattle.graph.specs.Graph.{Links}
 use Rattle.graph.proofs.Order.{opp-opp}
-use Rattle.base.proofs.Tests.{dec-T, T-true, not-T-false, false-T, true-false, none-some}
+use Rattle.base.proofs.Tests.{dec-T, not-T-false, false-T, none-some}
 use Rattle.protocol.specs.Message.{Msg, going}
 use Rattle.base.specs.Loops.{any}
 use Rattle.protocol.specs.Rules.{SeatState, free, staying, leaving, isStaying}

@@ -30,16 +30,16 @@ pub in-link : {m : Msg} (o : Option ℕ) (f : ℕ → Msg) (z : ℕ) → o ≡ s
 unfolding toLink
 in-link o f z e q = rw e (List·Memᴰ·head q)
 
+pub ruleset is-sent = (in-head, List·Memᴰ·tail, Memᴰ·append-left, Memᴰ·append-right, in-yes, in-no, in-link)
+
 pub in-each : {m : Msg} (n : ℕ) (f : ℕ → List Msg) (i : ℕ) → i < n → List·Memᴰ m (f i) → List·Memᴰ m (each n f)
 unfolding each
 in-each zero f i l h = absurd (omega arith)
 in-each {m} (suc n) f i l h = by (ℕ-discrete i n) (λ k. in-each n f i k h)
   where
-    by : Dec (i ≡ n) → (i < n → List·Memᴰ m (each n f)) → List·Memᴰ m (each n f ++ f n)
-    by (yes e) ih = Memᴰ·append-right (each n f) (subst (λ (j : ℕ). List·Memᴰ m (f j)) e h)
-    by (no e) ih = Memᴰ·append-left (f n) (ih (omega arith))
-
-pub ruleset is-sent = (in-head, List·Memᴰ·tail, Memᴰ·append-left, Memᴰ·append-right, in-yes, in-no, in-link)
+    by : Dec (i ≡ n) → (i < n → List·Memᴰ m (each n f)) → List·Memᴰ m (each (suc n) f)
+    by (yes e) ih = let g : List·Memᴰ m (f n) = subst (λ (j : ℕ). List·Memᴰ m (f j)) e h in search is-sent
+    by (no e) ih = let g : List·Memᴰ m (each n f) = ih (omega arith) in search is-sent
 
 -- all messages of a list
 pub data All (P : Msg → Type 0) : List Msg → Type 0 where
@@ -74,6 +74,9 @@ all-link (some z) f h = all-more (h z refl) all-none
 pub all-each : {P : Msg → Type 0} (n : ℕ) (f : ℕ → List Msg) → ((i : ℕ) → i < n → All P (f i)) → All P (each n f)
 unfolding each
 all-each zero f h = all-none
-all-each (suc n) f h = all-append (each n f) (f n) (all-each n f (λ i l. h i (omega arith))) (h n (omega arith))
+all-each {P} (suc n) f h =
+    let before : All P (each n f) = all-each n f (λ i l. h i (omega arith)) in
+    let last : All P (f n) = h n (omega arith) in
+    search all-append
 
 pub ruleset all-sent = (all-none, all-more, all-append, all-cond, all-link, all-each)
