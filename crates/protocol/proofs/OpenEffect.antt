@@ -14,7 +14,7 @@ use Rattle.graph.specs.inner.Order.{Lt}
 use Rattle.graph.proofs.Order.{opp-opp, lt-opp, lt-ne, lt-ne′, lt-asym, lt-side, on-lt, lt-on, side-of}
 use Rattle.graph.proofs.Shared.{same-eq, eq-same}
 use Rattle.base.proofs.Tests.{T-true, true-T, not-T-false}
-use Rattle.protocol.specs.Message.{Msg, meet, probe, pull, nameOf}
+use Rattle.protocol.specs.Message.{Msg, meet, probe, pull, going, seek, found, none-found, nameOf}
 use Rattle.protocol.specs.Rules.{SeatState, Entry, set, Effect, setting, meeting, probing, pulling, effect}
 use Rattle.protocol.proofs.World.{World, State, share, bitOf, seat-side}
 use Rattle.protocol.proofs.Sent.{is-sent, All, all-both, all-sent}
@@ -32,10 +32,10 @@ abbrev Below : ℕ → Msg → Type 0
 Below W (meet t a l) = Unit {0}
 Below W (probe t a l) = l < W
 Below W (pull t b l d) = l < W
-Below W (Msg.going t l d) = Unit {0}
-Below W (Msg.seek t a l) = Unit {0}
-Below W (Msg.found t a l) = Unit {0}
-Below W (Msg.none-found t l d) = Unit {0}
+Below W (going t l d) = Unit {0}
+Below W (seek t a l) = Unit {0}
+Below W (found t a l) = Unit {0}
+Below W (none-found t l d) = Unit {0}
 
 module _ (G : World) (S : State) (st : SeatState) where
   -- what the rule of a message does
