@@ -1,12 +1,11 @@
--- The small functions of the calls, as facts: a value at one place, the pending set after a call, the links after a change, lists made
--- seat by seat, and rows of the table that do not apply. Assumes nothing.
-use Prim.Native.Nat.{ℕ, zero, suc, _<_}
+-- The small functions of the calls, as facts: a value at one place, the pending set after a call, the links after a change, and rows of the
+-- table that do not apply. Assumes nothing.
+use Prim.Native.Nat.{ℕ, zero, suc}
 use mathlib.Core.Path.{_≡_, refl, sym, _∙_, ap, subst}
 use mathlib.Core.Logic.{_⊎_, inl, inr, _≢_}
-use mathlib.Core.Option.{Option, none, some}
+use mathlib.Core.Option.{Option}
 use mathlib.Core.Bool.{Bool, true, false, not, cond, _&&_, _||_}
-use mathlib.Core.List.{List, [], _∷_, _++_, List·Memᴰ, List·Memᴰ·head, List·Memᴰ·eq-of-singleton, List·Memᴰ·not-nil, List·Memᴰ·append-cases}
-use mathlib.Core.List.{Memᴰ·append-left, Memᴰ·append-right}
+use mathlib.Core.List.{List, [], _∷_}
 use native.Mathlib.Omega.{arith}
 use native.Mathlib.Decide.{ℕ-discrete}
 use lib.Dec.{T, eqb, eqb→eq}
@@ -16,9 +15,8 @@ use Rattle.graph.specs.Graph.{Links}
 use Rattle.base.proofs.Tests.{dec-T, not-T-false, and-T, and-fst, and-snd, or-cases, or-left, or-right}
 use Rattle.protocol.specs.Message.{Msg, among}
 use Rattle.protocol.specs.Refusals.{order, Row, appliesIn, firstOf, first}
-use Rattle.protocol.specs.Rules.{Change, keep, set, toLink}
+use Rattle.protocol.specs.Rules.{Change, keep, set}
 use Rattle.protocol.specs.Page.{at, isTaken, pendingAfter}
-use Rattle.protocol.specs.pages.Turn.{each}
 use Rattle.protocol.specs.pages.Deliver.{sameSide, applied}
 
 -- a value at one place
@@ -102,36 +100,6 @@ applied-other t c L x k d ne = by (applied-frame t c L x k d)
     by : (applied t c L x k d ≡ L x k d) ⊎ ((o : Option ℕ) × (x ≡ t) × (c ≡ set k d o)) → applied t c L x k d ≡ L x k d
     by (inl e) = e
     by (inr q) = absurd (ne (q .1))
-
--- a message to a link
-pub link-in : (o : Option ℕ) (f : ℕ → Msg) {z : ℕ} → o ≡ some z → List·Memᴰ (f z) (toLink o f)
-unfolding toLink
-link-in o f {z} e = rw e (List·Memᴰ·head refl)
-
-pub link-out : (o : Option ℕ) (f : ℕ → Msg) {m : Msg} → List·Memᴰ m (toLink o f) → (z : ℕ) × (o ≡ some z) × (m ≡ f z)
-unfolding toLink
-link-out none f h = absurd (List·Memᴰ·not-nil h)
-link-out (some z) f h = (z, refl, List·Memᴰ·eq-of-singleton h)
-
--- lists made seat by seat
-pub each-in : (n : ℕ) (f : ℕ → List Msg) (i : ℕ) {m : Msg} → i < n → List·Memᴰ m (f i) → List·Memᴰ m (each n f)
-unfolding each
-each-in zero f i l h = absurd (omega arith)
-each-in (suc n) f i {m} l h = by (ℕ-discrete i n) (λ k. each-in n f i k h)
-  where
-    by : Dec (i ≡ n) → (i < n → List·Memᴰ m (each n f)) → List·Memᴰ m (each n f ++ f n)
-    by (yes e) ih = Memᴰ·append-right (each n f) (subst (λ (j : ℕ). List·Memᴰ m (f j)) e h)
-    by (no e) ih = Memᴰ·append-left (f n) (ih (omega arith))
-
-pub each-out : (n : ℕ) (f : ℕ → List Msg) {m : Msg} → List·Memᴰ m (each n f) → (i : ℕ) × (i < n) × List·Memᴰ m (f i)
-unfolding each
-each-out zero f h = absurd (List·Memᴰ·not-nil h)
-each-out (suc n) f {m} h = by (List·Memᴰ·append-cases (each n f) h) (λ q. each-out n f q)
-  where
-    by : List·Memᴰ m (each n f) ⊎ List·Memᴰ m (f n) → (List·Memᴰ m (each n f) → (i : ℕ) × (i < n) × List·Memᴰ m (f i))
-        → (i : ℕ) × (i < suc n) × List·Memᴰ m (f i)
-    by (inl q) ih = let r = ih q in (r .0, omega (arith, r .1), r .2)
-    by (inr q) ih = (n, omega arith, q)
 
 -- n is in a list of refusals, and each of them is above 0
 abbrev lists : List ℕ → ℕ → Bool

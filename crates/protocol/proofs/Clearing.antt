@@ -11,8 +11,9 @@ use Rattle.graph.specs.inner.Order.{Lt}
 use Rattle.graph.proofs.Order.{lt-trans, lt-side}
 use Rattle.base.proofs.Tests.{some-inj, none-some}
 use Rattle.protocol.specs.Message.{Msg, going, seek, found, none-found}
+use Rattle.protocol.specs.Rules.{Effect}
 use Rattle.protocol.proofs.World.{World, State, Quiet, Pair, pair-sym, pair-trans, pair-level}
-use Rattle.protocol.proofs.Delivery.{Delivery}
+use Rattle.protocol.proofs.Delivery.{Delivery, Right}
 
 module _ (G : World) (Stay : ℕ → Type 0) where
   -- the target: o is the nearest staying lot on side d in x's list of level k, if any
@@ -35,6 +36,10 @@ module _ (G : World) (Stay : ℕ → Type 0) where
 
   abbrev pub Cleared : State → Msg → State → Type 0
   Cleared S m S′ = Delivery (Sends S) (Sets S) S m S′
+
+  -- an effect is what they say
+  abbrev pub Does : State → Msg → Effect → Type 0
+  Does S m e = Right (Sends S) (Sets S) m e
 
   -- the graph of all lots, at the turn
   pub record AllLinks (L : Links) : Type 0 where

@@ -1,165 +1,128 @@
--- The effect of GOING, SEEK, FOUND and NONE: one case for each way that a rule can go, and each case is what the relations of Clearing
--- say. Assumes nothing.
+-- GOING, SEEK, FOUND and NONE do what the relations of Clearing say: each message that they name is sent, none other is, and a link is set
+-- where they set one. Assumes nothing.
 use Prim.Native.Nat.{ℕ}
-use mathlib.Core.Path.{_≡_, refl, sym, ap, subst}
+use mathlib.Core.Path.{_≡_, refl, sym, ap}
 use mathlib.Core.Option.{Option, none, some}
-use mathlib.Core.Bool.{Bool, true, false, cond}
-use mathlib.Core.List.{[], _∷_, List·Memᴰ, List·Memᴰ·head, List·Memᴰ·eq-of-singleton, List·Memᴰ·not-nil}
+use mathlib.Core.List.{List, List·Memᴰ, List·Memᴰ·head, Memᴰ·cast}
 use lib.Dec.{T}
-use Rattle.graph.specs.Side.{Side}
+use Rattle.graph.specs.Side.{Side, sideOf}
 use Rattle.graph.specs.inner.Order.{Lt}
 use Rattle.graph.proofs.Order.{lt-side, side-of}
-use Rattle.base.proofs.Tests.{none-some, true-T, false-T}
 use Rattle.protocol.specs.Message.{Msg, going, seek, found, none-found, nameOf}
-use Rattle.protocol.specs.Rules.{SeatState, isStaying, Change, keep, set, Effect, toLink, sending, parting, passing, seeking, effect}
-use Rattle.protocol.proofs.Calls.{link-in, link-out}
+use Rattle.protocol.specs.Rules.{SeatState, isStaying, Entry, keep, set, Effect, parting, passing, seeking, effect}
 use Rattle.protocol.proofs.World.{World, State}
-use Rattle.protocol.proofs.Delivery.{Right}
-use Rattle.protocol.proofs.OpenEffect.{keep-set, entryIn}
-use Rattle.protocol.proofs.Clearing.{Sends, asks, answers, passes, gives-up, Sets, to-found, to-none, Ok, ok-going, ok-seek, ok-found, ok-none}
+use Rattle.protocol.proofs.Sent.{is-sent, All, all-none, all-more, all-sent}
+use Rattle.protocol.proofs.Delivery.{keeps-right, sets-right}
+use Rattle.protocol.proofs.OpenEffect.{entryIn}
+use Rattle.protocol.proofs.Clearing.{Sends, asks, answers, passes, gives-up, Sets, to-found, to-none, Does}
 
 -- a lot stays, by its state
 abbrev pub Stays : (ℕ → SeatState) → ℕ → Type 0
 Stays state x = T (isStaying (state x))
 
-abbrev setting : ℕ → Side → Option ℕ → Effect
-setting k d o = record { change = set k d o; sent = [] }
+-- a message of clearing: the two lots that SEEK and FOUND name lie on some side of each other
+pub data Sided (G : World) : Msg → Type 0 where
+  s-going : {x k : ℕ} {d : Side} → Sided G (going x k d)
+  s-seek : {z x k : ℕ} {d : Side} → Lt (G .num) d x z → Sided G (seek z x k)
+  s-found : {x z k : ℕ} {d : Side} → Lt (G .num) d x z → Sided G (found x z k)
+  s-none : {x k : ℕ} {d : Side} → Sided G (none-found x k d)
 
--- the ways that the four rules can go
-pub data View (G : World) (S : State) (Stay : ℕ → Type 0) : Msg → Effect → Type 0 where
-  v-ask : {x k : ℕ} {d : Side} → Stay x → View G S Stay (going x k d) (sending (toLink (S .link x k d) (λ z. seek z x k)))
-  v-idle : {x k : ℕ} {d : Side} → ¬ (Stay x) → View G S Stay (going x k d) (sending [])
-  v-answer : {z x k : ℕ} → Stay z → View G S Stay (seek z x k) (sending (found x z k ∷ []))
-  v-pass : {z x k w : ℕ} {d : Side} → ¬ (Stay z) → Lt (G .num) d x z → S .link z k d ≡ some w
-      → View G S Stay (seek z x k) (sending (seek w x k ∷ []))
-  v-none : {z x k : ℕ} {d : Side} → ¬ (Stay z) → Lt (G .num) d x z → S .link z k d ≡ none
-      → View G S Stay (seek z x k) (sending (none-found x k d ∷ []))
-  v-found : {x z k : ℕ} {d : Side} → Lt (G .num) d x z → View G S Stay (found x z k) (setting k d (some z))
-  v-gone : {x k : ℕ} {d : Side} → View G S Stay (none-found x k d) (setting k d none)
+-- a leaving lot's part of SEEK: on to the link, or NONE
+module _ (W : ℕ) (num vec : ℕ → ℕ) (e : Entry) (t a l : ℕ) (d : Side) (o : Option ℕ) where
+  in-passing : (w : ℕ) → o ≡ some w → List·Memᴰ (seek w a l) (passing W num vec e t a l d o)
+  unfolding passing
+  in-passing w q = rw q (List·Memᴰ·head refl)
+
+  in-ending : o ≡ none → List·Memᴰ (none-found a l d) (passing W num vec e t a l d o)
+  unfolding passing
+  in-ending q = rw q (List·Memᴰ·head refl)
+
+all-passing : {P : Msg → Type 0} (W : ℕ) (num vec : ℕ → ℕ) (e : Entry) (t a l : ℕ) (d : Side) (o : Option ℕ)
+    → ((w : ℕ) → o ≡ some w → P (seek w a l)) → (o ≡ none → P (none-found a l d)) → All P (passing W num vec e t a l d o)
+unfolding passing
+all-passing W num vec e t a l d none f g = all-more (g refl) all-none
+all-passing W num vec e t a l d (some w) f g = all-more (f w refl) all-none
 
 module _ (G : World) (S : State) (state : ℕ → SeatState) where
-  going-view : {x k : ℕ} {d : Side} → View G S (Stays state) (going x k d) (effect (G .W) (G .num) (G .vec) (entryIn G S (state x) x) (going x k d))
-  unfolding effect parting
-  going-view {x} {k} {d} = by (isStaying (state x)) refl
-    where
-      by : (b : Bool) → isStaying (state x) ≡ b
-          → View G S (Stays state) (going x k d) (sending (cond b (toLink (S .link x k d) (λ z. seek z x k)) []))
-      by true e = v-ask (true-T e)
-      by false e = v-idle (λ t. false-T e t)
+  -- what the rule of a message does
+  abbrev does : Msg → Effect
+  does m = effect (G .W) (G .num) (G .vec) (entryIn G S (state (nameOf m .to)) (nameOf m .to)) m
 
-  seek-view : {z x k : ℕ} {d : Side} → Lt (G .num) d x z
-      → View G S (Stays state) (seek z x k) (effect (G .W) (G .num) (G .vec) (entryIn G S (state z) z) (seek z x k))
-  unfolding effect seeking passing
-  seek-view {z} {x} {k} {d} l = rw (side-of (G .num) l) (by (isStaying (state z)) refl (S .link z k d) refl)
-    where
-      by : (b : Bool) → isStaying (state z) ≡ b → (o : Option ℕ) → S .link z k d ≡ o
-          → View G S (Stays state) (seek z x k) (sending (cond b (found x z k ∷ []) (passing (G .W) (G .num) (G .vec) (entryIn G S (state z) z) z x k d o)))
-      by true e o f = v-answer (true-T e)
-      by false e none f = v-none (λ t. false-T e t) l f
-      by false e (some w) f = v-pass (λ t. false-T e t) l f
+  abbrev Sent : Msg → Msg → Type 0
+  Sent m n = Sends G (Stays state) S m n
 
-  found-view : {x z k : ℕ} {d : Side} → Lt (G .num) d x z
-      → View G S (Stays state) (found x z k) (effect (G .W) (G .num) (G .vec) (entryIn G S (state x) x) (found x z k))
+  module _ (x k : ℕ) (d : Side) where
+    abbrev parted : List Msg
+    parted = parting (G .W) (G .num) (G .vec) (entryIn G S (state x) x) x k d
+
+    -- a staying lot asks its link on the leaver's side
+    parted-all : {n : Msg} → Sent (going x k d) n → List·Memᴰ n parted
+    unfolding parting
+    parted-all (asks st e) = search is-sent
+
+    parted-only : All (Sent (going x k d)) parted
+    unfolding parting
+    parted-only = search (all-sent, asked)
+      where
+        asked : (y : ℕ) → Stays state x → S .link x k d ≡ some y → Sent (going x k d) (seek y x k)
+        asked y st e = asks st e
+
+  module _ (z x k : ℕ) where
+    abbrev sought : List Msg
+    sought = seeking (G .W) (G .num) (G .vec) (entryIn G S (state z) z) z x k
+
+    -- the side away from x
+    abbrev away : Side
+    away = sideOf (G .num x) (G .num z)
+
+    -- a staying lot answers; a leaving one passes it on to its link away from x, and without one sends NONE
+    sought-all : {n : Msg} → Sent (seek z x k) n → List·Memᴰ n sought
+    unfolding seeking
+    sought-all (answers st) = search is-sent
+    sought-all (passes {w = w} ns l e) = let f : S .link z k away ≡ some w = rw (side-of (G .num) l) e in search (is-sent, in-passing)
+    sought-all (gives-up {d = d} ns l e) =
+        let f : S .link z k away ≡ none = rw (side-of (G .num) l) e in
+        let q : none-found x k d ≡ none-found x k away = ap (λ (c : Side). none-found x k c) (sym (side-of (G .num) l)) in
+        Memᴰ·cast q (search (is-sent, in-ending))
+
+    sought-only : Lt (G .num) away x z → All (Sent (seek z x k)) sought
+    unfolding seeking
+    sought-only l = search (all-sent, all-passing, answered, passed, ended)
+      where
+        answered : Stays state z → Sent (seek z x k) (found x z k)
+        answered st = answers st
+
+        passed : (w : ℕ) → ¬ (Stays state z) → S .link z k away ≡ some w → Sent (seek z x k) (seek w x k)
+        passed w ns e = passes ns l e
+
+        ended : ¬ (Stays state z) → S .link z k away ≡ none → Sent (seek z x k) (none-found x k away)
+        ended ns e = gives-up ns l e
+
+    -- no lot alters its links for a SEEK
+    seek-keeps : does (seek z x k) .change ≡ keep
+    unfolding effect
+    seek-keeps = refl
+
+  -- FOUND sets the link on its lot's side, NONE leaves no link
+  found-sets : {x z k : ℕ} {d : Side} → Lt (G .num) d x z → does (found x z k) .change ≡ set k d (some z)
   unfolding effect
-  found-view l = rw (side-of (G .num) l) (v-found l)
+  found-sets l = rw (side-of (G .num) l)
 
-  gone-view : {x k : ℕ} {d : Side}
-      → View G S (Stays state) (none-found x k d) (effect (G .W) (G .num) (G .vec) (entryIn G S (state x) x) (none-found x k d))
+  none-sets : (x k : ℕ) (d : Side) → does (none-found x k d) .change ≡ set k d none
   unfolding effect
-  gone-view = v-gone
+  none-sets x k d = refl
 
-  -- each message that is proper in clearing goes one of these ways
-  pub clearing-view : {m : Msg} → Ok G (Stays state) m
-      → View G S (Stays state) m (effect (G .W) (G .num) (G .vec) (entryIn G S (state (nameOf m .to)) (nameOf m .to)) m)
-  clearing-view (ok-going sx w) = going-view
-  clearing-view (ok-seek st p l near) = seek-view l
-  clearing-view (ok-found st l b) = found-view l
-  clearing-view (ok-none sx w st b) = gone-view
-
--- each way is what the relations say
-module _ {G : World} {S : State} {Stay : ℕ → Type 0} where
-  -- one message is sent, and no link is set
-  right-one : {m n : Msg} → Sends G Stay S m n → ((a : Msg) → Sends G Stay S m a → a ≡ n)
-      → ((x k : ℕ) (d : Side) (v : Option ℕ) → Sets G Stay S m x k d v → ⊥) → Right (Sends G Stay S) (Sets G Stay S) m (sending (n ∷ []))
-  right-one {m} s only z =
-      record {
-        all = λ {n = a} t. List·Memᴰ·head (only a t);
-        mem = λ i. subst (Sends G Stay S m) (sym (List·Memᴰ·eq-of-singleton i)) s;
-        puts = λ t. absurd (z _ _ _ _ t);
-        sets = λ e. keep-set e;
-      }
-
-  right-ask : {x k : ℕ} {d : Side} → Stay x
-      → Right (Sends G Stay S) (Sets G Stay S) (going x k d) (sending (toLink (S .link x k d) (λ z. seek z x k)))
-  right-ask {x} {k} {d} st = record {
-    all = λ s. by s;
-    mem = λ i. let q = link-out (S .link x k d) (λ z. seek z x k) i in subst (Sends G Stay S (going x k d)) (sym (q .2)) (asks st (q .1));
-    puts = λ s. elim s [ ];
-    sets = λ e. keep-set e;
-  }
+  -- the rule of each message of clearing does what the relations say
+  pub clearing-right : {m : Msg} → Sided G m → Does G (Stays state) S m (does m)
+  unfolding effect
+  clearing-right (s-going {x} {k} {d}) = keeps-right refl (λ a j c v s. elim s [ ]) (λ n s. parted-all x k d s) (parted-only x k d)
+  clearing-right (s-seek {z} {x} {k} l) =
+      keeps-right (seek-keeps z x k) (λ a j c v s. elim s [ ]) (λ n s. sought-all z x k s) (sought-only z x k (rw (side-of (G .num) l) l))
+  clearing-right (s-found {x} {z} {k} {d} l) = sets-right (found-sets l) (to-found l) (λ a j c v s. one s) (λ n s. elim s [ ]) (search all-sent)
     where
-      by : {n : Msg} → Sends G Stay S (going x k d) n → List·Memᴰ n (toLink (S .link x k d) (λ z. seek z x k))
-      by (asks st′ e) = link-in (S .link x k d) (λ z. seek z x k) e
-
-  right-idle : {x k : ℕ} {d : Side} → ¬ (Stay x) → Right (Sends G Stay S) (Sets G Stay S) (going x k d) (sending [])
-  right-idle {x} {k} {d} ns = record { all = λ s. by s; mem = λ i. absurd (List·Memᴰ·not-nil i); puts = λ s. elim s [ ]; sets = λ e. keep-set e }
+      one : {a j : ℕ} {c : Side} {v : Option ℕ} → Sets G (Stays state) S (found x z k) a j c v → (a ≡ x) × (set k d (some z) ≡ set j c v)
+      one (to-found m) = (refl, ap (λ (e : Side). set k e (some z)) (lt-side l m))
+  clearing-right (s-none {x} {k} {d}) = sets-right (none-sets x k d) to-none (λ a j c v s. one s) (λ n s. elim s [ ]) (search all-sent)
     where
-      by : {n : Msg} → Sends G Stay S (going x k d) n → List·Memᴰ n []
-      by (asks st e) = absurd (ns st)
-
-  right-answer : {z x k : ℕ} → Stay z → Right (Sends G Stay S) (Sets G Stay S) (seek z x k) (sending (found x z k ∷ []))
-  right-answer {z} {x} {k} st = right-one (answers st) (λ a s. by s) (λ y j d v t. elim t [ ])
-    where
-      by : {a : Msg} → Sends G Stay S (seek z x k) a → a ≡ found x z k
-      by (answers s) = refl
-      by (passes ns l e) = absurd (ns st)
-      by (gives-up ns l e) = absurd (ns st)
-
-  right-pass : {z x k w : ℕ} {d : Side} → ¬ (Stay z) → Lt (G .num) d x z → S .link z k d ≡ some w
-      → Right (Sends G Stay S) (Sets G Stay S) (seek z x k) (sending (seek w x k ∷ []))
-  right-pass {z} {x} {k} {w} {d} ns l e = right-one (passes ns l e) (λ a s. by s) (λ y j d v t. elim t [ ])
-    where
-      by : {a : Msg} → Sends G Stay S (seek z x k) a → a ≡ seek w x k
-      by (answers s) = absurd (ns s)
-      by (passes {w = v} ns′ m f) = let g : S .link z k d ≡ some v = rw (lt-side m l) at f in let r : v ≡ w = cc in ap (λ (y : ℕ). seek y x k) r
-      by (gives-up ns′ m f) = none-some (rw (lt-side m l) at f) e
-
-  right-none : {z x k : ℕ} {d : Side} → ¬ (Stay z) → Lt (G .num) d x z → S .link z k d ≡ none
-      → Right (Sends G Stay S) (Sets G Stay S) (seek z x k) (sending (none-found x k d ∷ []))
-  right-none {z} {x} {k} {d} ns l e = right-one (gives-up ns l e) (λ a s. by s) (λ y j d v t. elim t [ ])
-    where
-      by : {a : Msg} → Sends G Stay S (seek z x k) a → a ≡ none-found x k d
-      by (answers s) = absurd (ns s)
-      by (passes ns′ m f) = none-some e (rw (lt-side m l) at f)
-      by (gives-up ns′ m f) = ap (λ (c : Side). none-found x k c) (lt-side m l)
-
-  right-found : {x z k : ℕ} {d : Side} → Lt (G .num) d x z → Right (Sends G Stay S) (Sets G Stay S) (found x z k) (setting k d (some z))
-  right-found {x} {z} {k} {d} l =
-      record { all = λ s. elim s [ ]; mem = λ m. absurd (List·Memᴰ·not-nil m); puts = λ s. ps s; sets = λ f. subst put f (to-found l) }
-    where
-      put : Change → Type 0
-      put keep = ⊥
-      put (set j c o) = Sets G Stay S (found x z k) x j c o
-
-      ps : {a j : ℕ} {c : Side} {v : Option ℕ} → Sets G Stay S (found x z k) a j c v → (a ≡ x) × (set k d (some z) ≡ set j c v)
-      ps (to-found m) = (refl, ap (λ (e : Side). set k e (some z)) (lt-side l m))
-
-  right-gone : {x k : ℕ} {d : Side} → Right (Sends G Stay S) (Sets G Stay S) (none-found x k d) (setting k d none)
-  right-gone {x} {k} {d} =
-      record { all = λ s. elim s [ ]; mem = λ m. absurd (List·Memᴰ·not-nil m); puts = λ s. ps s; sets = λ f. subst put f to-none }
-    where
-      put : Change → Type 0
-      put keep = ⊥
-      put (set j c o) = Sets G Stay S (none-found x k d) x j c o
-
-      ps : {a j : ℕ} {c : Side} {v : Option ℕ} → Sets G Stay S (none-found x k d) a j c v → (a ≡ x) × (set k d none ≡ set j c v)
-      ps to-none = (refl, refl)
-
-  pub view-right : {m : Msg} {e : Effect} → View G S Stay m e → Right (Sends G Stay S) (Sets G Stay S) m e
-  view-right (v-ask st) = right-ask st
-  view-right (v-idle ns) = right-idle ns
-  view-right (v-answer st) = right-answer st
-  view-right (v-pass ns l e) = right-pass ns l e
-  view-right (v-none ns l e) = right-none ns l e
-  view-right (v-found l) = right-found l
-  view-right v-gone = right-gone
+      one : {a j : ℕ} {c : Side} {v : Option ℕ} → Sets G (Stays state) S (none-found x k d) a j c v → (a ≡ x) × (set k d none ≡ set j c v)
+      one to-none = (refl, refl)

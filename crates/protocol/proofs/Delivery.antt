@@ -8,7 +8,7 @@ use mathlib.Core.List.{List, List·Memᴰ}
 use lib.Dec.{T}
 use Rattle.graph.specs.Side.{Side}
 use Rattle.protocol.specs.Message.{Msg, Name, nameOf, named, among}
-use Rattle.protocol.specs.Rules.{Change, set, Effect}
+use Rattle.protocol.specs.Rules.{Change, keep, set, Effect}
 use Rattle.protocol.specs.State.{Meaning}
 use Rattle.protocol.specs.Calls.{deliver, seatsAfter, sends, takes, linksAfter, accept}
 use Rattle.protocol.specs.Page.{isTaken, pendingAfter}
@@ -16,6 +16,7 @@ use Rattle.protocol.specs.pages.Deliver.{applied, rule, deliverySends, d
 use Rattle.protocol.proofs.Message.{same-eq, eq-same, among-mem, mem-among}
 use Rattle.protocol.proofs.Calls.{after-came, after-kept, after-only, applied-at, applied-frame}
 use Rattle.protocol.proofs.World.{State}
+use Rattle.protocol.proofs.Sent.{All, all-at}
 
 pub record Delivery (Sends : Msg → Msg → Type 0) (Sets : Msg → ℕ → ℕ → Side → Option ℕ → Type 0)
     (S : State) (m : Msg) (S′ : State) : Type 0 where
@@ -52,6 +53,35 @@ pub record Right (Sends : Msg → Msg → Type 0) (Sets : Msg → ℕ → ℕ �
   pub mem : {n : Msg} → List·Memᴰ n (e .sent) → Sends m n
   pub puts : {x k : ℕ} {d : Side} {o : Option ℕ} → Sets m x k d o → (x ≡ nameOf m .to) × (e .change ≡ set k d o)
   pub sets : {k : ℕ} {d : Side} {o : Option ℕ} → e .change ≡ set k d o → Sets m (nameOf m .to) k d o
+
+-- an effect that sets no link, or one: it is right if what the relation names is sent, and all that is sent is named
+module _ {Sends : Msg → Msg → Type 0} {Sets : Msg → ℕ → ℕ → Side → Option ℕ → Type 0} {m : Msg} {e : Effect} where
+  pub keeps-right : e .change ≡ keep → ((x k : ℕ) (d : Side) (o : Option ℕ) → Sets m x k d o → ⊥)
+      → ((n : Msg) → Sends m n → List·Memᴰ n (e .sent)) → All (Sends m) (e .sent) → Right Sends Sets m e
+  keeps-right c none named only = record {
+    all = λ {n} s. named n s;
+    mem = λ i. all-at only i;
+    puts = λ s. absurd (none _ _ _ _ s);
+    sets = λ f. absurd (subst Moves (sym c ∙ f) tt);
+  }
+    where
+      Moves : Change → Type 0
+      Moves keep = Unit {0}
+      Moves (set k d o) = ⊥
+
+  pub sets-right : {k : ℕ} {d : Side} {o : Option ℕ} → e .change ≡ set k d o → Sets m (nameOf m .to) k d o
+      → ((x j : ℕ) (c : Side) (v : Option ℕ) → Sets m x j c v → (x ≡ nameOf m .to) × (set k d o ≡ set j c v))
+      → ((n : Msg) → Sends m n → List·Memᴰ n (e .sent)) → All (Sends m) (e .sent) → Right Sends Sets m e
+  sets-right {k} {d} {o} c s one named only = record {
+    all = λ {n} s. named n s;
+    mem = λ i. all-at only i;
+    puts = λ t. let q = one _ _ _ _ t in (q .0, c ∙ q .1);
+    sets = λ f. subst Put (sym c ∙ f) s;
+  }
+    where
+      Put : Change → Type 0
+      Put keep = ⊥
+      Put (set j b v) = Sets m (nameOf m .to) j b v
 
 -- the state of a meaning
 abbrev pub stateOf : Meaning → State

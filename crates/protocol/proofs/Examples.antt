@@ -3,14 +3,15 @@
 use Prim.Native.Nat.{ℕ, zero, suc}
 use mathlib.Core.Path.{_≡_, refl}
 use mathlib.Core.Option.{Option, none, some}
-use mathlib.Core.Bool.{Bool, true, false}
+use mathlib.Core.Bool.{Bool, true, false, _&&_}
 use mathlib.Core.List.{List, [], _∷_}
+use lib.Dec.{eqb}
 use Rattle.graph.specs.Side.{Side, left, right, onSide, sideOf}
 use Rattle.graph.specs.Vector.{bit, equalBits, shared}
-use Rattle.protocol.specs.Message.{meet, probe, name, nameOf, ifZero, ifBit, named, sameMsg, among}
+use Rattle.protocol.specs.Message.{Msg, meet, probe, name, nameOf, ifZero, ifBit, named, sameMsg, among}
 use Rattle.base.specs.Loops.{any}
 use Rattle.protocol.specs.Numbering.{count, pairAt, pullAt, sideAt, split, messageAt, somePending}
-use Rattle.protocol.specs.Rules.{Entry, staying, keep, set, toLink, setting, meeting, probing, pulling, parting, passing, seeking, effect}
+use Rattle.protocol.specs.Rules.{Entry, Effect, staying, keep, set, toLink, setting, meeting, probing, pulling, parting, passing, seeking, effect}
 use Rattle.protocol.specs.State.{Meaning, nobody, opened, isPending}
 use Rattle.protocol.specs.Calls.{Call, join, leave, deliver, turn, rows, refusal, seatsAfter, sends, takes, linksAfter}
 use Rattle.protocol.specs.Refusals.{first}
@@ -35,15 +36,40 @@ links-of o (suc k) right = none
 lot-100 : Option ℕ → Entry
 lot-100 o = record { state = staying; number = 100; vector = 0; link = links-of o }
 
+-- two lists have the same messages, and as many
+all-among : List Msg → List Msg → Bool
+all-among [] k = true
+all-among (m ∷ l) k = among k m && all-among l k
+
+count-of : List Msg → ℕ
+count-of [] = 0
+count-of (m ∷ l) = suc (count-of l)
+
+same-messages : List Msg → List Msg → Bool
+same-messages l k = all-among l k && (all-among k l && eqb (count-of l) (count-of k))
+
 -- (i) right link 300, MEET about 200: link 200, and 200 gets MEET about 100, MEET about 300, PROBE about 100
-case-i : effect 8 number (λ x. 0) (lot-100 (some 2)) (meet 0 1 0)
-    ≡ record { change = set 0 right (some 1); sent = meet 1 0 0 ∷ meet 1 2 0 ∷ probe 1 0 0 ∷ [] }
-unfolding effect setting meeting toLink sideOf onSide number links-of lot-100 bit
+met : Effect
+met = effect 8 number (λ x. 0) (lot-100 (some 2)) (meet 0 1 0)
+
+case-i-link : met .change ≡ set 0 right (some 1)
+unfolding met effect setting meeting sideOf onSide number links-of lot-100
+case-i-link = refl
+
+case-i : same-messages (met .sent) (meet 1 0 0 ∷ meet 1 2 0 ∷ probe 1 0 0 ∷ []) ≡ true
+unfolding same-messages all-among count-of among sameMsg met effect setting meeting toLink sideOf onSide number links-of lot-100 bit
 case-i = refl
 
 -- (j) right link 200, MEET about 300: passed to 200
-case-j : effect 8 number (λ x. 0) (lot-100 (some 1)) (meet 0 2 0) ≡ record { change = keep; sent = meet 1 2 0 ∷ [] }
-unfolding effect setting meeting toLink sideOf onSide number links-of lot-100 bit
+passed : Effect
+passed = effect 8 number (λ x. 0) (lot-100 (some 1)) (meet 0 2 0)
+
+case-j-link : passed .change ≡ keep
+unfolding passed effect meeting sideOf onSide number links-of lot-100
+case-j-link = refl
+
+case-j : same-messages (passed .sent) (meet 1 2 0 ∷ []) ≡ true
+unfolding same-messages all-among count-of among sameMsg passed effect setting meeting toLink sideOf onSide number links-of lot-100 bit
 case-j = refl
 
 -- the refusal numbers of a log, latest first

@@ -1,26 +1,25 @@
 -- A turn with nothing pending keeps soundness, in phase open and in clearing; and to whom leavers send GOING. Assumes nothing.
-use Prim.Native.Nat.{ℕ, suc, _^_, _<_}
+use Prim.Native.Nat.{ℕ, _^_, _<_}
 use mathlib.Core.Path.{_≡_, refl, sym, _∙_, ap, subst}
-use mathlib.Core.Logic.{_⊎_, inl, inr}
 use mathlib.Core.Option.{Option, none, some}
 use mathlib.Core.Bool.{Bool, true, false, not, cond}
-use mathlib.Core.List.{[], _++_, List·Memᴰ, List·Memᴰ·not-nil, List·Memᴰ·append-cases}
+use mathlib.Core.List.{[], List·Memᴰ, List·Memᴰ·not-nil}
 use lib.Dec.{T}
 use lib.Pow.{pow-pos}
 use Rattle.graph.specs.Side.{Side, left, right, opp}
 use Rattle.graph.specs.Graph.{Links}
-use Rattle.base.proofs.Tests.{T-true, true-T, none-some, some-inj}
+use Rattle.base.proofs.Tests.{T-true, none-some, some-inj}
 use Rattle.protocol.specs.Message.{Msg, going}
 use Rattle.base.specs.Loops.{any}
 use Rattle.protocol.specs.Rules.{free}
 use Rattle.protocol.specs.State.{Phase, open-phase, clearing, Seats, Meaning, isFree, taken, seated, leaves}
 use Rattle.protocol.specs.Calls.{turn, seatsAfter, sends, takes, linksAfter, accept}
-use Rattle.protocol.specs.pages.Turn.{afterTurn, each, farewell, farewells, turnSends, turnLinks}
+use Rattle.protocol.specs.pages.Turn.{afterTurn, farewell, farewells, turnSends, turnLinks}
 use Rattle.protocol.specs.Page.{pendingAfter}
 use Rattle.protocol.specs.Freeing.{unlinked}
 use Rattle.protocol.specs.Sound.{numberBits, messageOk, Sound}
 use Rattle.base.proofs.Any.{any-in}
-use Rattle.protocol.proofs.Calls.{link-out, each-out}
+use Rattle.protocol.proofs.Sent.{All, all-at, all-sent}
 use Rattle.protocol.proofs.SoundFacts.{Linked, p-going, linked-ok, proper-ok, two-level, link-linked, pending-after}
 use Rattle.protocol.proofs.KeepCalls.{Kept, Held, linked-kept, link-kept, seats-kept, differ-kept}
 
@@ -35,23 +34,18 @@ pub record Farewell (N : ℕ) (r : Seats) (L : Links) (m : Msg) : Type 0 where
   pub link : L leaver level side ≡ some told
   pub says : m ≡ going told level (opp side)
 
-pub farewell-out : (N W : ℕ) (r : Seats) (L : Links) {m : Msg} → List·Memᴰ m (farewells N W r L) → Farewell N r L m
+all-farewells : (N W : ℕ) (r : Seats) (L : Links) → All (Farewell N r L) (farewells N W r L)
 unfolding farewells farewell
-farewell-out N W r L {m} h = let (y, l, q) = each-out N _ h in by y l (leaves r y) refl q
+all-farewells N W r L = search (all-sent, to-left, to-right) depth 9
   where
-    end : (y k : ℕ) (d : Side) → y < N → T (leaves r y) → List·Memᴰ m (farewell L y k d) → Farewell N r L m
-    end y k d l t q = let (z, e, f) = link-out (L y k d) _ q in
-        record { leaver = y; level = k; side = d; told = z; below = l; leaves-now = t; link = e; says = f }
+    to-left : (y k z : ℕ) → y < N → T (leaves r y) → L y k left ≡ some z → Farewell N r L (going z k right)
+    to-left y k z l t e = record { leaver = y; level = k; side = left; told = z; below = l; leaves-now = t; link = e; says = refl }
 
-    ends : (y k : ℕ) → y < N → T (leaves r y)
-        → List·Memᴰ m (farewell L y k left) ⊎ List·Memᴰ m (farewell L y k right) → Farewell N r L m
-    ends y k l t (inl q) = end y k left l t q
-    ends y k l t (inr q) = end y k right l t q
+    to-right : (y k z : ℕ) → y < N → T (leaves r y) → L y k right ≡ some z → Farewell N r L (going z k left)
+    to-right y k z l t e = record { leaver = y; level = k; side = right; told = z; below = l; leaves-now = t; link = e; says = refl }
 
-    by : (y : ℕ) → y < N → (b : Bool) → leaves r y ≡ b
-        → List·Memᴰ m (cond b (each (suc W) (λ k. farewell L y k left ++ farewell L y k right)) []) → Farewell N r L m
-    by y l true e q = let (k, w, s) = each-out (suc W) _ q in ends y k l (true-T e) (List·Memᴰ·append-cases (farewell L y k left) s)
-    by y l false e q = absurd (List·Memᴰ·not-nil q)
+pub farewell-out : (N W : ℕ) (r : Seats) (L : Links) {m : Msg} → List·Memᴰ m (farewells N W r L) → Farewell N r L m
+farewell-out N W r L h = all-at (all-farewells N W r L) h
 
 -- a link after seats are freed
 unlinked-none : (freed : ℕ → Bool) {o : Option ℕ} → o ≡ none → unlinked freed o ≡ none

@@ -2,6 +2,7 @@
 pub mod Examples
 pub mod Message
 pub mod Calls
+pub mod Sent
 pub mod World
 pub mod Delivery
 pub mod Open

@@ -16,14 +16,14 @@ use Rattle.protocol.specs.Sound.{numberBits, Sound}
 use Rattle.protocol.proofs.World.{World, Quiet, Pair, pair-level}
 use Rattle.protocol.proofs.Delivery.{stateOf, delivered, delivers}
 use Rattle.protocol.proofs.Open as Open
-use Rattle.protocol.proofs.OpenEffect as OpenEffect
+use Rattle.protocol.proofs.OpenEffect.{open-right}
 use Rattle.protocol.proofs.Exact.{Exact}
 use Rattle.protocol.proofs.Invariant.{Invariant, invariant-kept, invariant-quiet}
 use Rattle.protocol.proofs.Clearing as Clearing
-use Rattle.protocol.proofs.ClearingEffect as ClearingEffect
+use Rattle.protocol.proofs.ClearingEffect.{Sided, s-going, s-seek, s-found, s-none, clearing-right}
 use Rattle.protocol.proofs.SoundFacts.{stays-seated, pending-exists, seated-below, seated-differ}
 use Rattle.protocol.proofs.Measure.{weight, bound}
-use Rattle.protocol.proofs.Ends.{view-cost, open-less}
+use Rattle.protocol.proofs.Ends.{open-cost, open-less}
 use Rattle.protocol.proofs.ClearingEnds.{clearing-less}
 
 -- the laws of seats that a world needs
@@ -51,24 +51,33 @@ pub record Reached (c : ℕ → ℕ) (N W : ℕ) (M : Meaning) : Type 0 where
   pub sound : Sound N W M
   pub sane : Sane c W M (M .seats .phase)
 
+-- the rule of a message does what the phase's relations say
+module _ (c : ℕ → ℕ) (W : ℕ) (M : Meaning) (m : Msg) (l : Laws (M .seats)) where
+  abbrev G : World
+  G = worldOf c W (M .seats) l
+
+  pub open-rule : Open.Proper G (stateOf M) → Open.Ok G m → Open.Does G (stateOf M) m (rule W M m)
+  unfolding rule
+  open-rule h o = open-right G (stateOf M) (M .seats .state (nameOf m .to)) h o
+
+  pub clearing-rule : Sided G m → Clearing.Does G (Stayer (M .seats)) (stateOf M) m (rule W M m)
+  unfolding rule
+  clearing-rule s = clearing-right G (stateOf M) (M .seats .state) s
+
+ok-sided : {G : World} {Stay : ℕ → Type 0} {m : Msg} → Clearing.Ok G Stay m → Sided G m
+ok-sided (Clearing.ok-going sx w) = s-going
+ok-sided (Clearing.ok-seek st p l near) = s-seek l
+ok-sided (Clearing.ok-found st l b) = s-found l
+ok-sided (Clearing.ok-none sx w st b) = s-none
+
 module _ (c : ℕ → ℕ) (W : ℕ) (M : Meaning) (m : Msg) (t : T (M .pending m)) (l : Laws (M .seats)) where
-  -- the effect of a pending message, in each phase
-  open-effect : Invariant (worldOf c W (M .seats) l) (stateOf M)
-      → OpenEffect.View (worldOf c W (M .seats) l) (stateOf M) (M .seats .state (nameOf m .to)) m (rule W M m)
-  unfolding rule
-  open-effect i = OpenEffect.open-view (worldOf c W (M .seats) l) (stateOf M) (M .seats .state (nameOf m .to)) (i .proper) (i .proper .pend-ok t)
-
-  clearing-effect : {L : Links} → Clearing.Clearing (worldOf c W (M .seats) l) (Stayer (M .seats)) L (stateOf M)
-      → ClearingEffect.View (worldOf c W (M .seats) l) (stateOf M) (Stayer (M .seats)) m (rule W M m)
-  unfolding rule
-  clearing-effect i = ClearingEffect.clearing-view (worldOf c W (M .seats) l) (stateOf M) (M .seats .state) (i .ok t)
-
+  -- the delivery of a pending message, in each phase
   open-delivery : Invariant (worldOf c W (M .seats) l) (stateOf M) → Open.Opened (worldOf c W (M .seats) l) (stateOf M) m (stateOf (delivered W M m))
-  open-delivery i = delivers W M m (OpenEffect.view-right (worldOf c W (M .seats) l) (stateOf M) (M .seats .state (nameOf m .to)) (open-effect i)) t
+  open-delivery i = delivers W M m (open-rule c W M m l (i .proper) (i .proper .pend-ok t)) t
 
   clearing-delivery : {L : Links} → Clearing.Clearing (worldOf c W (M .seats) l) (Stayer (M .seats)) L (stateOf M)
       → Clearing.Cleared (worldOf c W (M .seats) l) (Stayer (M .seats)) (stateOf M) m (stateOf (delivered W M m))
-  clearing-delivery i = delivers W M m (ClearingEffect.view-right (clearing-effect i)) t
+  clearing-delivery i = delivers W M m (clearing-rule c W M m l (ok-sided (i .ok t))) t
 
 -- a delivery keeps the invariant
 pub sane-deliver : {c : ℕ → ℕ} {W : ℕ} {M : Meaning} {p : Phase} → Sane c W M p → (m : Msg) → T (M .pending m) → Sane c W (delivered W M m) p
@@ -82,15 +91,14 @@ weight-less : {c : ℕ → ℕ} {N W : ℕ} {M : Meaning} {p : Phase} → Sound 
 unfolding weight
 weight-less {c} {N} {W} {M} h (in-open i) m t =
     let l = sound-laws h in
-    let v = open-effect c W M m t l (i l) in
     let G = worldOf c W (M .seats) l in
-    open-less N W G M (delivered W M m) (i l .proper .pend-ok t) (open-delivery c W M m t l (i l)) (OpenEffect.view-right G (stateOf M) _ v)
-    (view-cost G (stateOf M) _ (i l .proper) v) (pending-exists h m t) (λ x k y p. (seated-below h x (p .fst), pair-level p))
+    let o = i l .proper .pend-ok t in
+    open-less N W G M (delivered W M m) o (open-delivery c W M m t l (i l)) (open-cost G (stateOf M) (i l .proper) o) (pending-exists h m t)
+    (λ x k y p. (seated-below h x (p .fst), pair-level p))
 weight-less {c} {N} {W} {M} h (in-clearing L a i) m t =
     let l = sound-laws h in
-    let v = clearing-effect c W M m t l (i l) in
-    clearing-less (worldOf c W (M .seats) l) (Stayer (M .seats)) N W M (delivered W M m) (a l) (i l) (clearing-delivery c W M m t l (i l))
-    (ClearingEffect.view-right v) v (pending-exists h m t)
+    clearing-less (worldOf c W (M .seats) l) (Stayer (M .seats)) N W M (delivered W M m) (a l) (i l) (λ z. dec-T (stays (M .seats) z))
+    (clearing-delivery c W M m t l (i l)) (pending-exists h m t)
 
 pub bound-less : {c : ℕ → ℕ} {N W : ℕ} {M : Meaning} → Reached c N W M → (m : Msg) → T (M .pending m) → bound N W (delivered W M m) < bound N W M
 unfolding bound

@@ -4,13 +4,13 @@ use mathlib.Core.Path.{_≡_, refl, sym, _∙_, ap, subst}
 use mathlib.Core.Logic.{_⊎_, inl, inr}
 use mathlib.Core.Option.{Option, none, some}
 use mathlib.Core.Bool.{Bool, true, false, cond}
-use mathlib.Core.List.{List, [], _++_, List·Memᴰ, Memᴰ·append-left, Memᴰ·append-right}
+use mathlib.Core.List.{List, [], List·Memᴰ}
 use native.Mathlib.Omega.{arith}
 use lib.Dec.{T}
 use Rattle.graph.specs.Side.{Side, left, right, opp}
 use Rattle.graph.specs.Graph.{Links}
 use Rattle.graph.proofs.Order.{opp-opp}
-use Rattle.base.proofs.Tests.{dec-T, T-true, not-T-false, false-T, true-false, none-some}
+use Rattle.base.proofs.Tests.{dec-T, not-T-false, false-T, none-some}
 use Rattle.protocol.specs.Message.{Msg, going}
 use Rattle.base.specs.Loops.{any}
 use Rattle.protocol.specs.Rules.{SeatState, free, staying, leaving, isStaying}
@@ -21,7 +21,7 @@ use Rattle.protocol.specs.Page.{pendingAfter}
 use Rattle.protocol.specs.Freeing.{unlinked}
 use Rattle.protocol.specs.Sound.{Sound}
 use Rattle.base.proofs.Any.{any-none}
-use Rattle.protocol.proofs.Calls.{link-in, each-in}
+use Rattle.protocol.proofs.Sent.{in-yes, in-each, is-sent}
 use Rattle.protocol.proofs.World.{World, Quiet}
 use Rattle.protocol.proofs.Delivery.{stateOf}
 use Rattle.protocol.proofs.Exact.{Exact}
@@ -46,13 +46,7 @@ each-nothing (suc n) f h = rw (each-nothing n f (λ i l. h i (omega arith)), h n
 
 farewells-none : (N W : ℕ) (r : Seats) (L : Links) → any N (leaves r) ≡ false → farewells N W r L ≡ []
 unfolding farewells
-farewells-none N W r L e =
-    each-nothing N (λ y. cond (leaves r y) (each (suc W) (λ k. farewell L y k left ++ farewell L y k right)) [])
-    (λ y l. by (leaves r y) (not-T-false (λ t. any-none N (leaves r) e y l t)) y)
-  where
-    by : (b : Bool) → b ≡ false → (y : ℕ) → cond b (each (suc W) (λ k. farewell L y k left ++ farewell L y k right)) [] ≡ []
-    by true f y = true-false refl f
-    by false f y = refl
+farewells-none N W r L e = each-nothing N _ (λ y l. let f : leaves r y ≡ false = not-T-false (λ t. any-none N (leaves r) e y l t) in rw f)
 
 -- and nothing changes
 pub turn-idle : (N W : ℕ) (M : Meaning) → M .seats .phase ≡ open-phase → any N (leaves (M .seats)) ≡ false → turned N W M open-phase ≡ M
@@ -89,16 +83,8 @@ leaves-off r x t = by (r .state x) t
 farewell-in : (N W : ℕ) (r : Seats) (L : Links) (y k x : ℕ) (d : Side) → y < N → k ≤ W → T (leaves r y) → L y k d ≡ some x
     → List·Memᴰ (going x k (opp d)) (farewells N W r L)
 unfolding farewells farewell
-farewell-in N W r L y k x d ly lk t e =
-    each-in N (λ y. cond (leaves r y) (each (suc W) (λ k. farewell L y k left ++ farewell L y k right)) []) y ly (by (leaves r y) (T-true t))
-  where
-    side : (d : Side) → L y k d ≡ some x → List·Memᴰ (going x k (opp d)) (farewell L y k left ++ farewell L y k right)
-    side left f = Memᴰ·append-left (farewell L y k right) (link-in (L y k left) (λ z. going z k right) f)
-    side right f = Memᴰ·append-right (farewell L y k left) (link-in (L y k right) (λ z. going z k left) f)
-
-    by : (b : Bool) → b ≡ true → List·Memᴰ (going x k (opp d)) (cond b (each (suc W) (λ k. farewell L y k left ++ farewell L y k right)) [])
-    by true f = each-in (suc W) (λ k. farewell L y k left ++ farewell L y k right) k (omega arith) (side d e)
-    by false f = true-false f refl
+farewell-in N W r L y k x left ly lk t e = in-each N _ y ly (in-yes (leaves r y) _ _ t (in-each (suc W) _ k (omega arith) (search is-sent)))
+farewell-in N W r L y k x right ly lk t e = in-each N _ y ly (in-yes (leaves r y) _ _ t (in-each (suc W) _ k (omega arith) (search is-sent)))
 
 module _ (comp : ℕ → ℕ) {N W : ℕ} {M : Meaning} (h : Sound N W M) (q : Quiet (stateOf M)) where
   sane-shut : Sane comp W M open-phase → Sane comp W (turned N W M open-phase) clearing

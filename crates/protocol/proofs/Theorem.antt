@@ -7,17 +7,17 @@ use mathlib.Core.Bool.{Bool, false}
 use mathlib.Core.List.{List, [], _∷_}
 use native.Mathlib.Omega.{arith}
 use lib.Dec.{T}
+use lib.ListN.{length}
 use Rattle.graph.specs.Graph.{IsGraph}
 use Rattle.base.proofs.Tests.{false-T, not-T-false}
 use Rattle.protocol.specs.Message.{Msg, Name, named}
 use Rattle.protocol.specs.Numbering.{somePending}
 use Rattle.protocol.specs.State.{Meaning, oneComponent, nobody, opened, isPending}
-use Rattle.protocol.specs.Calls.{Call, join, leave, deliver, turn, refusal, seatsAfter, sends, takes, accept, unlessRefused, call, InRange}
+use Rattle.protocol.specs.Calls.{Call, join, leave, deliver, turn, Outcome, refusal, seatsAfter, sends, takes, accept, unlessRefused, call, InRange}
 use Rattle.protocol.specs.Page.{pendingAfter}
 use Rattle.protocol.specs.Sound.{Sound}
-use Rattle.protocol.specs.Run.{Logged, Standing, logOf, step, steps, stepsFrom, accepted, Roster, membersOf, meaningRun, rosterAfter, rosterOf}
-use Rattle.protocol.specs.Run.{pendingOf, RefusedByTable, NothingPending, MeaningDemand3}
-use Rattle.protocol.specs.Run.{AllInRange}
+use Rattle.protocol.specs.Run.{Logged, Past, Standing, logOf, step, steps, stepsFrom, accepted, AllAccepted, Roster, membersOf, meaningRun, rosterAfter}
+use Rattle.protocol.specs.Run.{rosterOf, pendingOf, RefusedByTable, NothingPending, MeaningDemand3, AllInRange}
 use Rattle.protocol.proofs.Numbering.{none-pending, pending-none}
 use Rattle.protocol.proofs.Delivery.{stateOf, accept-deliver}
 use Rattle.protocol.proofs.World.{Quiet}
@@ -43,6 +43,18 @@ deliver-taken N W M n e = by (named n) refl (deliver-row N W (M .seats) (M .pend
     by : (o : Option Msg) → named n ≡ o → T (isPending (M .pending) o) → Taken N W M n
     by none f t = absurd t
     by (some m) f t = record { message = m; is = f; was = t }
+
+-- what holds of the old and of the new holds of what a call leaves
+either : {A : Type 0} (P : A → Type 0) (n : ℕ) {old new : A} → P old → P new → P (unlessRefused n old new)
+unfolding unlessRefused
+either P zero p q = q
+either P (suc n) p q = p
+
+-- a list of accepted deliveries is counted whole
+all-counted : {A : Type 0} (make : A → Call → Outcome A) (a : A) (ns : List Name) → AllAccepted make a ns → accepted make a ns ≡ length ns
+unfolding accepted AllAccepted unlessRefused
+all-counted make a [] t = refl
+all-counted make a (n ∷ ns) t = rw (t .0, all-counted make (make a (deliver n) .after) ns (t .1)) (omega arith)
 
 module _ (N W : ℕ) where
   reached-opened : Reached oneComponent N W opened
@@ -100,18 +112,16 @@ module _ (N W : ℕ) where
 
   -- part 5: no list of deliveries has more accepted ones than the bound
   ends-step : {M : Meaning} → Reached oneComponent N W M → (n : Name) (ns : List Name)
-      → ((K : Meaning) → Reached oneComponent N W K → accepted (call N W) K ns ≤ bound N W K)
-      → unlessRefused (call N W M (deliver n) .refused) 0 1 + accepted (call N W) (call N W M (deliver n) .after) ns ≤ bound N W M
-  unfolding call unlessRefused
+      → ((K : Meaning) → Reached oneComponent N W K → accepted (call N W) K ns ≤ bound N W K) → accepted (call N W) M (n ∷ ns) ≤ bound N W M
+  unfolding accepted call unlessRefused
   ends-step {M} g n ns ih = by (refusal N W (M .seats) (M .pending) (deliver n)) refl
     where
-      by : (a : ℕ) → refusal N W (M .seats) (M .pending) (deliver n) ≡ a
-          → unlessRefused a 0 1 + accepted (call N W) (unlessRefused a M (accept N W M (deliver n))) ns ≤ bound N W M
+      by : (a : ℕ) → refusal N W (M .seats) (M .pending) (deliver n) ≡ a → accepted (call N W) M (n ∷ ns) ≤ bound N W M
       by zero e =
           let t = deliver-taken N W M n e in
           let f = accept-deliver N W M n (t .message) (t .is) in
-          omega (arith, ih (accept N W M (deliver n)) (reached-accept g (deliver n) tt e), ap (bound N W) f, bound-less g (t .message) (t .was))
-      by (suc a) e = omega (arith, ih M g)
+          rw e (omega (arith, ih (accept N W M (deliver n)) (reached-accept g (deliver n) tt e), ap (bound N W) f, bound-less g (t .message) (t .was)))
+      by (suc a) e = rw e (omega (arith, ih M g))
 
   ends : (ns : List Name) (M : Meaning) → Reached oneComponent N W M → accepted (call N W) M ns ≤ bound N W M
   unfolding accepted
@@ -124,14 +134,9 @@ module _ (N W : ℕ) where
 
   -- and so is every roster
   pub one-component : (ls : List Logged) → rosterOf N W ls .component ≡ oneComponent
-  unfolding rosterOf unlessRefused rosterAfter
+  unfolding rosterOf rosterAfter
   one-component [] = refl
-  one-component (l ∷ ls) = by (l .refused) (one-component ls)
-    where
-      by : (n : ℕ) → rosterOf N W ls .component ≡ oneComponent
-          → unlessRefused n (rosterOf N W ls) (rosterAfter N W (rosterOf N W ls) (l .call)) .component ≡ oneComponent
-      by zero e = e
-      by (suc n) e = e
+  one-component (l ∷ ls) = either (λ (o : Roster). o .component ≡ oneComponent) (l .refused) (one-component ls) (one-component ls)
 
   -- what goes through a list
   pub record Track (s : Standing Meaning) : Type 0 where
@@ -140,25 +145,26 @@ module _ (N W : ℕ) where
     pub lots : rosterNow (s .now) ≡ rosterOf N W (logOf (s .history))
     pub pending : s .now .pending ≡ pendingOf N W (s .history)
 
-  lots-step : (M : Meaning) {o : Roster} (c : Call) (n : ℕ) → rosterNow M ≡ o
-      → rosterNow (unlessRefused n M (accept N W M c)) ≡ unlessRefused n o (rosterAfter N W o c)
-  unfolding unlessRefused accept rosterAfter
-  lots-step M c zero e = ap (λ (o : Roster). rosterAfter N W o c) e
-  lots-step M c (suc n) e = e
+  -- an accepted call makes of the roster what it makes of the seats, and of the pending messages what it sends and takes
+  lots-step : (M : Meaning) (ls : List Logged) (c : Call) (n : ℕ) → rosterNow M ≡ rosterOf N W ls
+      → rosterNow (unlessRefused n M (accept N W M c)) ≡ rosterOf N W (record { call = c; refused = n } ∷ ls)
+  unfolding rosterOf unlessRefused accept rosterAfter
+  lots-step M ls c zero e = ap (λ (o : Roster). rosterAfter N W o c) e
+  lots-step M ls c (suc n) e = e
 
-  pending-step : (M : Meaning) {p : Msg → Bool} (c : Call) (n : ℕ) → M .pending ≡ p
-      → unlessRefused n M (accept N W M c) .pending ≡ (λ m. unlessRefused n (p m) (pendingAfter (sends N W M c) (takes N W c) p m))
-  unfolding unlessRefused accept
-  pending-step M c zero e = ap {B = Msg → Bool} (λ (p : Msg → Bool) (m : Msg). pendingAfter (sends N W M c) (takes N W c) p m) e
-  pending-step M c (suc n) e = e
+  pending-step : (M : Meaning) (es : List (Past Meaning)) (c : Call) (n : ℕ) → M .pending ≡ pendingOf N W es
+      → unlessRefused n M (accept N W M c) .pending ≡ pendingOf N W (record { logged = record { call = c; refused = n }; before = M } ∷ es)
+  unfolding pendingOf unlessRefused accept
+  pending-step M es c zero e = ap {B = Msg → Bool} (λ (p : Msg → Bool) (m : Msg). pendingAfter (sends N W M c) (takes N W c) p m) e
+  pending-step M es c (suc n) e = e
 
   track-step : {s : Standing Meaning} (c : Call) → InRange N W c → Track s → Track (step (call N W) s c)
-  unfolding step call rosterOf logOf pendingOf
+  unfolding step call logOf
   track-step {s} c q t = record {
     reached = reached-call (t .reached) c q;
     refusals = (ap₂ (λ (o : Roster) (p : Msg → Bool). refusal N W (o .seats) p c) (t .lots) (t .pending), t .refusals);
-    lots = lots-step (s .now) c (refusal N W (s .now .seats) (s .now .pending) c) (t .lots);
-    pending = pending-step (s .now) c (refusal N W (s .now .seats) (s .now .pending) c) (t .pending);
+    lots = lots-step (s .now) (logOf (s .history)) c (refusal N W (s .now .seats) (s .now .pending) c) (t .lots);
+    pending = pending-step (s .now) (s .history) c (refusal N W (s .now .seats) (s .now .pending) c) (t .pending);
   }
 
   track-steps : (cs : List Call) {s : Standing Meaning} → AllInRange N W cs → Track s → Track (steps (call N W) s cs)
@@ -194,3 +200,8 @@ module _ (N W : ℕ) where
   -- and the meaning is sound after every list, so that refusal 2 is never met
   pub every-list-sound : (cs : List Call) → AllInRange N W cs → Sound N W (meaningRun N W cs .now)
   every-list-sound cs a = track-run cs a .reached .sound
+
+  -- and no list of accepted deliveries is longer than the bound, from demand 3 alone
+  pub never-longer : {b : Meaning → ℕ} {s : Standing Meaning} → MeaningDemand3 N W b s → (ns : List Name) → AllAccepted (call N W) (s .now) ns
+      → length ns ≤ b (s .now)
+  never-longer {s = s} d ns a = rw (← all-counted (call N W) (s .now) ns a) (d .ends ns)

@@ -50,6 +50,11 @@ module _ {A : Type 0} (make : A → Call → Outcome A) where
   accepted a [] = 0
   accepted a (n ∷ ns) = let o = make a (deliver n) in unlessRefused (o .refused) 0 1 + accepted (o .after) ns
 
+  -- every delivery of a list is accepted
+  unfoldable pub AllAccepted : A → List Name → Type 0
+  AllAccepted a [] = Unit {0}
+  AllAccepted a (n ∷ ns) = let o = make a (deliver n) in (o .refused ≡ 0) × AllAccepted (o .after) ns
+
 -- document 01's roster, kept from the log: what the seats hold, and the component of each lot
 pub record Roster : Type 0 where
   pub seats : Seats
