@@ -51,7 +51,7 @@ either P zero p q = q
 either P (suc n) p q = p
 
 -- a list of accepted deliveries is counted whole
-all-counted : {A : Type 0} (make : A → Call → Outcome A) (a : A) (ns : List Name) → AllAccepted make a ns → accepted make a ns ≡ length ns
+pub all-counted : {A : Type 0} (make : A → Call → Outcome A) (a : A) (ns : List Name) → AllAccepted make a ns → accepted make a ns ≡ length ns
 unfolding accepted AllAccepted unlessRefused
 all-counted make a [] t = refl
 all-counted make a (n ∷ ns) t = rw (t .0, all-counted make (make a (deliver n) .after) ns (t .1)) (omega arith)

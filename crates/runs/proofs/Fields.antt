@@ -16,14 +16,15 @@ use Rattle.protocol.specs.Message.{Msg, Name, nameOf, named}
 use Rattle.protocol.specs.Rules.{SeatState, free, staying, leaving}
 use Rattle.protocol.specs.State.{Seats, Meaning, isFree, isSeated, seated, isPending}
 use Rattle.protocol.specs.Refusals.{wrongSize, unsound, noSuchLevel, emptySeat, noSuchMessage}
-use Rattle.protocol.specs.Calls.{deliver, unlessRefused, refusal}
-use Rattle.protocol.specs.Run.{Past, Standing, accepted, pendingOf, RefusedByTable}
+use Rattle.protocol.specs.Calls.{deliver, refusal}
+use Rattle.protocol.specs.Run.{Past, Standing, AllAccepted, pendingOf, RefusedByTable}
 use Rattle.protocol.proofs.Message.{named-name}
+use Rattle.protocol.proofs.Theorem.{all-counted}
 use Rattle.record.specs.Layout.{seats}
 use Rattle.record.specs.Meaning.{meaning, stateByte}
 use Rattle.record.specs.Reading.{LotAnswer, readLot, MessageAnswer, readMessage, readCounts}
 use Rattle.record.specs.Call.{called}
-use Rattle.runs.specs.Run.{meant, roster, lotOf, Demand3, AllAccepted}
+use Rattle.runs.specs.Run.{meant, roster, lotOf, Demand3}
 use Rattle.runs.proofs.History.{refusal-other, refusal-deliver, refused-then}
 
 -- `messages`, `none-left`: the count reads 0 exactly if every message reads as not pending
@@ -97,11 +98,6 @@ module _ {bound : List ℕ → ℕ} {s : Standing (List ℕ)} (D : Demand3 bound
       ∙ refusal-deliver seats width (roster older .seats) (pendingOf seats width (meant older)) n
 
 -- `ends`: deliveries that are all accepted are no more than the bound
-all-counted : (l : List ℕ) (ns : List Name) → AllAccepted l ns → accepted called l ns ≡ length ns
-unfolding accepted unlessRefused
-all-counted l [] t = refl
-all-counted l (n ∷ ns) t = rw (t .0) (omega (arith, all-counted (called l (deliver n) .after) ns (t .1)))
-
-pub at-most : {bound : List ℕ → ℕ} {s : Standing (List ℕ)} → Demand3 bound s → (ns : List Name) → AllAccepted (s .now) ns
+pub at-most : {bound : List ℕ → ℕ} {s : Standing (List ℕ)} → Demand3 bound s → (ns : List Name) → AllAccepted called (s .now) ns
     → length ns ≤ bound (s .now)
-at-most {s = s} D ns t = omega (arith, D .ends ns, all-counted (s .now) ns t)
+at-most {s = s} D ns t = omega (arith, D .ends ns, all-counted called (s .now) ns t)

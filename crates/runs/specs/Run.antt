@@ -14,7 +14,7 @@ use Rattle.graph.specs.Graph.{graph}
 use Rattle.protocol.specs.Message.{Name, named}
 use Rattle.protocol.specs.State.{Seats, Meaning, taken, seated, isPending, member}
 use Rattle.protocol.specs.Refusals.{emptySeat}
-use Rattle.protocol.specs.Calls.{Call, deliver}
+use Rattle.protocol.specs.Calls.{Call}
 use Rattle.protocol.specs.Run.{Past, Standing, logOf, stepsFrom, accepted, Roster, membersOf, rosterOf, pendingOf, RefusedByTable, NothingPending}
 use Rattle.record.specs.Layout.{seats, levels}
 use Rattle.record.specs.Meaning.{meaning, phaseByte, stateByte, linkByte}
@@ -64,8 +64,3 @@ pub record Demand3 (bound : List ℕ → ℕ) (s : Standing (List ℕ)) : Type 0
 pub record EveryList : Type 0 where
   pub bound : List ℕ → ℕ
   pub after : (l : List ℕ) → openRefusal l ≡ 0 → (cs : List Call) → AllTyped cs → Demand3 bound (bytesRun l cs)
-
--- each of a list of deliveries is accepted, made of what the one before left
-abbrev pub AllAccepted : List ℕ → List Name → Type 0
-AllAccepted l [] = Unit {0}
-AllAccepted l (n ∷ ns) = (called l (deliver n) .refused ≡ 0) × AllAccepted (called l (deliver n) .after) ns
