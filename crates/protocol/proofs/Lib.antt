@@ -24,8 +24,10 @@ pub mod ReachedCalls
 pub mod ReachedTurn
 pub mod Theorem
 pub mod Digits
+pub mod DigitOrder
 pub mod Numbering
 pub mod PlaceOrder
+pub mod Smallest
 pub mod Sum
 pub mod NumberingExamples
 pub mod SoundFacts
