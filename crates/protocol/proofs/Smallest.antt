@@ -11,9 +11,9 @@ use lib.Dec.{T, eqb, ltb}
 use borrow.Author.Tests.{lt-ltb, le-ltb, not-true}
 use Rattle.base.proofs.Tests.{T-true, true-false, not-T-false}
 use Rattle.base.proofs.Cases.{lt-or-ge, eq-or-ne, and-true, and-false, and-left, and-right}
-use Rattle.protocol.specs.Message.{Msg, Name, name, nameOf}
+use Rattle.protocol.specs.Message.{Msg, meet, probe, pull, going, seek, found, none-found, Name, name, nameOf}
 use Rattle.protocol.specs.Numbering.{exists, count, place, messageAt}
-use Rattle.protocol.specs.Order.{orNext, before, smaller, smallestOf, smallestFrom, smallest}
+use Rattle.protocol.specs.Order.{orNext, before, smaller, smallestOf, smallestFrom, smallest, nameOrZeros}
 use Rattle.protocol.specs.inner.PlaceFrom.{placeFrom}
 use Rattle.protocol.proofs.Numbering.{place-lt, messageAt-place, exists-messageAt, place-messageAt}
 use Rattle.protocol.proofs.PlaceOrder.{place-ascends, at-ascends, place-from, placeFrom-le}
@@ -45,10 +45,10 @@ module _ (N W : ℕ) where
         = rw s (at-ascends N W i r l (g .within) ∙ le-ltb i r (omega arith)) in
         rw no (r, omega arith, g, s)
 
-    found : (i : ℕ) → i ≤ count N W → Found q i (smallestOf N W q i)
+    first-found : (i : ℕ) → i ≤ count N W → Found q i (smallestOf N W q i)
     unfolding smallestOf
-    found zero l = λ j h. absurd (omega arith)
-    found (suc i) l = by (q (messageAt N W i)) refl (found i (omega arith))
+    first-found zero l = λ j h. absurd (omega arith)
+    first-found (suc i) l = by (q (messageAt N W i)) refl (first-found i (omega arith))
       where
         by : (b : Bool) → q (messageAt N W i) ≡ b → Found q i (smallestOf N W q i)
             → Found q (suc i) (cond b (smaller (smallestOf N W q i) (messageAt N W i)) (smallestOf N W q i))
@@ -82,11 +82,11 @@ module _ (N W : ℕ) where
     -- the smallest of all is at the first place that passes
     at-first : {m : Msg} → smallestFrom N W p n ≡ some m → (r : ℕ) × First test r × (m ≡ messageAt N W r)
     unfolding smallestFrom
-    at-first {m} e = let f = rw e at (found test (count N W) (omega arith)) in (f .0, f .2, f .3)
+    at-first {m} e = let f = rw e at (first-found test (count N W) (omega arith)) in (f .0, f .2, f .3)
 
     at-none : smallestFrom N W p n ≡ none → (j : ℕ) → j < count N W → test (messageAt N W j) ≡ false
     unfolding smallestFrom
-    at-none e = rw e at (found test (count N W) (omega arith))
+    at-none e = rw e at (first-found test (count N W) (omega arith))
 
     -- two first places are one
     first-once : {i j : ℕ} → First test i → First test j → i ≡ j
@@ -183,6 +183,18 @@ module _ (N W : ℕ) where
         inl (sym (messageAt-place N W k y) ∙ ap (messageAt N W) e ∙ messageAt-place N W m (s .there)))
         (lt-or-ge (place N W k) (place N W m)))
         (lt-or-ge (place N W m) (place N W k))
+
+-- kind 0 says that there is none
+pub zero-kind : (o : Option Msg) → nameOrZeros o .kind ≡ 0 → nameOrZeros o ≡ name 0 0 0 0 0
+unfolding nameOrZeros
+zero-kind none e = refl
+zero-kind (some (meet t a l)) e = absurd (omega arith)
+zero-kind (some (probe t a l)) e = absurd (omega arith)
+zero-kind (some (pull t b l d)) e = absurd (omega arith)
+zero-kind (some (going t l d)) e = absurd (omega arith)
+zero-kind (some (seek t a l)) e = absurd (omega arith)
+zero-kind (some (found t a l)) e = absurd (omega arith)
+zero-kind (some (none-found t l d)) e = absurd (omega arith)
 
 -- nothing is before five zeros
 or-next-zero : (a : ℕ) {x : Bool} → x ≡ false → orNext a 0 x ≡ false
