@@ -1,4 +1,5 @@
-/* Lots 100 and 200 open on two scales, the second through the first. Their messages are listed and delivered, the smallest first, and 250 is scanned. */
+/* Lots 100 and 200 open on two scales, the second through the first. Their messages are delivered, the smallest first, and listed after the first
+ * of them; then 250 is scanned. */
 #include "lots.h"
 #include <inttypes.h>
 #include <stdio.h>
@@ -45,9 +46,10 @@ int main(void)
 
     refusals |= lots_join(record, sizeof record, 0, 100, 0x00, LOTS_NO_SEAT);
     refusals |= lots_join(record, sizeof record, 1, 200, 0x80, 0);
-    do
-        refusals |= list();
-    while (deliver(&refusals));
+    deliver(&refusals);
+    refusals |= list();
+    while (deliver(&refusals))
+        ;
     refusals |= lots_check(record, sizeof record, &yes);
     refusals |= lots_find(record, sizeof record, 0, 250, &holder, &hops);
     printf("refused %d, one skip graph %d, 250 belongs to the lot on seat %d, hops %" PRIu64 "\n", refusals, yes, holder, hops);

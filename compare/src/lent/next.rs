@@ -5,19 +5,24 @@ use super::layout::{message_at, Bytes, PENDING_AT, PLACES};
 use crate::model::Message;
 
 /// The smallest pending message that is not below `from`. Places ascend with the
-/// five numbers (docs/RECORD.md).
+/// five numbers (docs/RECORD.md). The bits are taken 64 at a time.
 pub fn next_pending(bytes: &Bytes, from: Message) -> Option<Message> {
-    let pending = &bytes[PENDING_AT..];
-    let first = first_place(from);
-    // The bits below the first place, in the byte that has it.
-    let below = (1 << (first % 8)) - 1;
-    let mut set = pending.iter().enumerate().skip(first / 8);
-    let place = set.find_map(|(index, &byte)| {
-        let byte = byte & if index == first / 8 { !below } else { 255 };
-        (byte != 0).then(|| 8 * index + byte.trailing_zeros() as usize)
-    });
-    place.map(message_at)
+    let (words, _) = bytes[PENDING_AT..].as_chunks();
+    let place = first_place(from);
+    let (index, below) = (place / WORD, place % WORD);
+    let (&word, rest) = words[index..].split_first()?;
+    let word = u64::from_le_bytes(word) >> below << below;
+    if word != 0 {
+        return Some(message_at(index * WORD + word.trailing_zeros() as usize));
+    }
+    let more = rest.iter().position(|&word| word != [0; 8])?;
+    let bit = u64::from_le_bytes(rest[more]).trailing_zeros() as usize;
+    Some(message_at((index + 1 + more) * WORD + bit))
 }
+
+/// The bits of a word. The pending bits are whole words.
+const WORD: usize = 64;
+const _: () = assert!(PLACES.is_multiple_of(WORD));
 
 /// The first place whose message is not below `from`, found by halving.
 fn first_place(from: Message) -> usize {

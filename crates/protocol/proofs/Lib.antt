@@ -30,6 +30,7 @@ pub mod PlaceOrder
 pub mod Smallest
 pub mod Sum
 pub mod NumberingExamples
+pub mod OrderExamples
 pub mod SoundFacts
 pub mod Accepted
 pub mod KeepDelivery
