@@ -2,25 +2,37 @@
 //! at or after given ones.
 
 use super::layout::{message_at, Bytes, PENDING_AT, PLACES};
+use super::sound::BLOCK;
 use crate::model::Message;
 
 /// The smallest pending message that is not below `from`. Places ascend with the
-/// five numbers (docs/RECORD.md). The bits are taken 64 at a time.
+/// five numbers (docs/RECORD.md).
 pub fn next_pending(bytes: &Bytes, from: Message) -> Option<Message> {
     let (words, _) = bytes[PENDING_AT..].as_chunks();
     let place = first_place(from);
     let (index, below) = (place / WORD, place % WORD);
     let (&word, rest) = words[index..].split_first()?;
     let word = u64::from_le_bytes(word) >> below << below;
-    if word != 0 {
-        return Some(message_at(index * WORD + word.trailing_zeros() as usize));
-    }
-    let more = rest.iter().position(|&word| word != [0; 8])?;
-    let bit = u64::from_le_bytes(rest[more]).trailing_zeros() as usize;
-    Some(message_at((index + 1 + more) * WORD + bit))
+    let place = match word {
+        0 => (index + 1) * WORD + first_set(rest)?,
+        bits => index * WORD + bits.trailing_zeros() as usize,
+    };
+    Some(message_at(place))
 }
 
-/// The bits of a word. The pending bits are whole words.
+/// The first bit that is set, words of 0 passed over a block at a time.
+fn first_set(words: &[[u8; 8]]) -> Option<usize> {
+    let all = |block: &[[u8; 8]]| {
+        let word = |all, &word| all | u64::from_le_bytes(word);
+        block.iter().fold(0, word)
+    };
+    let before = BLOCK * words.chunks(BLOCK).position(|block| all(block) != 0)?;
+    let index = before + words[before..].iter().position(|&word| word != [0; 8])?;
+    let bit = u64::from_le_bytes(words[index]).trailing_zeros() as usize;
+    Some(index * WORD + bit)
+}
+
+/// The bits of a word; the pending bits are whole words.
 const WORD: usize = 64;
 const _: () = assert!(PLACES.is_multiple_of(WORD));
 
