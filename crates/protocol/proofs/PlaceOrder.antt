@@ -43,11 +43,12 @@ record Fits (N : ℕ) (r : Radix) (n : Name) : Type 0 where
   level : n .level < r .levels
   side : n .side < r .sides
 
--- the numbers after the kind in order, and how many come before those of n
+-- m comes before n by the numbers after the kind
 abbrev after : (m n : Name) → Bool
 after m n = orNext (m .to) (n .to) (orNext (m .about) (n .about) (orNext (m .level) (n .level) (ltb (m .side) (n .side))))
 
 module _ (N W : ℕ) where
+  -- how many names of a kind come before n by those numbers
   abbrev from : Radix → Name → ℕ
   from r n = digitsFrom N W (r .abouts) (r .levels) (r .sides) n
 

@@ -16,6 +16,7 @@ use Rattle.protocol.specs.Numbering.{exists, count, place, messageAt}
 use Rattle.protocol.specs.Order.{orNext, before, smaller, smallestOf, smallestFrom, smallest, nameOrZeros}
 use Rattle.protocol.specs.inner.PlaceFrom.{placeFrom}
 use Rattle.protocol.proofs.Numbering.{place-lt, messageAt-place, exists-messageAt, place-messageAt}
+use Rattle.protocol.proofs.DigitOrder.{compared, or-next-lt, or-next-gt, or-next-eq}
 use Rattle.protocol.proofs.PlaceOrder.{place-ascends, at-ascends, place-from, placeFrom-le}
 
 module _ (N W : ℕ) where
@@ -224,3 +225,28 @@ module _ (N W : ℕ) where
       least = λ k x q b. s .least k x q;
     }),
   )
+
+  pub none-all : (p : Msg → Bool) → (smallest N W p ≡ none) ↔ ((m : Msg) → T (exists N W m) → p m ≡ false)
+  none-all p = (
+    λ e m x. smallest-none N W p (name 0 0 0 0 0) e m x (before-zeros (nameOf m)),
+    λ f. none-smallest N W p (name 0 0 0 0 0) (λ m x b. f m x),
+  )
+
+-- the numbers with the side one higher: nothing lies between, so what is not before them comes after n
+abbrev pub following : Name → Name
+following n = name (n .kind) (n .to) (n .about) (n .level) (suc (n .side))
+
+or-next-not : (a b : ℕ) (x : Bool) → orNext a b (not x) ≡ not (orNext b a x)
+or-next-not a b x = compared a b
+    (λ h. or-next-lt (not x) h ∙ ap not (sym (or-next-gt x h)))
+    (λ h. or-next-gt (not x) h ∙ ap not (sym (or-next-lt x h)))
+    (λ h. or-next-eq (not x) h ∙ ap not (sym (or-next-eq x (sym h))))
+
+pub before-following : (m n : Name) → before m (following n) ≡ not (before n m)
+unfolding before
+before-following m n =
+    let s : ltb (m .side) (suc (n .side)) ≡ not (ltb (n .side) (m .side)) = ⊎-elim
+    (λ h. le-ltb (m .side) (suc (n .side)) (omega arith) ∙ ap not (sym (lt-ltb (n .side) (m .side) h)))
+    (λ h. lt-ltb (m .side) (suc (n .side)) (omega arith) ∙ ap not (sym (le-ltb (n .side) (m .side) h)))
+    (lt-or-ge (n .side) (m .side)) in
+    rw (s, or-next-not (m .level) (n .level), or-next-not (m .about) (n .about), or-next-not (m .to) (n .to), or-next-not (m .kind) (n .kind))
