@@ -108,6 +108,19 @@ uint8_t lots_read_message(const uint8_t *record, size_t length, uint8_t kind,
                           uint8_t to, uint8_t about, uint8_t level, uint8_t side,
                           uint8_t *pending);
 
+/* Reads the smallest pending message, by its five numbers in order (kind, to,
+ * about, level, side), that is not smaller than five given numbers; any five may
+ * be given. `next_kind` is 0 if there is none, and so are the others. From five
+ * zeros it is the smallest of all. To list what is pending, ask again from the
+ * message found with its side one higher: no five numbers lie between the two,
+ * and a message's side is 0 or 1.
+ * Refusals: 1 wrong size, 2 unsound. */
+uint8_t lots_next_message(const uint8_t *record, size_t length, uint8_t kind,
+                          uint8_t to, uint8_t about, uint8_t level, uint8_t side,
+                          uint8_t *next_kind, uint8_t *next_to,
+                          uint8_t *next_about, uint8_t *next_level,
+                          uint8_t *next_side);
+
 /* Reads the count of seated lots, the phase (0 open, 1 clearing) and the count of
  * pending messages.
  * Refusals: 1 wrong size, 2 unsound. */

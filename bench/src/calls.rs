@@ -3,7 +3,7 @@
 
 use compare::call::Call;
 use compare::lent;
-use compare::model::Refusal;
+use compare::model::{Message, Refusal};
 use lots_record::sys::*;
 
 /// The sum of the bytes, one by one.
@@ -53,6 +53,16 @@ pub fn library(call: Call, record: &mut [u8]) -> (u8, u64) {
             }
             Call::ReadCounts => lots_read_counts(start, length, &mut byte, &mut other, &mut word),
             Call::Validate => lots_validate(start, length),
+            Call::NextMessage(m) => {
+                let (kind, to, about) = (m.kind, m.to, m.about);
+                let mut five = [0u8; 5];
+                let [k, t, a, l, s] = &mut five;
+                let refusal = lots_next_message(
+                    start, length, kind, to, about, m.level, m.side, k, t, a, l, s,
+                );
+                long = five.into_iter().map(u64::from).sum();
+                refusal
+            }
         }
     };
     let sum = u64::from(byte) + u64::from(other) + u64::from(word);
@@ -88,6 +98,10 @@ pub fn rust(call: Call, record: &mut [u8]) -> (u8, u64) {
             small + u64::from(counts.pending)
         }),
         Call::Validate => lent::validate(record).map(|()| 0),
+        Call::NextMessage(from) => lent::next_message(record, from).map(|next| {
+            let five = |m: Message| [m.kind, m.to, m.about, m.level, m.side];
+            next.map_or([0; 5], five).into_iter().map(u64::from).sum()
+        }),
     };
     match sum {
         Ok(sum) => (0, sum),

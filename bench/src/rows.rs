@@ -32,7 +32,15 @@ pub fn all() -> Vec<Row> {
 type Rows = fn(&mut Vec<Row>, [&[u8]; 3]);
 
 const CHANGES: [Rows; 5] = [open, join, leave, deliver, turn];
-const READS: [Rows; 6] = [find, check, read_lot, read_link, read_message, read_whole];
+const READS: [Rows; 7] = [
+    find,
+    check,
+    read_lot,
+    read_link,
+    read_message,
+    read_whole,
+    next_message,
+];
 
 /// A row of one call. What refuses it is found out by making it.
 fn row(what: &str, start: &[u8], call: Call) -> Row {
@@ -151,6 +159,29 @@ fn read_whole(rows: &mut Vec<Row>, records: [&[u8]; 3]) {
     on_each(rows, records, Call::ReadCounts);
     on_each(rows, records, Call::Validate);
 }
+
+/// The smallest of what is pending: nothing, and a message with seats of the
+/// middle.
+fn next_message(rows: &mut Vec<Row>, records: [&[u8]; 3]) {
+    on_each(rows, records, Call::NextMessage(FIRST));
+    let (mut start, seat) = (settled(SEATS - 1), SEATS as u8 - 1);
+    let contact = HALF as u8;
+    lent::join(&mut start, seat, u64::MAX / 3, 0b1010_0101, contact).expect("the seat is free");
+    rows.push(row(
+        "64 lots, one message",
+        &start,
+        Call::NextMessage(FIRST),
+    ));
+}
+
+/// Numbers that come before every message.
+const FIRST: Message = Message {
+    kind: 0,
+    to: 0,
+    about: 0,
+    level: 0,
+    side: 0,
+};
 
 /// 64 joins by the first lot, then the smallest message until none is left.
 fn draining() -> Row {

@@ -35,22 +35,28 @@ pub enum Call {
     ReadMessage(Message),
     ReadCounts,
     Validate,
+    NextMessage(Message),
 }
 
 /// The refusal's number, 0 if the call is accepted, and the values in the order
 /// in which document 01 names them; those of a refused call are 0. A holder and
-/// a link are a seat, or 255 for none.
+/// a link are a seat, or 255 for none; the next message is five numbers, or 0.
 #[derive(Clone, Copy, PartialEq, Eq, Debug)]
 pub struct Answer {
     pub refusal: u8,
-    pub values: [u64; 3],
+    pub values: Values,
 }
+
+/// As many as a message has numbers, the most of any answer.
+pub type Values = [u64; 5];
+
+pub const NO_VALUES: Values = [0; 5];
 
 /// A seat that is not there.
 const NO_SEAT: u8 = 255;
 
 /// The names of the calls, in the order of [`Call::index`].
-pub const NAMES: [&str; 12] = [
+pub const NAMES: [&str; 13] = [
     "open",
     "join",
     "leave",
@@ -63,6 +69,7 @@ pub const NAMES: [&str; 12] = [
     "read_message",
     "read_counts",
     "validate",
+    "next_message",
 ];
 
 /// The rows of the table that speak of each call, in the table's order.
@@ -76,6 +83,7 @@ pub const REFUSALS: [&[u8]; NAMES.len()] = [
     &[1, 2],
     &[1, 2, 3, 8],
     &[1, 2, 3, 12, 8],
+    &[1, 2],
     &[1, 2],
     &[1, 2],
     &[1, 2],
@@ -96,6 +104,7 @@ impl Call {
             Call::ReadMessage(_) => 9,
             Call::ReadCounts => 10,
             Call::Validate => 11,
+            Call::NextMessage(_) => 12,
         }
     }
 
@@ -123,6 +132,7 @@ impl Call {
             Call::ReadMessage(message) => one(lent::read_message(bytes, message)),
             Call::ReadCounts => counts(lent::read_counts(bytes)),
             Call::Validate => done(lent::validate(bytes)),
+            Call::NextMessage(from) => next(lent::next_message(bytes, from)),
         }
     }
 
@@ -163,22 +173,23 @@ impl Call {
                 }))
             }
             Call::Validate => done(Ok(())),
+            Call::NextMessage(from) => next(Ok(model.next_message(from))),
         }
     }
 }
 
 impl Answer {
-    pub fn accepted(values: [u64; 3]) -> Answer {
+    pub fn accepted(values: Values) -> Answer {
         let refusal = 0;
         Answer { refusal, values }
     }
 
     pub fn refused(refusal: u8) -> Answer {
-        let values = [0; 3];
+        let values = NO_VALUES;
         Answer { refusal, values }
     }
 
-    fn of<T>(result: Result<T, Refusal>, values: impl Fn(T) -> [u64; 3]) -> Answer {
+    fn of<T>(result: Result<T, Refusal>, values: impl Fn(T) -> Values) -> Answer {
         match result {
             Ok(answer) => Answer::accepted(values(answer)),
             Err(refusal) => Answer::refused(refusal.number()),
@@ -187,23 +198,23 @@ impl Answer {
 }
 
 fn done(result: Result<(), Refusal>) -> Answer {
-    Answer::of(result, |()| [0; 3])
+    Answer::of(result, |()| NO_VALUES)
 }
 
 fn one<T: Into<u64>>(result: Result<T, Refusal>) -> Answer {
-    Answer::of(result, |value| [value.into(), 0, 0])
+    Answer::of(result, |value| [value.into(), 0, 0, 0, 0])
 }
 
 fn found(result: Result<Found, Refusal>) -> Answer {
     Answer::of(result, |found| {
         let holder = found.holder.unwrap_or(NO_SEAT);
-        [holder.into(), found.hops.into(), 0]
+        [holder.into(), found.hops.into(), 0, 0, 0]
     })
 }
 
 fn lot(result: Result<LotRead, Refusal>) -> Answer {
     Answer::of(result, |lot| {
-        [lot.state.into(), lot.number, lot.vector.into()]
+        [lot.state.into(), lot.number, lot.vector.into(), 0, 0]
     })
 }
 
@@ -214,6 +225,14 @@ fn counts(result: Result<CountsRead, Refusal>) -> Answer {
             phase,
             pending,
         } = counts;
-        [lots.into(), phase as u64, pending.into()]
+        [lots.into(), phase as u64, pending.into(), 0, 0]
+    })
+}
+
+fn next(result: Result<Option<Message>, Refusal>) -> Answer {
+    Answer::of(result, |next| {
+        next.map_or(NO_VALUES, |m| {
+            [m.kind, m.to, m.about, m.level, m.side].map(u64::from)
+        })
     })
 }

@@ -10,6 +10,7 @@
 mod bytes;
 mod check;
 mod layout;
+mod next;
 mod record;
 mod sound;
 
@@ -243,6 +244,13 @@ pub fn read_counts(bytes: &[u8]) -> Result<CountsRead, Refusal> {
         },
         pending: sound.pending,
     })
+}
+
+/// The smallest pending message, by its five numbers in order, that is not
+/// below five given numbers. Refusals: 1, 2.
+pub fn next_message(bytes: &[u8], from: Message) -> Result<Option<Message>, Refusal> {
+    let Sound { record, .. } = sound::test(bytes)?;
+    Ok(next::next_pending(record.0, from))
 }
 
 /// The test in front of every call but open. Refusals: 1, 2.

@@ -1,7 +1,7 @@
 //! The calls on lent bytes agree with the model: answers, values and every
 //! byte, on the records of scripts and on records that no calls lead to.
 
-use crate::call::{Answer, Call};
+use crate::call::{Answer, Call, NAMES};
 use crate::inputs::{self, Style};
 use crate::lent::{self, from_bytes, to_bytes};
 use crate::model::{Model, Refusal};
@@ -76,7 +76,7 @@ fn on_scripts() {
 #[test]
 fn on_records_that_no_calls_lead_to() {
     let mut random = Random::new(2);
-    let (mut checks, mut accepted) = ([0; 2], [0; 12]);
+    let (mut checks, mut accepted) = ([0; 2], [0; NAMES.len()]);
     for _ in 0..1_500 {
         let pools = inputs::pools(&mut random);
         let mut bytes = inputs::sound_record(&pools, &mut random);

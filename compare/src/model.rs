@@ -268,6 +268,12 @@ impl Model {
         self.pending.contains(&message)
     }
 
+    /// The smallest pending message, by its five numbers in order, that is not
+    /// below five given numbers.
+    pub fn next_message(&self, from: Message) -> Option<Message> {
+        self.pending.range(from..).next().copied()
+    }
+
     pub fn counts(&self) -> Counts {
         Counts {
             lots: self.seated().count(),

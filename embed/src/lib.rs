@@ -34,12 +34,14 @@
 #![warn(missing_docs)]
 #![warn(clippy::undocumented_unsafe_blocks)]
 
+mod pending;
 mod reading;
 mod record;
 mod refusal;
 #[doc(hidden)]
 pub mod sys;
 
+pub use pending::PendingMessages;
 pub use reading::{Counts, Found, Lot, Message, Phase, State};
 pub use record::Record;
 pub use refusal::Refusal;

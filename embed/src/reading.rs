@@ -126,6 +126,15 @@ impl Message {
         }
     }
 
+    /// Numbers that come before every message: where a listing begins.
+    ///
+    /// ```
+    /// use lots_record::{Message, Record};
+    ///
+    /// assert_eq!(Record::new().next_message(Message::FIRST), Ok(None));
+    /// ```
+    pub const FIRST: Message = Message::new(0, 0, 0, 0, 0);
+
     /// Its five numbers.
     pub(crate) const fn numbers(self) -> [u8; 5] {
         [self.kind, self.to, self.about, self.level, self.side]

@@ -1,5 +1,6 @@
 //! The record and its calls.
 
+use crate::pending::{next_in, PendingMessages};
 use crate::reading::{seat_or_none, Counts, Found, Lot, Message, Phase, State};
 use crate::refusal::Refusal;
 use crate::{sys, NO_SEAT, SIZE};
@@ -359,6 +360,49 @@ impl<B: AsRef<[u8]>> Record<B> {
         Ok(pending == 1)
     }
 
+    /// Reads the smallest pending message that is not smaller than `from`, by
+    /// their five numbers in order; any five may be given.
+    ///
+    /// Refusals: 1 wrong size, 2 unsound.
+    ///
+    /// ```
+    /// use lots_record::{Message, Record};
+    ///
+    /// let mut record = Record::new();
+    /// record.join(0, 100, 0, None)?;
+    /// record.join(1, 200, 128, Some(0))?;
+    /// let meet = Message::new(1, 0, 1, 0, 0);
+    /// assert_eq!(record.next_message(Message::FIRST)?, Some(meet));
+    /// assert_eq!(record.next_message(meet)?, Some(meet));
+    /// assert_eq!(record.next_message(Message { side: 1, ..meet })?, None);
+    /// # Ok::<(), lots_record::Refusal>(())
+    /// ```
+    #[doc(alias = "lots_next_message")]
+    pub fn next_message(&self, from: Message) -> Result<Option<Message>, Refusal> {
+        next_in(self.as_bytes(), from)
+    }
+
+    /// The pending messages, ascending by their five numbers.
+    ///
+    /// Refusals: 1 wrong size, 2 unsound. The bytes are borrowed meanwhile, so no
+    /// refusal can come later.
+    ///
+    /// ```
+    /// use lots_record::{Message, Record};
+    ///
+    /// let mut record = Record::new();
+    /// record.join(0, 100, 0, None)?;
+    /// record.join(1, 200, 128, Some(0))?;
+    /// record.deliver(Message::new(1, 0, 1, 0, 0))?;
+    /// // Lot 100 has met lot 200: it answers with a MEET and a PROBE.
+    /// let pending: Vec<Message> = record.pending_messages()?.collect();
+    /// assert_eq!(pending, [Message::new(1, 1, 0, 0, 0), Message::new(2, 1, 0, 0, 0)]);
+    /// # Ok::<(), lots_record::Refusal>(())
+    /// ```
+    pub fn pending_messages(&self) -> Result<PendingMessages<'_>, Refusal> {
+        PendingMessages::over(self.as_bytes())
+    }
+
     /// Reads the count of seated lots, the phase and the count of pending
     /// messages.
     ///
@@ -420,7 +464,7 @@ impl<B: AsRef<[u8]>> fmt::Debug for Record<B> {
 }
 
 /// The library's answer: a refusal number, or 0 for an accepted call.
-fn accepted(answer: u8) -> Result<(), Refusal> {
+pub(crate) fn accepted(answer: u8) -> Result<(), Refusal> {
     match (answer, Refusal::from_number(answer)) {
         (0, _) => Ok(()),
         (_, Some(refusal)) => Err(refusal),

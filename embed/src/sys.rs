@@ -70,6 +70,21 @@ extern "C" {
         pending: *mut u8,
     ) -> u8;
 
+    pub fn lots_next_message(
+        record: *const u8,
+        length: usize,
+        kind: u8,
+        to: u8,
+        about: u8,
+        level: u8,
+        side: u8,
+        next_kind: *mut u8,
+        next_to: *mut u8,
+        next_about: *mut u8,
+        next_level: *mut u8,
+        next_side: *mut u8,
+    ) -> u8;
+
     pub fn lots_read_counts(
         record: *const u8,
         length: usize,
@@ -105,16 +120,19 @@ mod tests {
     fn outputs_of_the_whole_are_0(record: &[u8], refusal: u8) {
         let (start, length) = (record.as_ptr(), record.len());
         let (mut yes, mut pending, mut counts) = (9, 9, (9, 9, 9));
+        let mut next = [9; 5];
+        let [kind, to, about, level, side] = &mut next;
         // SAFETY: the slice is valid for its length, and the outputs are local.
         let answers = unsafe {
             [
                 lots_check(start, length, &mut yes),
                 lots_read_message(start, length, 1, 0, 1, 0, 0, &mut pending),
                 lots_read_counts(start, length, &mut counts.0, &mut counts.1, &mut counts.2),
+                lots_next_message(start, length, 1, 0, 1, 0, 0, kind, to, about, level, side),
             ]
         };
-        assert_eq!(answers, [refusal; 3]);
-        assert_eq!((yes, pending, counts), (0, 0, (0, 0, 0)));
+        assert_eq!(answers, [refusal; 4]);
+        assert_eq!((yes, pending, counts, next), (0, 0, (0, 0, 0), [0; 5]));
     }
 
     #[test]

@@ -67,6 +67,7 @@ fn a_difference_is_made_small() {
     let small = shrunk(&mut judge, &failure);
     let differ = small.record.iter().zip(opened());
     let differ = differ.filter(|(byte, opened)| **byte != *opened).count();
-    // Two lots of different numbers and a bit, or one lot and a PULL.
-    assert!(differ <= 5, "{differ}");
+    // Two lots of different numbers and a bit, or one lot and a PULL; and the
+    // phase, and the vectors of two lots that share the level's bits.
+    assert!(differ <= 8, "{differ}");
 }

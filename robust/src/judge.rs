@@ -1,7 +1,7 @@
 //! Makes a call on both sides and says what differs.
 
 use crate::sys::{Make, Outcome};
-use compare::call::{Answer, Call};
+use compare::call::{Answer, Call, NO_VALUES};
 use compare::lent;
 
 /// What a call showed.
@@ -171,7 +171,7 @@ fn on_model(record: &[u8], call: Call) -> (Answer, Vec<u8>) {
         }
         None if call == Call::Open => {
             let opened = compare::model::Model::open();
-            (Answer::accepted([0; 3]), lent::to_bytes(&opened))
+            (Answer::accepted(NO_VALUES), lent::to_bytes(&opened))
         }
         None => (Answer::refused(2), record.to_vec()),
     }

@@ -1,7 +1,7 @@
 //! Calls through the C interface of the static library, and not through the safe
 //! wrapper: that would hide lengths, outputs and guard bytes.
 
-use compare::call::{Answer, Call};
+use compare::call::{Answer, Call, NO_VALUES};
 use compare::model::Message;
 use lots_record::sys::*;
 use std::ops::Range;
@@ -20,16 +20,22 @@ pub type Make = fn(memory: &mut [u8], record: Range<usize>, call: Call, fill: u6
 
 /// The outputs of a call, each with a word of its own and words around it.
 struct Outputs {
-    words: [u64; 7],
+    words: [u64; WORDS],
     fill: u64,
 }
 
+/// A word for each output, and one before, between and behind them.
+const WORDS: usize = 2 * NO_VALUES.len() + 1;
+
 /// The bytes of each output.
-type Widths = [usize; 3];
+type Widths = [usize; NO_VALUES.len()];
+
+const NO_OUTPUT: Widths = [0; NO_VALUES.len()];
+const ONE_BYTE: Widths = [1, 0, 0, 0, 0];
 
 impl Outputs {
     fn new(fill: u64) -> Outputs {
-        let words = [fill; 7];
+        let words = [fill; WORDS];
         Outputs { words, fill }
     }
 
@@ -39,8 +45,8 @@ impl Outputs {
     }
 
     fn outcome(&self, refusal: u8, widths: Widths) -> Outcome {
-        let mut expected = [self.fill; 7];
-        let mut values = [0; 3];
+        let mut expected = [self.fill; WORDS];
+        let mut values = NO_VALUES;
         for (index, width) in widths.into_iter().enumerate() {
             let mut bytes = [0; 8];
             let word = self.words[2 * index + 1].to_le_bytes();
@@ -66,7 +72,7 @@ pub fn make(memory: &mut [u8], record: Range<usize>, call: Call, fill: u64) -> O
     // SAFETY: the record is valid for its length, outputs are of their widths.
     let (refusal, widths) = unsafe {
         match call {
-            Call::Open => (lots_open(start, length), [0; 3]),
+            Call::Open => (lots_open(start, length), NO_OUTPUT),
             Call::Join {
                 seat,
                 number,
@@ -74,31 +80,32 @@ pub fn make(memory: &mut [u8], record: Range<usize>, call: Call, fill: u64) -> O
                 contact,
             } => {
                 let refusal = lots_join(start, length, seat, number, vector, contact);
-                (refusal, [0; 3])
+                (refusal, NO_OUTPUT)
             }
-            Call::Leave { seat } => (lots_leave(start, length, seat), [0; 3]),
-            Call::Deliver(m) => (deliver(start, length, m), [0; 3]),
-            Call::Turn => (lots_turn(start, length), [0; 3]),
+            Call::Leave { seat } => (lots_leave(start, length, seat), NO_OUTPUT),
+            Call::Deliver(m) => (deliver(start, length, m), NO_OUTPUT),
+            Call::Turn => (lots_turn(start, length), NO_OUTPUT),
             Call::Find { seat, number } => {
                 let refusal = lots_find(start, length, seat, number, out.at(0), out.at(1));
-                (refusal, [1, 8, 0])
+                (refusal, [1, 8, 0, 0, 0])
             }
-            Call::Check => (lots_check(start, length, out.at(0)), [1, 0, 0]),
+            Call::Check => (lots_check(start, length, out.at(0)), ONE_BYTE),
             Call::ReadLot { seat } => {
                 let (state, number, vector) = (out.at(0), out.at(1), out.at(2));
                 let refusal = lots_read_lot(start, length, seat, state, number, vector);
-                (refusal, [1, 8, 1])
+                (refusal, [1, 8, 1, 0, 0])
             }
             Call::ReadLink { seat, level, side } => {
                 let refusal = lots_read_link(start, length, seat, level, side, out.at(0));
-                (refusal, [1, 0, 0])
+                (refusal, ONE_BYTE)
             }
-            Call::ReadMessage(m) => (read_message(start, length, m, out.at(0)), [1, 0, 0]),
+            Call::ReadMessage(m) => (read_message(start, length, m, out.at(0)), ONE_BYTE),
             Call::ReadCounts => {
                 let refusal = lots_read_counts(start, length, out.at(0), out.at(1), out.at(2));
-                (refusal, [1, 1, 4])
+                (refusal, [1, 1, 4, 0, 0])
             }
-            Call::Validate => (lots_validate(start, length), [0; 3]),
+            Call::Validate => (lots_validate(start, length), NO_OUTPUT),
+            Call::NextMessage(m) => (next_message(start, length, m, out), [1; 5]),
         }
     };
     outputs.outcome(refusal, widths)
@@ -111,4 +118,12 @@ unsafe fn deliver(start: *mut u8, length: usize, m: Message) -> u8 {
 unsafe fn read_message(start: *const u8, length: usize, m: Message, pending: *mut u8) -> u8 {
     let (kind, to, about) = (m.kind, m.to, m.about);
     lots_read_message(start, length, kind, to, about, m.level, m.side, pending)
+}
+
+unsafe fn next_message(start: *const u8, length: usize, m: Message, out: &mut Outputs) -> u8 {
+    let (kind, to, about) = (out.at(0), out.at(1), out.at(2));
+    let (level, side) = (out.at(3), out.at(4));
+    lots_next_message(
+        start, length, m.kind, m.to, m.about, m.level, m.side, kind, to, about, level, side,
+    )
 }

@@ -6,7 +6,7 @@ use std::fmt;
 const ANSWERS: usize = 13;
 
 /// Accepted calls told apart by more than their name.
-const CASES: [&str; 13] = [
+const CASES: [&str; 15] = [
     "MEET",
     "PROBE",
     "PULL",
@@ -20,6 +20,8 @@ const CASES: [&str; 13] = [
     "check no",
     "pending",
     "not pending",
+    "next",
+    "no next",
 ];
 
 #[derive(Clone, PartialEq, Eq, Debug, Default)]
@@ -42,6 +44,7 @@ impl Tally {
             Call::Find { .. } => 7 + usize::from(value == 255),
             Call::Check => 9 + usize::from(value == 0),
             Call::ReadMessage(_) => 11 + usize::from(value == 0),
+            Call::NextMessage(_) => 13 + usize::from(value == 0),
             _ => return,
         };
         self.cases[case] += 1;
@@ -105,7 +108,7 @@ mod tests {
         assert_eq!(all, allowed + CASES.len());
         tally.count(Call::Turn, Answer::refused(11));
         assert_eq!(tally.gaps().len(), all - 1);
-        tally.count(Call::Check, Answer::accepted([1, 0, 0]));
+        tally.count(Call::Check, Answer::accepted([1, 0, 0, 0, 0]));
         assert_eq!(tally.gaps().len(), all - 3);
         tally.count(Call::Turn, Answer::refused(5));
         assert!(tally.gaps().contains(&String::from("turn met 5")));

@@ -117,7 +117,7 @@ impl Chooser<'_> {
 
     fn reading(&mut self) -> Call {
         let seat = self.seat();
-        match self.random.below(5) {
+        match self.random.below(6) {
             0 => Call::ReadLot { seat },
             1 => Call::ReadLink {
                 seat,
@@ -126,6 +126,7 @@ impl Chooser<'_> {
             },
             2 => Call::ReadMessage(self.message()),
             3 => Call::ReadCounts,
+            4 => Call::NextMessage(self.from()),
             _ => Call::Validate,
         }
     }
@@ -180,6 +181,28 @@ impl Chooser<'_> {
             (2.., Some(message)) => message,
             (1..8, None) => message_at(self.random.below(PLACES)),
             (_, None) => self.any_message(),
+        }
+    }
+
+    /// Where to go on listing what is pending: the start, mostly at a message or
+    /// the numbers after one, sometimes anywhere.
+    fn from(&mut self) -> Message {
+        let message = self.message();
+        match self.random.below(6) {
+            0 => message.with_number_of(self.any_message(), 0),
+            1 => self.any_message(),
+            2 | 3 => Message {
+                side: message.side.saturating_add(1),
+                ..message
+            },
+            4 => Message {
+                kind: 0,
+                to: 0,
+                about: 0,
+                level: 0,
+                side: 0,
+            },
+            _ => message,
         }
     }
 

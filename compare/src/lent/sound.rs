@@ -191,7 +191,7 @@ impl Lots {
 }
 
 /// Words of pending bits that are passed over together while all are 0.
-const BLOCK: usize = 64;
+pub const BLOCK: usize = 64;
 
 /// The seats of a set, ascending.
 #[inline]

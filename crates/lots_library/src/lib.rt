@@ -9,6 +9,9 @@ ghost use Rattle.record.specs.Call.{called};
 ghost use Rattle.find.specs.Find.{findIn};
 ghost use Rattle.check_links.specs.Check.{checkIn};
 ghost use Rattle.lots_library.specs.Numbers.{answerNumber, findNumbers, checkNumbers};
+
+pub mod next;
+
 use check_links::Verdict;
 use find::Found;
 use reading::CountsRead;

@@ -1,26 +1,23 @@
--- The first place whose message is pending, at or after a place: its message is pending, and the smallest by its five numbers among the
--- pending messages from there on. Assumes nothing.
+-- The first place whose message is pending, at or after a place: from the first place on whose message does not come before five numbers, its
+-- message is the smallest pending one at or after them. Assumes nothing.
 use Prim.Native.Nat.{ℕ, _-_, _≤_, _<_}
-use mathlib.Core.Path.{_≡_, sym, ap, _∙_}
-use mathlib.Core.Logic.{_⊎_, inl, inr, ⊎-elim}
-use mathlib.Core.Bool.{true}
+use mathlib.Core.Path.{_≡_, sym}
+use mathlib.Core.Option.{none, some}
+use mathlib.Core.Bool.{Bool}
 use mathlib.Core.List.{List}
 use native.Mathlib.Omega.{arith}
-use lib.Dec.{T}
 use Rattle.base.specs.Loops.{firstFrom}
-use Rattle.base.proofs.Cases.{lt-or-ge, eq-or-ne}
-use Rattle.base.proofs.Tests.{false-T}
 use Rattle.memory.specs.Bits.{bitSet}
-use Rattle.memory.proofs.First.{first, first-same}
+use Rattle.memory.proofs.First.{IsFirst, first, first-same}
 use Rattle.graph.specs.Vector.{width}
-use Rattle.protocol.specs.Message.{Msg, nameOf}
-use Rattle.protocol.specs.Numbering.{place, messageAt}
-use Rattle.protocol.proofs.Numbering.{messageAt-place}
-use Rattle.protocol.proofs.PlaceOrder.{Before, place-before}
+use Rattle.protocol.specs.Message.{Msg, Name}
+use Rattle.protocol.specs.Numbering.{messageAt}
+use Rattle.protocol.specs.Order.{smallestFrom}
+use Rattle.protocol.specs.inner.PlaceFrom.{placeFrom}
+use Rattle.protocol.proofs.Smallest.{smallest-first, none-first}
 use Rattle.record.specs.Layout.{seats, messages, pendingFrom}
 use Rattle.record.specs.Meaning.{meaning}
-use Rattle.record.proofs.Places.{place-at}
-use Rattle.record.proofs.Form.{meaning-bit, exists-pending}
+use Rattle.record.proofs.Form.{meaning-bit}
 use Rattle.messages.specs.inner.Numbers.{firstPending}
 
 module _ (l : List ℕ) (from : ℕ) (h : from ≤ messages) where
@@ -34,33 +31,21 @@ module _ (l : List ℕ) (from : ℕ) (h : from ≤ messages) where
   unfolding firstPending
   first-pending-le = omega (arith, first (messages - from) from (λ i. meaning l .pending (messageAt seats width i)) .high)
 
-  pub first-pending-ge : from ≤ firstPending l from
-  unfolding firstPending
-  first-pending-ge = first (messages - from) from (λ i. meaning l .pending (messageAt seats width i)) .low
+-- from the first place on whose message does not come before five numbers: the smallest pending message at or after them, or none
+module _ (l : List ℕ) (n : Name) where
+  abbrev p : Msg → Bool
+  p = meaning l .pending
 
-  -- its message is pending
-  pub first-pending-pending : firstPending l from < messages → meaning l .pending (messageAt seats width (firstPending l from)) ≡ true
-  unfolding firstPending
-  first-pending-pending b = first (messages - from) from (λ i. meaning l .pending (messageAt seats width i)) .found (omega arith)
+  abbrev from : ℕ
+  from = placeFrom seats width n
 
-  -- a pending message from there on is at or after it
-  pub first-pending-first : (n : Msg) → from ≤ place seats width n → T (meaning l .pending n) → firstPending l from ≤ place seats width n
+  at-or-after : IsFirst (messages - from) from (λ i. p (messageAt seats width i)) (firstPending l from)
   unfolding firstPending
-  first-pending-first n a t = ⊎-elim
-      (λ b. false-T (first (messages - from) from (λ i. meaning l .pending (messageAt seats width i)) .before (place seats width n) a b)
-      (rw (messageAt-place seats width n (exists-pending l n t)) t))
-      (λ b. b)
-      (lt-or-ge (place seats width n) (firstPending l from))
+  at-or-after = first (messages - from) from (λ i. p (messageAt seats width i))
 
-  -- and its numbers are larger
-  pub first-pending-smallest : firstPending l from < messages → (n : Msg) → from ≤ place seats width n → T (meaning l .pending n)
-      → let m = messageAt seats width (firstPending l from) in (n ≡ m) ⊎ Before (nameOf m) (nameOf n)
-  first-pending-smallest b n a t =
-      let i = firstPending l from in
-      let x = exists-pending l n t in
-      let e = place-at i b in
-      let c = first-pending-first n a t in
-      ⊎-elim
-      (λ q. inl (sym (messageAt-place seats width n x) ∙ ap (messageAt seats width) q))
-      (λ q. inr (place-before seats width (messageAt seats width i) n x (omega (arith, q))))
-      (eq-or-ne (place seats width n) i)
+  pub first-pending-smallest : firstPending l from < messages → smallestFrom seats width p n ≡ some (messageAt seats width (firstPending l from))
+  first-pending-smallest h = let f = at-or-after in
+      smallest-first seats width p n (firstPending l from) (f .low) h (f .found (omega arith)) (λ j a b. f .before j a b)
+
+  pub none-pending-from : firstPending l from ≡ messages → smallestFrom seats width p n ≡ none
+  none-pending-from e = none-first seats width p n (λ j a b. at-or-after .before j a (rw e b))

@@ -1,5 +1,6 @@
 // The place of each message in the numbering of all messages (protocol's specs/Numbering.antt), the message at each place, and the first
-// place whose message is pending. A message's place is the bit of the record that it has.
+// place whose message is pending; module next has the smallest pending message at or after five given numbers. A message's place is the
+// bit of the record that it has.
 ghost use mathlib.Core.Path.{_≡_};
 ghost use mathlib.Core.Bool.{_&&_};
 ghost use Prim.Native.Nat.{_*_, _/_, _%_, _≤_, _<_};
@@ -12,6 +13,9 @@ ghost use Rattle.record.specs.Layout.{seats, levels, messages, size};
 ghost use Rattle.graph.specs.Side.{sideOfNumber};
 ghost use Rattle.messages.specs.inner.Places.{placeOf};
 ghost use Rattle.messages.specs.inner.Numbers.{numbers, Stands, firstPending};
+
+pub mod next;
+
 use record::LEVELS;
 use record::MESSAGES;
 use record::PENDING;

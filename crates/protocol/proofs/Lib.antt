@@ -25,10 +25,13 @@ pub mod ReachedCalls
 pub mod ReachedTurn
 pub mod Theorem
 pub mod Digits
+pub mod DigitOrder
 pub mod Numbering
 pub mod PlaceOrder
+pub mod Smallest
 pub mod Sum
 pub mod NumberingExamples
+pub mod OrderExamples
 pub mod SoundFacts
 pub mod Accepted
 pub mod KeepDelivery

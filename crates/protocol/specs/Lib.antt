@@ -12,3 +12,4 @@ pub mod pages
 pub mod Calls
 pub mod Local
 pub mod Run
+pub mod inner

@@ -34,3 +34,8 @@ module _ (N W : ℕ) where
   -- the smallest pending message, if there is one
   abbrev pub smallest : (pending : Msg → Bool) → Option Msg
   smallest p = smallestFrom p (name 0 0 0 0 0)
+
+-- the five numbers of a message, or five zeros where there is none: kind 0 names no message
+unfoldable pub nameOrZeros : Option Msg → Name
+nameOrZeros none = name 0 0 0 0 0
+nameOrZeros (some m) = nameOf m

@@ -1,8 +1,9 @@
 -- The answers of the readings as the code gives them, from the paper's numbers: refusal 0 gives the values, any other the refusal.
 -- Assumes nothing.
-use Prim.Native.Nat.{ℕ, zero, suc}
+use Prim.Native.Nat.{ℕ, zero, suc, _<_}
 use lib.Dec.{eqb}
-use Rattle.record.specs.Reading.{LotAnswer, LinkAnswer, MessageAnswer, CountAnswer}
+use Rattle.protocol.specs.Message.{name}
+use Rattle.record.specs.Reading.{LotAnswer, LinkAnswer, MessageAnswer, CountAnswer, NextAnswer, nextAnswer}
 use Rattle.reading.specs.declared.LotRead.{LotRead}
 use Rattle.reading.specs.declared.LotRead.the-variants as lot
 use Rattle.reading.specs.declared.LinkRead.{LinkRead}
@@ -11,6 +12,8 @@ use Rattle.reading.specs.declared.MessageRead.{MessageRead}
 use Rattle.reading.specs.declared.MessageRead.the-variants as message
 use Rattle.reading.specs.declared.CountsRead.{CountsRead}
 use Rattle.reading.specs.declared.CountsRead.the-variants as counts
+use Rattle.reading.specs.declared.next.NextRead.{NextRead}
+use Rattle.reading.specs.declared.next.NextRead.the-variants as next
 
 -- a lot: state, number and vector
 unfoldable pub lotOf : (refused state number vector : ℕ) → LotRead
@@ -43,3 +46,15 @@ countsOf (suc r) n p m = counts.Refused (suc r)
 
 unfoldable pub countsAnswered : CountAnswer → CountsRead
 countsAnswered a = countsOf (a .refused) (a .lots) (a .phase) (a .pending)
+
+-- document 01's number and values of the answer to the smallest pending message at or after five numbers: kind 0 if there is none
+abbrev pub nextNumbers : NextRead → NextAnswer
+nextNumbers (next.Refused n) = nextAnswer n (name 0 0 0 0 0)
+nextNumbers (next.Next k t a l s) = nextAnswer 0 (name k t a l s)
+nextNumbers next.Nothing = nextAnswer 0 (name 0 0 0 0 0)
+
+-- a refusal has a number other than 0, a message a kind other than 0
+abbrev pub NextNumbered : NextRead → Type 0
+NextNumbered (next.Refused n) = 0 < n
+NextNumbered (next.Next k t a l s) = 0 < k
+NextNumbered next.Nothing = Unit {0}

@@ -7,6 +7,7 @@ ghost use Rattle.record.specs.Reading.{lotRefusal, seatedRefusal, linkRefusal, 
 ghost use Rattle.reading.specs.Answer.{lotAnswered, linkAnswered, messageAnswered, countsAnswered};
 
 mod counts;
+pub mod next;
 mod opening;
 mod rows;
 

@@ -8,7 +8,9 @@ use lib.ListN.{length}
 use Rattle.base.specs.Loops.{oneIf, count}
 use Rattle.memory.specs.Bits.{bitSet}
 use Rattle.graph.specs.Side.{sideOfNumber}
-use Rattle.protocol.specs.Message.{Name, named}
+use Rattle.graph.specs.Vector.{width}
+use Rattle.protocol.specs.Message.{Name, name, named}
+use Rattle.protocol.specs.Order.{smallestFrom, nameOrZeros}
 use Rattle.protocol.specs.State.{opened, taken, seated, empty, noSeat, isPending}
 use Rattle.protocol.specs.Refusals.{wrongSize, unsound, noSuchSeat, emptySeat, noSuchLevel, Row, row, first}
 use Rattle.record.specs.Layout.{seats, levels, messages, pendingFrom, size}
@@ -102,3 +104,19 @@ readCounts l = let r = recordRefusal l in
       pending = count messages (λ i. bitSet l pendingFrom i);
     })
     (record { refused = r; lots = 0; phase = 0; pending = 0 })
+
+-- the smallest pending message at or after five given numbers; kind 0 if there is none
+pub record NextAnswer : Type 0 where
+  pub refused : ℕ
+  pub kind : ℕ
+  pub to : ℕ
+  pub about : ℕ
+  pub level : ℕ
+  pub side : ℕ
+
+abbrev pub nextAnswer : (refused : ℕ) → Name → NextAnswer
+nextAnswer r n = record { refused = r; kind = n .kind; to = n .to; about = n .about; level = n .level; side = n .side }
+
+unfoldable pub readNext : List ℕ → Name → NextAnswer
+readNext l n = let r = recordRefusal l in
+    cond (eqb r 0) (nextAnswer 0 (nameOrZeros (smallestFrom seats width (meaning l .pending) n))) (nextAnswer r (name 0 0 0 0 0))

@@ -9,7 +9,7 @@ type Call = fn(&mut Record<&mut [u8]>) -> Result<(), Refusal>;
 
 /// Every call but open, with arguments that Q accepts, or else refuses with 8 or
 /// 10: a later row than 1 and 2.
-const CALLS: [Call; 11] = [
+const CALLS: [Call; 13] = [
     |record| record.join(3, 400, 0, Some(0)),
     |record| record.leave(9),
     |record| record.deliver(NO_MESSAGE),
@@ -21,6 +21,8 @@ const CALLS: [Call; 11] = [
     |record| record.is_pending(NO_MESSAGE).map(drop),
     |record| record.counts().map(drop),
     |record| record.validate(),
+    |record| record.next_message(NO_MESSAGE).map(drop),
+    |record| record.pending_messages().map(drop),
 ];
 
 fn clearing() -> Owned {

@@ -3,7 +3,7 @@
 use super::{caught, right};
 use crate::judge::Difference;
 use crate::sys::{Make, Outcome};
-use compare::call::{Answer, Call};
+use compare::call::{Answer, Call, Values, NO_VALUES};
 use compare::graph::{self, LEVELS, SEATS};
 use compare::lent::place::*;
 use compare::lent::{self, message_at, SIZE};
@@ -140,7 +140,7 @@ wrong! {
         };
     check_does_not_look_at_level_8 shows Difference::Answer { .. } =>
         |before, _, _, call, _, mut outcome| {
-            if call == Call::Check && outcome.answer == Answer::accepted([0; 3]) {
+            if call == Call::Check && outcome.answer == Answer::accepted(NO_VALUES) {
                 let mut other = before.to_vec();
                 link_level_8(&mut other);
                 outcome.answer = call.on_bytes(&mut other);
@@ -175,6 +175,34 @@ wrong! {
             }
             outcome
         };
+    next_after_in_place_of_at_or_after shows Difference::Answer { .. } =>
+        |before, _, _, call, _, outcome| match call {
+            Call::NextMessage(from) if outcome.answer == Answer::accepted(numbers(from)) => {
+                next(before, Message { side: from.side + 1, ..from })
+            }
+            _ => outcome,
+        };
+    next_by_kind_and_to_alone shows Difference::Answer { .. } =>
+        |before, _, _, call, _, outcome| match call {
+            Call::NextMessage(from) if outcome.answer.refusal == 0 => {
+                next(before, Message { about: 0, level: 0, side: 0, ..from })
+            }
+            _ => outcome,
+        };
+    next_cuts_a_number_that_no_message_has shows Difference::Answer { .. } =>
+        |before, _, _, call, _, outcome| match call {
+            Call::NextMessage(from) if outcome.answer.refusal == 0 => {
+                next(before, Message { level: from.level.min(8), side: from.side.min(1), ..from })
+            }
+            _ => outcome,
+        };
+    next_value_not_written_where_there_is_none shows Difference::Answer { .. } =>
+        |_, _, _, call, fill, mut outcome| {
+            if matches!(call, Call::NextMessage(_)) && outcome.answer.values[0] == 0 {
+                outcome.answer.values[4] = fill & 255;
+            }
+            outcome
+        };
     pending_count_too_narrow shows Difference::Answer { .. } =>
         |_, _, _, call, _, mut outcome| {
             if call == Call::ReadCounts {
@@ -182,6 +210,18 @@ wrong! {
             }
             outcome
         };
+}
+
+fn numbers(m: Message) -> Values {
+    [m.kind, m.to, m.about, m.level, m.side].map(u64::from)
+}
+
+/// What the call answers for other numbers than those given.
+fn next(record: &[u8], from: Message) -> Outcome {
+    Outcome {
+        answer: Call::NextMessage(from).on_bytes(&mut record.to_vec()),
+        beside: false,
+    }
 }
 
 fn refused(number: u8) -> Outcome {
