@@ -3,3 +3,4 @@ pub mod Filled
 pub mod Placed
 pub mod Refusals
 pub mod Values
+pub mod Determined
