@@ -2,3 +2,4 @@
 pub mod Read
 pub mod Steps
 pub mod Fits
+pub mod Determined

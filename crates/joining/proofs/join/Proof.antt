@@ -2,7 +2,7 @@
 use mathlib.Core.Path.{sym, _∙_}
 use borrow.Author.Needs.{needs}
 use Rattle.protocol.specs.Calls.{join}
-use Rattle.record.proofs.Accepted.{reply-refused, reply-done}
+use Rattle.record.proofs.Accepted.{outcome-refused, outcome-done}
 use Rattle.joining.proofs.join.Statement.{statement}
 use Rattle.joining.proofs.join.Tie as tie
 
@@ -19,8 +19,9 @@ returns : tie.Need-returns
 returns c =
     let b = c .before .before in
     let a = b .before .before .before .args in
-    reply-refused (a .rec .now) (join (a .seat) (a .number) (a .vector) (a .contact))
-    (b .join-refusal .ensures (a .vector)) (c .before .if1 .taken) (c .answer-of .ensures)
+    let e = outcome-refused (a .rec .now) (join (a .seat) (a .number) (a .vector) (a .contact))
+    (b .join-refusal .ensures (a .vector)) (c .before .if1 .taken) (c .answer-of .ensures .0) in
+    (e, c .answer-of .ensures .1)
 
 seat-lot-requires : tie.Need-seat-lot-requires
 seat-lot-requires c κs =
@@ -35,8 +36,9 @@ returns-2 c =
     let d = c .before .before .before .before in
     let b = d .before in
     let a = b .before .before .before .args in
-    reply-done (a .rec .now) (join (a .seat) (a .number) (a .vector) (a .contact))
-    (sym (b .join-refusal .ensures (a .vector)) ∙ d .if1 .left) (c .before .before .seat-lot .ensures)
+    let e = outcome-done (a .rec .now) (join (a .seat) (a .number) (a .vector) (a .contact))
+    (sym (b .join-refusal .ensures (a .vector)) ∙ d .if1 .left) (c .before .before .seat-lot .ensures) in
+    (e, tt)
 
 pub join-spec : {M : Type 1} → statement M
 join-spec =
