@@ -1,6 +1,5 @@
 -- The answer of the check is determined by its numbers. Assumes nothing.
 use mathlib.Core.Path.{_≡_, refl, ap}
-use mathlib.Core.Bool.{Bool}
 use native.Mathlib.Omega.{arith}
 use Rattle.check_links.specs.Check.{CheckAnswer}
 use Rattle.check_links.specs.Answer.{verdictNumbers, VerdictNumbered}

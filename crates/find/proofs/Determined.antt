@@ -1,6 +1,5 @@
 -- The answer of find is determined by its numbers. Assumes nothing.
 use mathlib.Core.Path.{_≡_, ap}
-use mathlib.Core.Option.{Option}
 use native.Mathlib.Omega.{arith}
 use Rattle.find.specs.Find.{FindAnswer}
 use Rattle.find.specs.Answer.{foundNumbers, FoundNumbered}

@@ -1,5 +1,4 @@
 -- An answer is determined by its number. Assumes nothing.
-use Prim.Native.Nat.{ℕ}
 use mathlib.Core.Path.{_≡_, refl, ap}
 use native.Mathlib.Omega.{arith}
 use Rattle.record.specs.Answer.{numberOf, Numbered}
