@@ -52,13 +52,10 @@ module _ (l : List ℕ) where
       record { form = h; fine = k; row = r }
 
   -- a refused call, whose answer has the number m, leaves the bytes
-  pub outcome-refused : (c : Call) {n m : ℕ} → n ≡ callRefusal l c → n ≢ 0 → m ≡ n → record { refused = m; after = l } ≡ called l c
+  pub outcome-refused : (c : Call) (n : ℕ) {m : ℕ} → n ≡ callRefusal l c → n ≢ 0 → m ≡ n → record { refused = m; after = l } ≡ called l c
   unfolding called unlessRefused
-  outcome-refused c {n} e h q = rw (q, ← e, same n (bytesOf (accept seats width (meaning l) c)) h)
-    where
-      same : (n : ℕ) (x : List ℕ) → n ≢ 0 → unlessRefused n l x ≡ l
-      same zero x h = absurd (h refl)
-      same (suc n) x h = refl
+  outcome-refused c zero e h q = absurd (h refl)
+  outcome-refused c (suc n) e h q = rw (q, ← e)
 
   -- an accepted call leaves the bytes of the meaning after it
   pub outcome-done : (c : Call) {m : List ℕ} → callRefusal l c ≡ 0 → m ≡ bytesOf (accept seats width (meaning l) c) → outcome Done m ≡ called l c
@@ -68,7 +65,7 @@ module _ (l : List ℕ) where
   -- so does a call on a record that is refused
   pub record-refused : (c : Call) {n : ℕ} → n ≡ recordRefusal l → n ≢ 0 → reply (Refused n) l ≡ replyOf (called l c)
   unfolding replyOf answerOf
-  record-refused c {n} e h = refused n h ∙ ap replyOf (outcome-refused c (refused-early c e h) h refl)
+  record-refused c {n} e h = refused n h ∙ ap replyOf (outcome-refused c n (refused-early c e h) h refl)
     where
       refused : (n : ℕ) → n ≢ 0 → reply (Refused n) l ≡ replyOf (record { refused = n; after = l })
       refused zero h = absurd (h refl)

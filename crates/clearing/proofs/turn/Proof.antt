@@ -24,7 +24,7 @@ returns : tie.Need-returns
 returns c =
     let b = c .before .before in
     let l = b .before .before .before .args .rec .now in
-    let e = outcome-refused l turn (b .turn-refusal .ensures) (c .before .if1 .taken) (c .answer-of .ensures .0) in
+    let e = outcome-refused l turn _ (b .turn-refusal .ensures) (c .before .if1 .taken) (c .answer-of .ensures .0) in
     (e, c .answer-of .ensures .1)
 
 known : (c : tie.Else1) → Form (c .before .before .before .before .args .rec .now)
@@ -42,9 +42,8 @@ returns-2 : tie.Need-returns-2
 returns-2 c =
     let a = c .before .before .before .before in
     let l = a .before .before .before .before .args .rec .now in
-    let e = outcome-done l turn (sym (a .before .turn-refusal .ensures) ∙ a .if1 .left)
-    (c .before .before .carry-out .ensures (meaning l) (meaning-linked l) (sym (bytes-meaning (known a)))) in
-    (e, tt)
+    let z = sym (a .before .turn-refusal .ensures) ∙ a .if1 .left in
+    (outcome-done l turn z (c .before .before .carry-out .ensures (meaning l) (meaning-linked l) (sym (bytes-meaning (known a)))), tt)
 
 pub turn-spec : {M : Type 1} → statement M
 turn-spec =

@@ -19,8 +19,8 @@ returns : tie.Need-returns
 returns c =
     let b = c .before .before in
     let a = b .before .before .before .args in
-    let e = outcome-refused (a .rec .now) (join (a .seat) (a .number) (a .vector) (a .contact))
-    (b .join-refusal .ensures (a .vector)) (c .before .if1 .taken) (c .answer-of .ensures .0) in
+    let call = join (a .seat) (a .number) (a .vector) (a .contact) in
+    let e = outcome-refused (a .rec .now) call _ (b .join-refusal .ensures (a .vector)) (c .before .if1 .taken) (c .answer-of .ensures .0) in
     (e, c .answer-of .ensures .1)
 
 seat-lot-requires : tie.Need-seat-lot-requires
@@ -36,9 +36,9 @@ returns-2 c =
     let d = c .before .before .before .before in
     let b = d .before in
     let a = b .before .before .before .args in
-    let e = outcome-done (a .rec .now) (join (a .seat) (a .number) (a .vector) (a .contact))
-    (sym (b .join-refusal .ensures (a .vector)) ∙ d .if1 .left) (c .before .before .seat-lot .ensures) in
-    (e, tt)
+    let call = join (a .seat) (a .number) (a .vector) (a .contact) in
+    let z = sym (b .join-refusal .ensures (a .vector)) ∙ d .if1 .left in
+    (outcome-done (a .rec .now) call z (c .before .before .seat-lot .ensures), tt)
 
 pub join-spec : {M : Type 1} → statement M
 join-spec =

@@ -21,7 +21,7 @@ returns : tie.Need-returns
 returns c =
     let b = c .before .before in
     let a = b .before .before .before .args in
-    let e = outcome-refused (a .rec .now) (leave (a .seat)) (b .leave-refusal .ensures) (c .before .if1 .taken) (c .answer-of .ensures .0) in
+    let e = outcome-refused (a .rec .now) (leave (a .seat)) _ (b .leave-refusal .ensures) (c .before .if1 .taken) (c .answer-of .ensures .0) in
     (e, c .answer-of .ensures .1)
 
 may-leave : (c : tie.Else1) → let a = c .before .before .before .before .args in Accepted (a .rec .now) (leave (a .seat))
@@ -41,9 +41,8 @@ returns-2 c =
     let d = c .before .before .before .before in
     let b = d .before in
     let a = b .before .before .before .args in
-    let e = outcome-done (a .rec .now) (leave (a .seat)) (sym (b .leave-refusal .ensures) ∙ d .if1 .left)
-    (c .before .before .set-state .ensures ∙ sym (leave-bytes (may-leave d))) in
-    (e, tt)
+    let z = sym (b .leave-refusal .ensures) ∙ d .if1 .left in
+    (outcome-done (a .rec .now) (leave (a .seat)) z (c .before .before .set-state .ensures ∙ sym (leave-bytes (may-leave d))), tt)
 
 pub leave-spec : {M : Type 1} → statement M
 leave-spec =
