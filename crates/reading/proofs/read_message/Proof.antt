@@ -30,8 +30,8 @@ is-pending-requires c κs = (passed (c .before .before) .sized, place-below _ (c
 returns-3 : tie.Need-returns-3
 returns-3 c =
     let b = c .before in
-    let e = c .is-pending .ensures ∙ sym (pending-at _ _ (b .before .place-of .ensures) (b .if2 .left)) in
-    (message-value _ _ e (passed (b .before .before)), tt)
+    let p = passed (b .before .before) in
+    (message-value _ _ (c .is-pending .ensures ∙ sym (pending-at _ _ (b .before .place-of .ensures) (b .if2 .left))) p, tt)
 
 pub read-message-spec : {M : Type 1} → statement M
 read-message-spec =
