@@ -5,8 +5,10 @@ use mathlib.Core.Logic.{_≢_}
 use mathlib.Core.List.{List}
 use native.Mathlib.Omega.{arith}
 use borrow.Author.Needs.{needs}
+use lib.Dec.{T}
 use borrow.Author.Tests.{ne-eqb}
 use Rattle.graph.specs.Vector.{width}
+use Rattle.protocol.specs.State.{seated}
 use Rattle.record.specs.Layout.{seats}
 use Rattle.record.specs.Meaning.{seatsIn, meaning}
 use Rattle.record.specs.Reading.{seatedRefusal}
@@ -15,6 +17,7 @@ use Rattle.reading.proofs.Refusals.{seated-passed}
 use Rattle.find.specs.declared.Found.the-variants.{Refused}
 use Rattle.find.specs.Find.{searched, findIn}
 use Rattle.find.specs.Answer.{foundNumbers}
+use Rattle.find.specs.inner.Steps.{Fit}
 use Rattle.find.proofs.Fits.{sound-fit}
 use Rattle.find.proofs.find.Statement.{statement}
 use Rattle.find.proofs.find.Tie as tie
@@ -33,13 +36,17 @@ seated-refusal-requires c κs = search needs
 returns : tie.Need-returns
 returns c = let b = c .before .before .before in
     let e = c .before .seated-refusal .ensures in
-    (refusing (b .args .rec .now) (b .args .seat) (b .args .number) (c .before .seated-refusal .result) (sym e) (c .if1 .taken), omega (arith, c .if1 .taken))
+    let r = refusing (b .args .rec .now) (b .args .seat) (b .args .number) (c .before .seated-refusal .result) (sym e) (c .if1 .taken) in
+    (r, omega (arith, c .if1 .taken))
+
+-- no row applies: the search can start
+passed : (c : tie.Else1) → let a = c .before .before .before .args in Fit (a .rec .now) × T (seated (seatsIn (a .rec .now)) (a .seat))
+passed c =
+    let p = seated-passed _ _ (c .before .seated-refusal .ensures) (c .if1 .left) in
+    (sound-fit _ (p .accepted .sized) (λ j. omega (arith, c .before .before .shared-slice-known .given j)) (p .accepted .fine), p .lot)
 
 search-requires : tie.Need-search-requires
-search-requires c κs = let b = c .before .before .before in
-    let l = b .args .rec .now in
-    let p = seated-passed l (b .args .seat) (c .before .seated-refusal .ensures) (c .if1 .left) in
-    (sound-fit l (p .accepted .sized) (λ j. omega (arith, c .before .before .shared-slice-known .given j)) (p .accepted .fine), p .lot)
+search-requires c κs = passed c
 
 returns-2 : tie.Need-returns-2
 returns-2 c = let b = c .before .before .before .before in
