@@ -15,8 +15,8 @@ use Rattle.record.proofs.Form.{Form}
 use Rattle.record.proofs.Sound.{sound-is}
 use Rattle.record.proofs.Refused.{Later, rows-passed, record-passed, record-stops, record-goes}
 use Rattle.record.specs.Call.{callRefusal, called}
-use Rattle.record.specs.Answer.{numberOf, outcome, reply, answerOf, replyOf}
-use Rattle.record.specs.declared.Answer.the-variants.{Done, Refused}
+use Rattle.record.specs.Answer.{reply, answerOf, replyOf}
+use Rattle.record.specs.declared.Answer.the-variants.{Refused}
 
 -- what an accepted call is made on
 pub record Accepted (l : List ℕ) (c : Call) : Type 0 where
@@ -58,11 +58,12 @@ module _ (l : List ℕ) where
   outcome-refused c (suc n) e h q = rw (q, ← e)
 
   -- an accepted call leaves the bytes of the meaning after it
-  pub outcome-done : (c : Call) {m : List ℕ} → callRefusal l c ≡ 0 → m ≡ bytesOf (accept seats width (meaning l) c) → outcome Done m ≡ called l c
-  unfolding called unlessRefused numberOf
+  pub outcome-done : (c : Call) {m : List ℕ} → callRefusal l c ≡ 0 → m ≡ bytesOf (accept seats width (meaning l) c)
+      → record { refused = 0; after = m } ≡ called l c
+  unfolding called unlessRefused
   outcome-done c e h = rw (e, h)
 
-  -- so does a call on a record that is refused
+  -- a call on a record that is refused
   pub record-refused : (c : Call) {n : ℕ} → n ≡ recordRefusal l → n ≢ 0 → reply (Refused n) l ≡ replyOf (called l c)
   unfolding replyOf answerOf
   record-refused c {n} e h = refused n h ∙ ap replyOf (outcome-refused c n (refused-early c e h) h refl)

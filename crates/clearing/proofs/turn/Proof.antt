@@ -6,6 +6,7 @@ use Rattle.protocol.specs.Calls.{turn}
 use Rattle.record.specs.Meaning.{meaning}
 use Rattle.record.proofs.Form.{Form}
 use Rattle.record.proofs.Round.{bytes-meaning}
+use Rattle.record.specs.Answer.{numberOf}
 use Rattle.record.proofs.Accepted.{accepted, outcome-refused, outcome-done}
 use Rattle.clearing.proofs.Refused.{meaning-linked}
 use Rattle.clearing.proofs.turn.Statement.{statement}
@@ -39,6 +40,7 @@ same-length-2 : tie.Need-same-length-2
 same-length-2 c = search needs
 
 returns-2 : tie.Need-returns-2
+unfolding numberOf
 returns-2 c =
     let a = c .before .before .before .before in
     let l = a .before .before .before .before .args .rec .now in

@@ -3,6 +3,7 @@ use mathlib.Core.Path.{sym, _∙_}
 use native.Mathlib.Omega.{arith}
 use borrow.Author.Needs.{needs}
 use Rattle.protocol.specs.Calls.{leave}
+use Rattle.record.specs.Answer.{numberOf}
 use Rattle.record.proofs.Accepted.{Accepted, accepted, outcome-refused, outcome-done}
 use Rattle.joining.proofs.After.{leave-seat, leave-bytes}
 use Rattle.joining.proofs.leave.Statement.{statement}
@@ -37,6 +38,7 @@ same-length-2 : tie.Need-same-length-2
 same-length-2 c = search needs
 
 returns-2 : tie.Need-returns-2
+unfolding numberOf
 returns-2 c =
     let d = c .before .before .before .before in
     let b = d .before in
