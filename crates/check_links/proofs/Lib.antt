@@ -3,3 +3,4 @@ pub mod Parts
 pub mod Runs
 pub mod Whole
 pub mod Facts
+pub mod Determined

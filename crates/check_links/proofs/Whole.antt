@@ -1,9 +1,9 @@
 -- The whole check: that on sound bytes the test of the links is the check of specs/, and each answer. Assumes nothing.
-use Prim.Native.Nat.{ℕ, zero, suc, _+_, _<_}
+use Prim.Native.Nat.{ℕ, suc, _+_, _<_}
 use mathlib.Core.Path.{_≡_, refl, sym, ap, _∙_}
 use mathlib.Core.Logic.{_≢_, ⊎-elim}
 use mathlib.Core.Option.{some}
-use mathlib.Core.Bool.{Bool, true}
+use mathlib.Core.Bool.{Bool, true, false}
 use mathlib.Core.List.{List}
 use lib.Dec.{T}
 use native.Mathlib.Omega.{arith}
@@ -36,8 +36,6 @@ use Rattle.search.proofs.OneStart.{links-check}
 use Rattle.record.proofs.Refused.{record-passed}
 use Rattle.check_links.proofs.Runs.{runOf, run-none, run-found}
 use Rattle.check_links.specs.Check.{checkIn}
-use Rattle.check_links.specs.Answer.{verdictOf, answerOf}
-use Rattle.check_links.specs.declared.Verdict.the-variants.{Refused}
 
 module _ (l : List ℕ) (e : length l ≡ size) (b : AreBytes l) (s : sound l ≡ true) where
   pub bytes-sound : Sound seats width (meaning l)
@@ -88,21 +86,13 @@ module _ (l : List ℕ) (e : length l ≡ size) (b : AreBytes l) (s : sound l �
   links-right = links-check lots-laws links-sided (λ x y m n. refl)
 
 -- the answers
-refused-is : (n : ℕ) (b : Bool) → n ≢ 0 → Refused n ≡ verdictOf n b
-unfolding verdictOf
-refused-is zero b h = absurd (h refl)
-refused-is (suc n) b h = refl
-
 module _ (l : List ℕ) (n : ℕ) (e : n ≡ recordRefusal l) where
-  pub refused-answer : n ≢ 0 → Refused n ≡ answerOf (checkIn l)
-  unfolding checkIn answerOf
-  refused-answer h = rw (← e, ne-eqb n 0 h) (refused-is n _ h)
-
-  check-answer : n ≡ 0 → answerOf (checkIn l) ≡ verdictOf 0 (check seats width (members oneComponent (seatsIn l)) (meaning l .link))
-  unfolding checkIn answerOf
-  check-answer z = rw (← e, eq-eqb n 0 z)
+  pub refused-answer : n ≢ 0 → record { refused = n; yes = false } ≡ checkIn l
+  unfolding checkIn
+  refused-answer h = rw (← e, ne-eqb n 0 h)
 
   -- from what the test of the links answered
   pub answer : AreBytes l → n ≡ 0 → {r : Bool} → r ≡ linksOk seats width (members oneComponent (seatsIn l)) (meaning l .link)
-      → verdictOf 0 r ≡ answerOf (checkIn l)
-  answer b z q = let p = record-passed l e z in ap (verdictOf 0) (q ∙ links-right l (p .sized) b (p .fine)) ∙ sym (check-answer z)
+      → record { refused = 0; yes = r } ≡ checkIn l
+  unfolding checkIn
+  answer b z q = let p = record-passed l e z in rw (← e, eq-eqb n 0 z, q, links-right l (p .sized) b (p .fine))

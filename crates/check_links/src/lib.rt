@@ -16,7 +16,7 @@ ghost use Rattle.record.specs.Sound.{sound};
 ghost use Rattle.base.specs.Loops.{oneIf, all, count};
 ghost use Rattle.search.specs.inner.LinkCheck.{backOf, backsOk, startsAt, aheadOf, aboveOk, lotBacks, lotAboves, constraintsOk, linksOk};
 ghost use Rattle.check_links.specs.Check.{checkIn};
-ghost use Rattle.check_links.specs.Answer.{answerOf};
+ghost use Rattle.check_links.specs.Answer.{verdictNumbers, VerdictNumbered};
 use graph::LEFT;
 use graph::RIGHT;
 use record::LEVELS;
@@ -200,7 +200,7 @@ fn links_fit(rec: &[u8]) -> bool
 // Whether the links of the members are those of their skip graph: yes exactly if Constraints 1 to 6 hold for all members and they lie in one
 // level-0 list. Refused: 1 wrong size, 2 unsound. A record that open has just written gives Yes.
 pub fn check(rec: &[u8]) -> Verdict
-    ensures { λ r. ⌜ r ≡ answerOf (checkIn (now (rec .entry))) ⌝ }
+    ensures { λ r. ⌜ (verdictNumbers r ≡ checkIn (now (rec .entry))) × VerdictNumbered r ⌝ }
 {
     let n = soundness::record_refusal(rec);
     if n != 0 {

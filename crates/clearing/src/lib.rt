@@ -13,7 +13,7 @@ ghost use Rattle.record.specs.Layout.{seats, levels, size};
 ghost use Rattle.record.specs.Meaning.{seatsIn, meaning};
 ghost use Rattle.graph.specs.Side.{sideOfNumber};
 ghost use Rattle.record.specs.Call.{callRefusal, called};
-ghost use Rattle.record.specs.Answer.{reply, replyOf};
+ghost use Rattle.record.specs.Answer.{outcome, Numbered};
 ghost use Rattle.clearing.specs.inner.Steps.{Step, same, saying, lotFarewells, farewellsFrom, begun, ended};
 
 pub mod freeing;
@@ -166,7 +166,7 @@ fn turn_refusal(rec: &[u8]) -> u8
 // In phase open with leavers: phase clearing, and every leaver sends GOING to each of its links; without leavers nothing changes. In phase
 // clearing: the leavers' seats become free, a link to one becomes none, phase open. Refused by 1, 2, 11, in this order.
 pub fn turn(rec: &mut [u8]) -> Answer
-    ensures { λ r. ⌜ reply r (now (rec .exit)) ≡ replyOf (called (now (rec .entry)) turning) ⌝ }
+    ensures { λ r. ⌜ (outcome r (now (rec .exit)) ≡ called (now (rec .entry)) turning) × Numbered r ⌝ }
 {
     let n = turn_refusal(rec);
     if n != 0 {

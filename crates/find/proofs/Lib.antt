@@ -3,3 +3,4 @@ pub mod Read
 pub mod Steps
 pub mod Fits
 pub mod Settled
+pub mod Determined

@@ -1,22 +1,16 @@
--- The answer of find as the code gives it. Assumes nothing.
-use Prim.Native.Nat.{ℕ, zero, suc}
-use mathlib.Core.Option.{Option, none, some}
-use Rattle.search.specs.Walk as search
+-- The answer of find in document 01's numbers, by its cases. A refusal has a number other than 0. Assumes nothing.
+use Prim.Native.Nat.{_<_}
+use mathlib.Core.Option.{none, some}
 use Rattle.find.specs.Find.{FindAnswer}
 use Rattle.find.specs.declared.Found.{Found}
 use Rattle.find.specs.declared.Found.the-variants.{Refused, Holder, Nobody}
 
--- what the search found
-unfoldable pub heldBy : Option ℕ → (hops : ℕ) → Found
-heldBy none h = Nobody h
-heldBy (some s) h = Holder s h
+abbrev pub foundNumbers : Found → FindAnswer
+foundNumbers (Refused n) = record { refused = n; holder = none; hops = 0 }
+foundNumbers (Holder s h) = record { refused = 0; holder = some s; hops = h }
+foundNumbers (Nobody h) = record { refused = 0; holder = none; hops = h }
 
-abbrev pub heldOf : search.Found → Found
-heldOf f = heldBy (f .holder) (f .hops)
-
-unfoldable pub foundOf : (refused : ℕ) → Option ℕ → (hops : ℕ) → Found
-foundOf zero o h = heldBy o h
-foundOf (suc n) o h = Refused (suc n)
-
-unfoldable pub answerOf : FindAnswer → Found
-answerOf a = foundOf (a .refused) (a .holder) (a .hops)
+abbrev pub FoundNumbered : Found → Type 0
+FoundNumbered (Refused n) = 0 < n
+FoundNumbered (Holder s h) = Unit {0}
+FoundNumbered (Nobody h) = Unit {0}

@@ -9,16 +9,19 @@ use Rattle.graph.specs.Vector.{width}
 use Rattle.record.specs.Layout.{seats}
 use Rattle.record.specs.Meaning.{seatsIn, meaning}
 use Rattle.record.specs.Reading.{seatedRefusal}
-use Rattle.search.specs.Walk.{find}
+use Rattle.search.specs.Walk.{Found, find}
 
 pub record FindAnswer : Type 0 where
   pub refused : ℕ
   pub holder : Option ℕ
   pub hops : ℕ
 
+-- what a search found
+abbrev pub searched : Found → FindAnswer
+searched f = record { refused = 0; holder = f .holder; hops = f .hops }
+
 -- the search for x from the lot on seat s
 unfoldable pub findIn : List ℕ → (s x : ℕ) → FindAnswer
 findIn l s x =
     let n = seatedRefusal l s in
-    let f = find (seatsIn l .number) (meaning l .link) x seats width s in
-    cond (eqb n 0) (record { refused = 0; holder = f .holder; hops = f .hops }) (record { refused = n; holder = none; hops = 0 })
+    cond (eqb n 0) (searched (find (seatsIn l .number) (meaning l .link) x seats width s)) (record { refused = n; holder = none; hops = 0 })

@@ -10,8 +10,8 @@ ghost use Rattle.record.specs.Layout.{seats, levels, size};
 ghost use Rattle.record.specs.Meaning.{seatsIn, meaning};
 ghost use Rattle.graph.specs.Side.{sideOfNumber};
 ghost use Rattle.search.specs.Walk.{along as alongOf, stepAt, drop, holderAt, find as findOf};
-ghost use Rattle.find.specs.Find.{findIn};
-ghost use Rattle.find.specs.Answer.{heldOf, answerOf};
+ghost use Rattle.find.specs.Find.{searched, findIn};
+ghost use Rattle.find.specs.Answer.{foundNumbers, FoundNumbered};
 ghost use Rattle.find.specs.inner.Steps.{asStep, Fit, Ready, Walked};
 use graph::LEFT;
 use graph::on_side;
@@ -103,7 +103,8 @@ impl Walk {
 // From the end of the walk on seat s after h hops: the lot there if it is not above x, else its left neighbour.
 fn held(rec: &[u8], s: usize, h: u64, x: u64) -> Found
     requires { ⌜ (length (now rec) ≡ size) × (s < seats) × (h + 1 < 2 ^ 64) ⌝ }
-    ensures { λ r. ⌜ r ≡ heldOf (holderAt (seatsIn (now (rec .entry)) .number) (meaning (now (rec .entry)) .link) x s h) ⌝ }
+    ensures { λ r. ⌜ (foundNumbers r ≡ searched (holderAt (seatsIn (now (rec .entry)) .number) (meaning (now (rec .entry)) .link) x s h))
+        × FoundNumbered r ⌝ }
 {
     if record::number(rec, s) <= x {
         return Found::Holder(s as u8, h);
@@ -118,7 +119,8 @@ fn held(rec: &[u8], s: usize, h: u64, x: u64) -> Found
 // The search from the lot on seat s.
 fn search(rec: &[u8], s: usize, x: u64) -> Found
     requires { ⌜ Fit (now rec) × T (seated (seatsIn (now rec)) s) ⌝ }
-    ensures { λ r. ⌜ r ≡ heldOf (findOf (seatsIn (now (rec .entry)) .number) (meaning (now (rec .entry)) .link) x seats width s) ⌝ }
+    ensures { λ r. ⌜ (foundNumbers r ≡ searched (findOf (seatsIn (now (rec .entry)) .number) (meaning (now (rec .entry)) .link) x seats width s))
+        × FoundNumbered r ⌝ }
 {
     let w = Walk {
         seat: s,
@@ -131,7 +133,7 @@ fn search(rec: &[u8], s: usize, x: u64) -> Found
 
 // The lot that a scanned number belongs to, searched from the lot on a seat. Refused: 1, 2, 3, 8.
 pub fn find(rec: &[u8], seat: u8, number: u64) -> Found
-    ensures { λ r. ⌜ r ≡ answerOf (findIn (now (rec .entry)) seat number) ⌝ }
+    ensures { λ r. ⌜ (foundNumbers r ≡ findIn (now (rec .entry)) seat number) × FoundNumbered r ⌝ }
 {
     let n = reading::seated_refusal(rec, seat);
     if n != 0 {

@@ -17,7 +17,7 @@ ghost use Rattle.protocol.specs.pages.Join.{nobodyToContact};
 ghost use Rattle.record.specs.Layout.{seats, levels, numberSize, vectorSize, size, stateAt, numberFrom, vectorFrom, pendingFrom};
 ghost use Rattle.record.specs.Meaning.{seatsIn, meaning, bytesOf};
 ghost use Rattle.record.specs.Call.{callRefusal, called};
-ghost use Rattle.record.specs.Answer.{reply, replyOf};
+ghost use Rattle.record.specs.Answer.{outcome, Numbered};
 use messages::meet_place;
 use record::Answer;
 use record::LEAVING;
@@ -189,7 +189,7 @@ fn leave_refusal(rec: &[u8], seat: usize) -> u8
 // Seats a lot with that number and vector on a free seat, staying and without links, and sends the contact MEET about it; in a record
 // without lots the contact is 255. Refused by 1, 2, 3, 7, 4, 5, 6, in this order.
 pub fn join(rec: &mut [u8], seat: u8, number: u64, vector: u8, contact: u8) -> Answer
-    ensures { λ r. ⌜ reply r (now (rec .exit)) ≡ replyOf (called (now (rec .entry)) (joining seat number vector contact)) ⌝ }
+    ensures { λ r. ⌜ (outcome r (now (rec .exit)) ≡ called (now (rec .entry)) (joining seat number vector contact)) × Numbered r ⌝ }
 {
     let s = seat as usize;
     let c = contact as usize;
@@ -203,7 +203,7 @@ pub fn join(rec: &mut [u8], seat: u8, number: u64, vector: u8, contact: u8) -> A
 
 // Marks a staying lot as leaving. Refused by 1, 2, 3, 7, 8, 9, in this order.
 pub fn leave(rec: &mut [u8], seat: u8) -> Answer
-    ensures { λ r. ⌜ reply r (now (rec .exit)) ≡ replyOf (called (now (rec .entry)) (leaving seat)) ⌝ }
+    ensures { λ r. ⌜ (outcome r (now (rec .exit)) ≡ called (now (rec .entry)) (leaving seat)) × Numbered r ⌝ }
 {
     let s = seat as usize;
     let n = leave_refusal(rec, s);

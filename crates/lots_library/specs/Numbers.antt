@@ -4,15 +4,8 @@ use mathlib.Core.Bool.{cond}
 use lib.Dec.{eqb}
 use Rattle.base.specs.Loops.{oneIf}
 use Rattle.record.specs.Meaning.{linkByte}
-use Rattle.record.specs.declared.Answer.{Answer}
-use Rattle.record.specs.declared.Answer.the-variants.{Done, Refused}
 use Rattle.find.specs.Find.{FindAnswer}
 use Rattle.check_links.specs.Check.{CheckAnswer}
-
--- the refusal number, 0 if the call is accepted
-unfoldable pub answerNumber : Answer → ℕ
-answerNumber Done = 0
-answerNumber (Refused n) = n
 
 -- the holder's seat, or 255 for none; a refused answer's values are 0
 pub record FindNumbers : Type 0 where

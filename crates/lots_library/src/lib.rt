@@ -6,9 +6,10 @@ ghost use Rattle.protocol.specs.Message.{name};
 ghost use Rattle.protocol.specs.Calls.{join as joining, leave as leaving, deliver as delivering, turn as turning};
 ghost use Rattle.record.specs.Reading.{recordRefusal, openRefusal, openBytes, readLot, readLink, readMessage, readCounts};
 ghost use Rattle.record.specs.Call.{called};
+ghost use Rattle.record.specs.Answer.{numberOf};
 ghost use Rattle.find.specs.Find.{findIn};
 ghost use Rattle.check_links.specs.Check.{checkIn};
-ghost use Rattle.lots_library.specs.Numbers.{answerNumber, findNumbers, checkNumbers};
+ghost use Rattle.lots_library.specs.Numbers.{findNumbers, checkNumbers};
 
 pub mod next;
 
@@ -23,7 +24,7 @@ use record::NONE;
 
 // The number of an answer: 0 done, else the refusal.
 fn number_of(answer: Answer) -> u8
-    ensures { λ r. ⌜ r ≡ answerNumber answer ⌝ }
+    ensures { λ r. ⌜ r ≡ numberOf answer ⌝ }
 {
     match answer {
         Answer::Done => 0,

@@ -4,3 +4,4 @@ pub mod Placed
 pub mod Refusals
 pub mod Values
 pub mod NextValues
+pub mod Determined

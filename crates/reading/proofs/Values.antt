@@ -1,10 +1,9 @@
--- What the readings of an accepted record give, by its bytes; and a refused reading as its answer. Assumes nothing.
-use Prim.Native.Nat.{ℕ, zero, suc, _<_}
-use mathlib.Core.Path.{_≡_, refl, ap, _∙_}
+-- What the readings of an accepted record give, by its bytes; and what a refused one gives. Assumes nothing.
+use Prim.Native.Nat.{ℕ, _<_}
+use mathlib.Core.Path.{_≡_, ap, _∙_}
 use mathlib.Core.Logic.{_≢_, inl, inr, ⊎-elim}
-use mathlib.Core.Bool.{Bool, true, false}
+use mathlib.Core.Bool.{Bool}
 use mathlib.Core.List.{List}
-use lib.Dec.{eqb}
 use lib.ListN.{getD}
 use borrow.Author.Tests.{ne-eqb}
 use Rattle.memory.specs.Bytes.{numberAt}
@@ -23,9 +22,8 @@ use Rattle.record.proofs.Clauses.{Fits, sound-fits}
 use Rattle.record.proofs.Reading.{record-accepted, lot-read, link-read, message-read}
 use Rattle.reading.specs.declared.LotRead.the-variants as lot
 use Rattle.reading.specs.declared.LinkRead.the-variants as link
-use Rattle.reading.specs.declared.MessageRead.the-variants as message
 use Rattle.reading.specs.declared.CountsRead.the-variants as counts
-use Rattle.reading.specs.Answer.{lotOf, lotAnswered, linkOf, linkAnswered, messageOf, messageAnswered, countsOf, countsAnswered}
+use Rattle.reading.specs.Answer.{lotNumbers, linkNumbers, countNumbers}
 use Rattle.record.proofs.Refused.{Passed}
 use Rattle.reading.proofs.Refusals.{Lot, Held}
 
@@ -34,14 +32,12 @@ module _ (l : List ℕ) where
   fits a = sound-fits l .0 (a .fine)
 
   -- a lot
-  pub lot-refused : (s n : ℕ) → n ≡ lotRefusal l s → n ≢ 0 → lot.Refused n ≡ lotAnswered (readLot l s)
-  unfolding readLot lotAnswered lotOf
-  lot-refused s zero e h = absurd (h refl)
-  lot-refused s (suc n) e h = rw (← e, ne-eqb (suc n) 0 h)
+  pub lot-refused : (s : ℕ) {n : ℕ} → n ≡ lotRefusal l s → n ≢ 0 → record { refused = n; state = 0; number = 0; vector = 0 } ≡ readLot l s
+  unfolding readLot
+  lot-refused s {n} e h = rw (← e, ne-eqb n 0 h)
 
   pub lot-values : (s : ℕ) → Held l s
-      → lot.Seated (getD l (stateAt s) 0) (numberAt l (numberFrom s) numberSize) (numberAt l (vectorFrom s) vectorSize) ≡ lotAnswered (readLot l s)
-  unfolding lotAnswered lotOf
+      → lotNumbers (lot.Seated (getD l (stateAt s) 0) (numberAt l (numberFrom s) numberSize) (numberAt l (vectorFrom s) vectorSize)) ≡ readLot l s
   lot-values s a =
       let h = a .seat in
       let read = lot-read l (a .accepted .sized) (a .accepted .fine) s h (rw (meaning-seats l) (a .there)) in
@@ -49,14 +45,12 @@ module _ (l : List ℕ) where
       rw (read, meaning-state l s h, state, meaning-number l s h, meaning-vector l s h)
 
   -- a link
-  pub link-refused : (s k d n : ℕ) → n ≡ linkRefusal l s k d → n ≢ 0 → link.Refused n ≡ linkAnswered (readLink l s k d)
-  unfolding readLink linkAnswered linkOf
-  link-refused s k d zero e h = absurd (h refl)
-  link-refused s k d (suc n) e h = rw (← e, ne-eqb (suc n) 0 h)
+  pub link-refused : (s k d : ℕ) {n : ℕ} → n ≡ linkRefusal l s k d → n ≢ 0 → record { refused = n; seat = 0 } ≡ readLink l s k d
+  unfolding readLink
+  link-refused s k d {n} e h = rw (← e, ne-eqb n 0 h)
 
   pub link-values : (s k d : ℕ) → Lot l s → k < levels → d < 2
-      → link.Link (getD l (linkAt s k (sideOfNumber d)) 0) ≡ linkAnswered (readLink l s k d)
-  unfolding linkAnswered linkOf
+      → linkNumbers (link.Link (getD l (linkAt s k (sideOfNumber d)) 0)) ≡ readLink l s k d
   link-values s k d a g q =
       let h = a .seat in
       let side = sideOfNumber d in
@@ -66,26 +60,20 @@ module _ (l : List ℕ) where
       rw (← value, rw (sideNumber-side d q) at read)
 
   -- a message
-  pub message-refused : (m : Name) (n : ℕ) → n ≡ recordRefusal l → n ≢ 0 → message.Refused n ≡ messageAnswered (readMessage l m)
-  unfolding readMessage messageAnswered messageOf
-  message-refused m zero e h = absurd (h refl)
-  message-refused m (suc n) e h = rw (← e, ne-eqb (suc n) 0 h)
+  pub message-refused : (m : Name) {n : ℕ} → n ≡ recordRefusal l → n ≢ 0 → record { refused = n; pending = 0 } ≡ readMessage l m
+  unfolding readMessage
+  message-refused m {n} e h = rw (← e, ne-eqb n 0 h)
 
-  pub message-value : (m : Name) → Passed l → message.Pending (isPending (meaning l .pending) (named m)) ≡ messageAnswered (readMessage l m)
-  unfolding messageAnswered messageOf
-  message-value m a = rw (message-read l (a .sized) (a .fine) m) (ap message.Pending (one (isPending (meaning l .pending) (named m))))
-    where
-      one : (b : Bool) → b ≡ eqb (oneIf b) 1
-      one true = refl
-      one false = refl
+  pub message-value : (m : Name) {b : Bool} → b ≡ isPending (meaning l .pending) (named m) → Passed l
+      → record { refused = 0; pending = oneIf b } ≡ readMessage l m
+  message-value m e a = rw (message-read l (a .sized) (a .fine) m, e)
 
   -- the counts
-  pub counts-refused : (n : ℕ) → n ≡ recordRefusal l → n ≢ 0 → counts.Refused n ≡ countsAnswered (readCounts l)
-  unfolding readCounts countsAnswered countsOf
-  counts-refused zero e h = absurd (h refl)
-  counts-refused (suc n) e h = rw (← e, ne-eqb (suc n) 0 h)
+  pub counts-refused : {n : ℕ} → n ≡ recordRefusal l → n ≢ 0 → record { refused = n; lots = 0; phase = 0; pending = 0 } ≡ readCounts l
+  unfolding readCounts
+  counts-refused {n} e h = rw (← e, ne-eqb n 0 h)
 
   pub counts-values : Passed l
-      → counts.Counted (count seats (seated (seatsIn l))) (getD l phaseAt 0) (count messages (bitSet l pendingFrom)) ≡ countsAnswered (readCounts l)
-  unfolding readCounts countsAnswered countsOf seatsIn
+      → countNumbers (counts.Counted (count seats (seated (seatsIn l))) (getD l phaseAt 0) (count messages (bitSet l pendingFrom))) ≡ readCounts l
+  unfolding readCounts seatsIn
   counts-values a = rw (record-accepted l (a .sized) (a .fine), phaseByte-phaseOf (getD l phaseAt 0) (fits a .phase))

@@ -1,7 +1,7 @@
--- The answers of the readings as the code gives them, from the paper's numbers: refusal 0 gives the values, any other the refusal.
--- Assumes nothing.
-use Prim.Native.Nat.{ℕ, zero, suc, _<_}
-use lib.Dec.{eqb}
+-- The answers of the readings in document 01's numbers, by their cases: the refusal number, 0 if the reading is accepted, then the values,
+-- which are 0 if it is refused. A refusal has a number other than 0. Assumes nothing.
+use Prim.Native.Nat.{_<_}
+use Rattle.base.specs.Loops.{oneIf}
 use Rattle.protocol.specs.Message.{name}
 use Rattle.record.specs.Reading.{LotAnswer, LinkAnswer, MessageAnswer, CountAnswer, NextAnswer, nextAnswer}
 use Rattle.reading.specs.declared.LotRead.{LotRead}
@@ -16,44 +16,47 @@ use Rattle.reading.specs.declared.next.NextRead.{NextRead}
 use Rattle.reading.specs.declared.next.NextRead.the-variants as next
 
 -- a lot: state, number and vector
-unfoldable pub lotOf : (refused state number vector : ℕ) → LotRead
-lotOf zero s n v = lot.Seated s n v
-lotOf (suc r) s n v = lot.Refused (suc r)
+abbrev pub lotNumbers : LotRead → LotAnswer
+lotNumbers (lot.Refused n) = record { refused = n; state = 0; number = 0; vector = 0 }
+lotNumbers (lot.Seated s n v) = record { refused = 0; state = s; number = n; vector = v }
 
-unfoldable pub lotAnswered : LotAnswer → LotRead
-lotAnswered a = lotOf (a .refused) (a .state) (a .number) (a .vector)
+abbrev pub LotNumbered : LotRead → Type 0
+LotNumbered (lot.Refused n) = 0 < n
+LotNumbered (lot.Seated s n v) = Unit {0}
 
 -- a link: a seat or 255
-unfoldable pub linkOf : (refused seat : ℕ) → LinkRead
-linkOf zero s = link.Link s
-linkOf (suc r) s = link.Refused (suc r)
+abbrev pub linkNumbers : LinkRead → LinkAnswer
+linkNumbers (link.Refused n) = record { refused = n; seat = 0 }
+linkNumbers (link.Link s) = record { refused = 0; seat = s }
 
-unfoldable pub linkAnswered : LinkAnswer → LinkRead
-linkAnswered a = linkOf (a .refused) (a .seat)
+abbrev pub LinkNumbered : LinkRead → Type 0
+LinkNumbered (link.Refused n) = 0 < n
+LinkNumbered (link.Link s) = Unit {0}
 
--- a message: 1 is pending, 0 not
-unfoldable pub messageOf : (refused pending : ℕ) → MessageRead
-messageOf zero p = message.Pending (eqb p 1)
-messageOf (suc r) p = message.Refused (suc r)
+-- a message: 1 if it is pending, else 0
+abbrev pub messageNumbers : MessageRead → MessageAnswer
+messageNumbers (message.Refused n) = record { refused = n; pending = 0 }
+messageNumbers (message.Pending b) = record { refused = 0; pending = oneIf b }
 
-unfoldable pub messageAnswered : MessageAnswer → MessageRead
-messageAnswered a = messageOf (a .refused) (a .pending)
+abbrev pub MessageNumbered : MessageRead → Type 0
+MessageNumbered (message.Refused n) = 0 < n
+MessageNumbered (message.Pending b) = Unit {0}
 
 -- seated lots, phase and pending messages
-unfoldable pub countsOf : (refused lots phase pending : ℕ) → CountsRead
-countsOf zero n p m = counts.Counted n p m
-countsOf (suc r) n p m = counts.Refused (suc r)
+abbrev pub countNumbers : CountsRead → CountAnswer
+countNumbers (counts.Refused n) = record { refused = n; lots = 0; phase = 0; pending = 0 }
+countNumbers (counts.Counted n p m) = record { refused = 0; lots = n; phase = p; pending = m }
 
-unfoldable pub countsAnswered : CountAnswer → CountsRead
-countsAnswered a = countsOf (a .refused) (a .lots) (a .phase) (a .pending)
+abbrev pub CountsNumbered : CountsRead → Type 0
+CountsNumbered (counts.Refused n) = 0 < n
+CountsNumbered (counts.Counted n p m) = Unit {0}
 
--- document 01's number and values of the answer to the smallest pending message at or after five numbers: kind 0 if there is none
+-- the smallest pending message at or after five numbers: kind 0 if there is none, so a message has another
 abbrev pub nextNumbers : NextRead → NextAnswer
 nextNumbers (next.Refused n) = nextAnswer n (name 0 0 0 0 0)
 nextNumbers (next.Next k t a l s) = nextAnswer 0 (name k t a l s)
 nextNumbers next.Nothing = nextAnswer 0 (name 0 0 0 0 0)
 
--- a refusal has a number other than 0, a message a kind other than 0
 abbrev pub NextNumbered : NextRead → Type 0
 NextNumbered (next.Refused n) = 0 < n
 NextNumbered (next.Next k t a l s) = 0 < k

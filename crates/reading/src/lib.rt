@@ -2,9 +2,10 @@
 // call gives the number of the first row of the table that applies; readings change no byte.
 ghost use mathlib.Core.Path.{_≡_};
 ghost use Rattle.protocol.specs.Message.{name};
-ghost use Rattle.record.specs.Answer.{reply, answerOf};
+ghost use Rattle.record.specs.Answer.{numberOf, Numbered};
 ghost use Rattle.record.specs.Reading.{lotRefusal, seatedRefusal, linkRefusal, openRefusal, openBytes, readLot, readLink, readMessage, readCounts};
-ghost use Rattle.reading.specs.Answer.{lotAnswered, linkAnswered, messageAnswered, countsAnswered};
+ghost use Rattle.reading.specs.Answer.{lotNumbers, LotNumbered, linkNumbers, LinkNumbered};
+ghost use Rattle.reading.specs.Answer.{messageNumbers, MessageNumbered, countNumbers, CountsNumbered};
 
 mod counts;
 pub mod next;
@@ -91,7 +92,7 @@ pub fn link_refusal(rec: &[u8], seat: u8, level: u8, side: u8) -> u8
 
 // Writes the empty record in phase open. Refused: 1.
 pub fn open(rec: &mut [u8]) -> Answer
-    ensures { λ r. ⌜ reply r (now (rec .exit)) ≡ reply (answerOf (openRefusal (now (rec .entry)))) (openBytes (now (rec .entry))) ⌝ }
+    ensures { λ r. ⌜ (numberOf r ≡ openRefusal (now (rec .entry))) × (now (rec .exit) ≡ openBytes (now (rec .entry))) × Numbered r ⌝ }
 {
     if rec.len() != SIZE {
         return Answer::Refused(WRONG_SIZE);
@@ -103,7 +104,7 @@ pub fn open(rec: &mut [u8]) -> Answer
 
 // The lot on a seat. Refused: 1, 2, 3, 8.
 pub fn read_lot(rec: &[u8], seat: u8) -> LotRead
-    ensures { λ r. ⌜ r ≡ lotAnswered (readLot (now (rec .entry)) seat) ⌝ }
+    ensures { λ r. ⌜ (lotNumbers r ≡ readLot (now (rec .entry)) seat) × LotNumbered r ⌝ }
 {
     let n = lot_refusal(rec, seat);
     if n != 0 {
@@ -119,7 +120,7 @@ pub fn read_lot(rec: &[u8], seat: u8) -> LotRead
 
 // The link of a lot at a level, on side 0 left or 1 right. Refused: 1, 2, 3, 12, 8.
 pub fn read_link(rec: &[u8], seat: u8, level: u8, side: u8) -> LinkRead
-    ensures { λ r. ⌜ r ≡ linkAnswered (readLink (now (rec .entry)) seat level side) ⌝ }
+    ensures { λ r. ⌜ (linkNumbers r ≡ readLink (now (rec .entry)) seat level side) × LinkNumbered r ⌝ }
 {
     let n = link_refusal(rec, seat, level, side);
     if n != 0 {
@@ -130,7 +131,7 @@ pub fn read_link(rec: &[u8], seat: u8, level: u8, side: u8) -> LinkRead
 
 // Whether five numbers are a pending message. Refused: 1, 2.
 pub fn read_message(rec: &[u8], kind: u8, to: u8, about: u8, level: u8, side: u8) -> MessageRead
-    ensures { λ r. ⌜ r ≡ messageAnswered (readMessage (now (rec .entry)) (name kind to about level side)) ⌝ }
+    ensures { λ r. ⌜ (messageNumbers r ≡ readMessage (now (rec .entry)) (name kind to about level side)) × MessageNumbered r ⌝ }
 {
     let n = record_refusal(rec);
     if n != 0 {
@@ -151,7 +152,7 @@ pub fn read_message(rec: &[u8], kind: u8, to: u8, about: u8, level: u8, side: u8
 
 // Seated lots, phase and pending messages. Refused: 1, 2.
 pub fn read_counts(rec: &[u8]) -> CountsRead
-    ensures { λ r. ⌜ r ≡ countsAnswered (readCounts (now (rec .entry))) ⌝ }
+    ensures { λ r. ⌜ (countNumbers r ≡ readCounts (now (rec .entry))) × CountsNumbered r ⌝ }
 {
     if rec.len() != SIZE {
         return CountsRead::Refused(WRONG_SIZE);

@@ -1,7 +1,7 @@
 -- The refusal number of a changing call from its two parts, the record's and the table's; and what the call answers and leaves.
 -- Assumes nothing.
 use Prim.Native.Nat.{ℕ, zero, suc}
-use mathlib.Core.Path.{_≡_, refl, sym, _∙_}
+use mathlib.Core.Path.{_≡_, refl, sym, ap, _∙_}
 use mathlib.Core.Logic.{_≢_}
 use mathlib.Core.List.{List}
 use Rattle.memory.specs.Bytes.{AreBytes}
@@ -16,8 +16,7 @@ use Rattle.record.proofs.Sound.{sound-is}
 use Rattle.record.proofs.Refused.{Later, rows-passed, record-passed, record-stops, record-goes}
 use Rattle.record.specs.Call.{callRefusal, called}
 use Rattle.record.specs.Answer.{reply, answerOf, replyOf}
-use Rattle.record.specs.declared.Answer.{Answer}
-use Rattle.record.specs.declared.Answer.the-variants.{Done, Refused}
+use Rattle.record.specs.declared.Answer.the-variants.{Refused}
 
 -- what an accepted call is made on
 pub record Accepted (l : List ℕ) (c : Call) : Type 0 where
@@ -52,26 +51,23 @@ module _ (l : List ℕ) where
       let (h, k) = sound-is l (p .sized) b .0 (p .fine) in
       record { form = h; fine = k; row = r }
 
-  -- a refused call answers its number and leaves the bytes
-  pub reply-refused : (c : Call) {n : ℕ} {a : Answer} → n ≡ callRefusal l c → n ≢ 0 → a ≡ answerOf n → reply a l ≡ replyOf (called l c)
-  unfolding called replyOf unlessRefused
-  reply-refused c {n} e h q = rw (q, ← e) (by n h)
-    where
-      by : (n : ℕ) → n ≢ 0 → reply (answerOf n) l ≡ reply (answerOf n) (unlessRefused n l (bytesOf (accept seats width (meaning l) c)))
-      by zero h = absurd (h refl)
-      by (suc n) h = refl
+  -- a refused call, whose answer has the number m, leaves the bytes
+  pub outcome-refused : (c : Call) (n : ℕ) {m : ℕ} → n ≡ callRefusal l c → n ≢ 0 → m ≡ n → record { refused = m; after = l } ≡ called l c
+  unfolding called unlessRefused
+  outcome-refused c zero e h q = absurd (h refl)
+  outcome-refused c (suc n) e h q = rw (q, ← e)
 
   -- an accepted call leaves the bytes of the meaning after it
-  pub reply-done : (c : Call) {m : List ℕ} → callRefusal l c ≡ 0 → m ≡ bytesOf (accept seats width (meaning l) c)
-      → reply Done m ≡ replyOf (called l c)
-  unfolding called replyOf answerOf unlessRefused
-  reply-done c e h = rw (e, h)
+  pub outcome-done : (c : Call) {m : List ℕ} → callRefusal l c ≡ 0 → m ≡ bytesOf (accept seats width (meaning l) c)
+      → record { refused = 0; after = m } ≡ called l c
+  unfolding called unlessRefused
+  outcome-done c e h = rw (e, h)
 
-  -- so does a call on a record that is refused
+  -- a call on a record that is refused
   pub record-refused : (c : Call) {n : ℕ} → n ≡ recordRefusal l → n ≢ 0 → reply (Refused n) l ≡ replyOf (called l c)
-  unfolding answerOf
-  record-refused c {n} e h = reply-refused c (refused-early c e h) h (refused n h)
+  unfolding replyOf answerOf
+  record-refused c {n} e h = refused n h ∙ ap replyOf (outcome-refused c n (refused-early c e h) h refl)
     where
-      refused : (n : ℕ) → n ≢ 0 → Refused n ≡ answerOf n
+      refused : (n : ℕ) → n ≢ 0 → reply (Refused n) l ≡ replyOf (record { refused = n; after = l })
       refused zero h = absurd (h refl)
       refused (suc n) h = refl

@@ -18,3 +18,4 @@ pub mod Reading
 pub mod SeatBytes
 pub mod Call
 pub mod Accepted
+pub mod Determined

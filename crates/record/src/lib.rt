@@ -5,7 +5,7 @@ ghost use Prim.Native.Nat.{_<_};
 ghost use lib.ListN.{length, getD, set};
 ghost use Rattle.memory.specs.Bytes.{numberAt, putNumber};
 ghost use Rattle.memory.specs.Bits.{bitSet, setBit, clearBit};
-ghost use Rattle.record.specs.Answer.{answerOf};
+ghost use Rattle.record.specs.Answer.{numberOf, Numbered};
 ghost use Rattle.graph.specs.Side.{sideOfNumber};
 ghost use Rattle.record.specs.Layout.{seats, levels, messages, numberSize, vectorSize, size};
 ghost use Rattle.record.specs.Layout.{phaseAt, stateAt, numberFrom, vectorFrom, linkAt, pendingFrom};
@@ -193,7 +193,7 @@ pub enum Answer {
 
 // The answer from the refusal number, 0 if the call is accepted.
 pub fn answer_of(refused: u8) -> Answer
-    ensures { λ r. ⌜ r ≡ answerOf refused ⌝ }
+    ensures { λ r. ⌜ (numberOf r ≡ refused) × Numbered r ⌝ }
 {
     if refused == 0 {
         return Answer::Done;

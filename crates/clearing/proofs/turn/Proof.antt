@@ -6,7 +6,8 @@ use Rattle.protocol.specs.Calls.{turn}
 use Rattle.record.specs.Meaning.{meaning}
 use Rattle.record.proofs.Form.{Form}
 use Rattle.record.proofs.Round.{bytes-meaning}
-use Rattle.record.proofs.Accepted.{accepted, reply-refused, reply-done}
+use Rattle.record.specs.Answer.{numberOf}
+use Rattle.record.proofs.Accepted.{accepted, outcome-refused, outcome-done}
 use Rattle.clearing.proofs.Refused.{meaning-linked}
 use Rattle.clearing.proofs.turn.Statement.{statement}
 use Rattle.clearing.proofs.turn.Tie as tie
@@ -23,7 +24,9 @@ same-length c = search needs
 returns : tie.Need-returns
 returns c =
     let b = c .before .before in
-    reply-refused (b .before .before .before .args .rec .now) turn (b .turn-refusal .ensures) (c .before .if1 .taken) (c .answer-of .ensures)
+    let l = b .before .before .before .args .rec .now in
+    let e = outcome-refused l turn _ (b .turn-refusal .ensures) (c .before .if1 .taken) (c .answer-of .ensures .0) in
+    (e, c .answer-of .ensures .1)
 
 known : (c : tie.Else1) → Form (c .before .before .before .before .args .rec .now)
 known c =
@@ -37,11 +40,12 @@ same-length-2 : tie.Need-same-length-2
 same-length-2 c = search needs
 
 returns-2 : tie.Need-returns-2
+unfolding numberOf
 returns-2 c =
     let a = c .before .before .before .before in
     let l = a .before .before .before .before .args .rec .now in
-    reply-done l turn (sym (a .before .turn-refusal .ensures) ∙ a .if1 .left)
-    (c .before .before .carry-out .ensures (meaning l) (meaning-linked l) (sym (bytes-meaning (known a))))
+    let z = sym (a .before .turn-refusal .ensures) ∙ a .if1 .left in
+    (outcome-done l turn z (c .before .before .carry-out .ensures (meaning l) (meaning-linked l) (sym (bytes-meaning (known a)))), tt)
 
 pub turn-spec : {M : Type 1} → statement M
 turn-spec =

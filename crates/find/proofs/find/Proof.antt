@@ -1,32 +1,33 @@
 -- `find::find` meets its contract: the refusals of the start seat, then the search. Assumes nothing.
-use Prim.Native.Nat.{ℕ, zero, suc}
-use mathlib.Core.Path.{_≡_, refl, sym, _∙_}
+use Prim.Native.Nat.{ℕ}
+use mathlib.Core.Path.{_≡_, sym, _∙_}
 use mathlib.Core.Logic.{_≢_}
 use mathlib.Core.List.{List}
 use native.Mathlib.Omega.{arith}
 use borrow.Author.Needs.{needs}
+use lib.Dec.{T}
 use borrow.Author.Tests.{ne-eqb}
 use Rattle.graph.specs.Vector.{width}
+use Rattle.protocol.specs.State.{seated}
 use Rattle.record.specs.Layout.{seats}
 use Rattle.record.specs.Meaning.{seatsIn, meaning}
 use Rattle.record.specs.Reading.{seatedRefusal}
 use Rattle.search.specs.Walk.{find}
 use Rattle.reading.proofs.Refusals.{seated-passed}
 use Rattle.find.specs.declared.Found.the-variants.{Refused}
-use Rattle.find.specs.Find.{findIn}
-use Rattle.find.specs.Answer.{heldOf, foundOf, answerOf}
+use Rattle.find.specs.Find.{searched, findIn}
+use Rattle.find.specs.Answer.{foundNumbers}
+use Rattle.find.specs.inner.Steps.{Fit}
 use Rattle.find.proofs.Fits.{sound-fit}
 use Rattle.find.proofs.find.Statement.{statement}
 use Rattle.find.proofs.find.Tie as tie
 
-refusing : (l : List ℕ) (s x n : ℕ) → seatedRefusal l s ≡ n → n ≢ 0 → Refused n ≡ answerOf (findIn l s x)
-unfolding findIn answerOf foundOf
-refusing l s x zero e h = absurd (h refl)
-refusing l s x (suc n) e h = rw (e, ne-eqb (suc n) 0 h)
+refusing : (l : List ℕ) (s x n : ℕ) → seatedRefusal l s ≡ n → n ≢ 0 → foundNumbers (Refused n) ≡ findIn l s x
+unfolding findIn
+refusing l s x n e h = rw (e, ne-eqb n 0 h)
 
-accepting : (l : List ℕ) (s x : ℕ) → seatedRefusal l s ≡ 0
-    → heldOf (find (seatsIn l .number) (meaning l .link) x seats width s) ≡ answerOf (findIn l s x)
-unfolding findIn answerOf foundOf
+accepting : (l : List ℕ) (s x : ℕ) → seatedRefusal l s ≡ 0 → searched (find (seatsIn l .number) (meaning l .link) x seats width s) ≡ findIn l s x
+unfolding findIn
 accepting l s x e = rw e
 
 seated-refusal-requires : tie.Need-seated-refusal-requires
@@ -35,18 +36,22 @@ seated-refusal-requires c κs = search needs
 returns : tie.Need-returns
 returns c = let b = c .before .before .before in
     let e = c .before .seated-refusal .ensures in
-    refusing (b .args .rec .now) (b .args .seat) (b .args .number) (c .before .seated-refusal .result) (sym e) (c .if1 .taken)
+    let r = refusing (b .args .rec .now) (b .args .seat) (b .args .number) (c .before .seated-refusal .result) (sym e) (c .if1 .taken) in
+    (r, omega (arith, c .if1 .taken))
+
+-- no row applies: the search can start
+passed : (c : tie.Else1) → let a = c .before .before .before .args in Fit (a .rec .now) × T (seated (seatsIn (a .rec .now)) (a .seat))
+passed c =
+    let p = seated-passed _ _ (c .before .seated-refusal .ensures) (c .if1 .left) in
+    (sound-fit _ (p .accepted .sized) (λ j. omega (arith, c .before .before .shared-slice-known .given j)) (p .accepted .fine), p .lot)
 
 search-requires : tie.Need-search-requires
-search-requires c κs = let b = c .before .before .before in
-    let l = b .args .rec .now in
-    let p = seated-passed l (b .args .seat) (c .before .seated-refusal .ensures) (c .if1 .left) in
-    (sound-fit l (p .accepted .sized) (λ j. omega (arith, c .before .before .shared-slice-known .given j)) (p .accepted .fine), p .lot)
+search-requires c κs = passed c
 
 returns-2 : tie.Need-returns-2
 returns-2 c = let b = c .before .before .before .before in
     let e = sym (c .before .before .seated-refusal .ensures) ∙ c .before .if1 .left in
-    c .search .ensures ∙ accepting (b .args .rec .now) (b .args .seat) (b .args .number) e
+    (c .search .ensures .0 ∙ accepting (b .args .rec .now) (b .args .seat) (b .args .number) e, c .search .ensures .1)
 
 pub find-spec : {M : Type 1} → statement M
 find-spec = tie.close (tie.spec seated-refusal-requires returns search-requires returns-2)

@@ -2,7 +2,7 @@
 use mathlib.Core.Path.{sym, _∙_, ap}
 use native.Mathlib.Omega.{arith}
 use borrow.Author.Needs.{needs}
-use Rattle.find.specs.Answer.{heldOf}
+use Rattle.find.specs.Find.{searched}
 use Rattle.find.proofs.Steps.{start-ready, end-seat, end-hops, end-found}
 use Rattle.find.proofs.search.Statement.{statement}
 use Rattle.find.proofs.search.Tie as tie
@@ -25,7 +25,8 @@ held-requires c κs = let b = c .before .before in
 returns : tie.Need-returns
 returns c = let b = c .before .before .before in
     let a = c .before .advance in
-    c .held .ensures ∙ ap heldOf (sym (end-found (b .args .rec .now) (b .args .x) (b .args .s) (b .pre .0) (b .pre .1) (a .result) (a .ensures)))
+    let e = end-found (b .args .rec .now) (b .args .x) (b .args .s) (b .pre .0) (b .pre .1) (a .result) (a .ensures) in
+    (c .held .ensures .0 ∙ ap searched (sym e), c .held .ensures .1)
 
 pub search-spec : {M : Type 1} → statement M
 search-spec = tie.close (tie.spec sub-t6 advance-requires held-requires returns)

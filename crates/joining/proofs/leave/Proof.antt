@@ -3,7 +3,8 @@ use mathlib.Core.Path.{sym, _∙_}
 use native.Mathlib.Omega.{arith}
 use borrow.Author.Needs.{needs}
 use Rattle.protocol.specs.Calls.{leave}
-use Rattle.record.proofs.Accepted.{Accepted, accepted, reply-refused, reply-done}
+use Rattle.record.specs.Answer.{numberOf}
+use Rattle.record.proofs.Accepted.{Accepted, accepted, outcome-refused, outcome-done}
 use Rattle.joining.proofs.After.{leave-seat, leave-bytes}
 use Rattle.joining.proofs.leave.Statement.{statement}
 use Rattle.joining.proofs.leave.Tie as tie
@@ -21,7 +22,8 @@ returns : tie.Need-returns
 returns c =
     let b = c .before .before in
     let a = b .before .before .before .args in
-    reply-refused (a .rec .now) (leave (a .seat)) (b .leave-refusal .ensures) (c .before .if1 .taken) (c .answer-of .ensures)
+    let e = outcome-refused (a .rec .now) (leave (a .seat)) _ (b .leave-refusal .ensures) (c .before .if1 .taken) (c .answer-of .ensures .0) in
+    (e, c .answer-of .ensures .1)
 
 may-leave : (c : tie.Else1) → let a = c .before .before .before .before .args in Accepted (a .rec .now) (leave (a .seat))
 may-leave c =
@@ -36,12 +38,13 @@ same-length-2 : tie.Need-same-length-2
 same-length-2 c = search needs
 
 returns-2 : tie.Need-returns-2
+unfolding numberOf
 returns-2 c =
     let d = c .before .before .before .before in
     let b = d .before in
     let a = b .before .before .before .args in
-    reply-done (a .rec .now) (leave (a .seat)) (sym (b .leave-refusal .ensures) ∙ d .if1 .left)
-    (c .before .before .set-state .ensures ∙ sym (leave-bytes (may-leave d)))
+    let z = sym (b .leave-refusal .ensures) ∙ d .if1 .left in
+    (outcome-done (a .rec .now) (leave (a .seat)) z (c .before .before .set-state .ensures ∙ sym (leave-bytes (may-leave d))), tt)
 
 pub leave-spec : {M : Type 1} → statement M
 leave-spec =

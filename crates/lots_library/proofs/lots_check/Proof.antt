@@ -1,7 +1,8 @@
 -- `lots_library::lots_check` meets its contract. Assumes nothing.
-use mathlib.Core.Path.{sym, _∙_}
+use mathlib.Core.Path.{sym, ap, _∙_}
 use borrow.Author.Needs.{needs}
-use Rattle.lots_library.proofs.Numbers.{verdict-numbers}
+use Rattle.check_links.specs.Answer.{verdictNumbers}
+use Rattle.lots_library.specs.Numbers.{checkNumbers}
 use Rattle.lots_library.proofs.lots_check.Statement.{statement}
 use Rattle.lots_library.proofs.lots_check.Tie as tie
 
@@ -18,13 +19,16 @@ enum-told-2 : tie.Need-enum-told-2
 enum-told-2 c = search needs
 
 returns : tie.Need-returns
-returns c = verdict-numbers _ (sym (c .before .n .given .1) ∙ c .before .before .before .check .ensures)
+unfolding checkNumbers
+returns c = ap checkNumbers (ap verdictNumbers (sym (c .before .n .given .1)) ∙ c .before .before .before .check .ensures .0)
 
 returns-2 : tie.Need-returns-2
-returns-2 c = verdict-numbers _ (sym (c .enum-told .given .1) ∙ c .before .before .check .ensures)
+unfolding checkNumbers
+returns-2 c = ap checkNumbers (ap verdictNumbers (sym (c .enum-told .given .1)) ∙ c .before .before .check .ensures .0)
 
 returns-3 : tie.Need-returns-3
-returns-3 c = verdict-numbers _ (sym (c .enum-told2 .given .1) ∙ c .before .before .check .ensures)
+unfolding checkNumbers
+returns-3 c = ap checkNumbers (ap verdictNumbers (sym (c .enum-told2 .given .1)) ∙ c .before .before .check .ensures .0)
 
 pub lots-check-spec : {M : Type 1} → statement M
 lots-check-spec =

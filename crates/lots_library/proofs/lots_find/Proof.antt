@@ -1,7 +1,9 @@
 -- `lots_library::lots_find` meets its contract. Assumes nothing.
-use mathlib.Core.Path.{sym, _∙_}
+use mathlib.Core.Path.{sym, ap, _∙_, subst}
 use borrow.Author.Needs.{needs}
-use Rattle.lots_library.proofs.Numbers.{found-numbers}
+use Rattle.find.specs.Answer.{foundNumbers, FoundNumbered}
+use Rattle.lots_library.specs.Numbers.{findNumbers}
+use Rattle.lots_library.proofs.Numbers.{refused-numbers}
 use Rattle.lots_library.proofs.lots_find.Statement.{statement}
 use Rattle.lots_library.proofs.lots_find.Tie as tie
 
@@ -18,13 +20,18 @@ enum-known-h : tie.Need-enum-known-h
 enum-known-h c = search needs
 
 returns : tie.Need-returns
-returns c = found-numbers _ (sym (c .before .n .given .1) ∙ c .before .before .before .find .ensures)
+returns c =
+    let e = c .before .n .given .1 in
+    let f = c .before .before .before .find .ensures in
+    refused-numbers _ (subst FoundNumbered e (f .1)) ∙ ap findNumbers (ap foundNumbers (sym e) ∙ f .0)
 
 returns-2 : tie.Need-returns-2
-returns-2 c = found-numbers _ (sym (c .before .s .given .1) ∙ c .before .before .before .find .ensures)
+unfolding findNumbers
+returns-2 c = ap findNumbers (ap foundNumbers (sym (c .before .s .given .1)) ∙ c .before .before .before .find .ensures .0)
 
 returns-3 : tie.Need-returns-3
-returns-3 c = found-numbers _ (sym (c .before .h .given .1) ∙ c .before .before .before .find .ensures)
+unfolding findNumbers
+returns-3 c = ap findNumbers (ap foundNumbers (sym (c .before .h .given .1)) ∙ c .before .before .before .find .ensures .0)
 
 pub lots-find-spec : {M : Type 1} → statement M
 lots-find-spec =

@@ -1,6 +1,6 @@
 -- `lots_library::lots_open` meets its contract. Assumes nothing.
 use borrow.Author.Needs.{needs}
-use Rattle.lots_library.proofs.Numbers.{open-number}
+use mathlib.Core.Path.{_∙_}
 use Rattle.lots_library.proofs.lots_open.Statement.{statement}
 use Rattle.lots_library.proofs.lots_open.Tie as tie
 
@@ -14,7 +14,7 @@ same-length : tie.Need-same-length
 same-length c = search needs
 
 returns : tie.Need-returns
-returns c = open-number _ (c .before .before .before .open .ensures) (c .number-of .ensures)
+returns c = let e = c .before .before .before .open .ensures in (c .number-of .ensures ∙ e .0, e .1)
 
 pub lots-open-spec : {M : Type 1} → statement M
 lots-open-spec = tie.close (tie.spec open-requires number-of-requires same-length returns)

@@ -1,7 +1,7 @@
 -- `lots_library::lots_read_counts` meets its contract. Assumes nothing.
-use mathlib.Core.Path.{sym, _∙_}
+use mathlib.Core.Path.{sym, ap, _∙_}
 use borrow.Author.Needs.{needs}
-use Rattle.lots_library.proofs.Numbers.{count-numbers}
+use Rattle.reading.specs.Answer.{countNumbers}
 use Rattle.lots_library.proofs.lots_read_counts.Statement.{statement}
 use Rattle.lots_library.proofs.lots_read_counts.Tie as tie
 
@@ -15,10 +15,10 @@ enum-known-l : tie.Need-enum-known-l
 enum-known-l c = search needs
 
 returns : tie.Need-returns
-returns c = count-numbers _ (sym (c .before .n .given .1) ∙ c .before .before .before .read-counts .ensures)
+returns c = ap countNumbers (sym (c .before .n .given .1)) ∙ c .before .before .before .read-counts .ensures .0
 
 returns-2 : tie.Need-returns-2
-returns-2 c = count-numbers _ (sym (c .before .l .given .1) ∙ c .before .before .before .read-counts .ensures)
+returns-2 c = ap countNumbers (sym (c .before .l .given .1)) ∙ c .before .before .before .read-counts .ensures .0
 
 pub lots-read-counts-spec : {M : Type 1} → statement M
 lots-read-counts-spec =

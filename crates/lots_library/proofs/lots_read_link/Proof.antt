@@ -1,7 +1,7 @@
 -- `lots_library::lots_read_link` meets its contract. Assumes nothing.
-use mathlib.Core.Path.{sym, _∙_}
+use mathlib.Core.Path.{sym, ap, _∙_}
 use borrow.Author.Needs.{needs}
-use Rattle.lots_library.proofs.Numbers.{link-numbers}
+use Rattle.reading.specs.Answer.{linkNumbers}
 use Rattle.lots_library.proofs.lots_read_link.Statement.{statement}
 use Rattle.lots_library.proofs.lots_read_link.Tie as tie
 
@@ -15,10 +15,10 @@ enum-known-s : tie.Need-enum-known-s
 enum-known-s c = search needs
 
 returns : tie.Need-returns
-returns c = link-numbers _ _ _ _ (sym (c .before .n .given .1) ∙ c .before .before .before .read-link .ensures)
+returns c = ap linkNumbers (sym (c .before .n .given .1)) ∙ c .before .before .before .read-link .ensures .0
 
 returns-2 : tie.Need-returns-2
-returns-2 c = link-numbers _ _ _ _ (sym (c .before .s .given .1) ∙ c .before .before .before .read-link .ensures)
+returns-2 c = ap linkNumbers (sym (c .before .s .given .1)) ∙ c .before .before .before .read-link .ensures .0
 
 pub lots-read-link-spec : {M : Type 1} → statement M
 lots-read-link-spec =

@@ -1,7 +1,7 @@
 -- `lots_library::lots_read_lot` meets its contract. Assumes nothing.
-use mathlib.Core.Path.{sym, _∙_}
+use mathlib.Core.Path.{sym, ap, _∙_}
 use borrow.Author.Needs.{needs}
-use Rattle.lots_library.proofs.Numbers.{lot-numbers}
+use Rattle.reading.specs.Answer.{lotNumbers}
 use Rattle.lots_library.proofs.lots_read_lot.Statement.{statement}
 use Rattle.lots_library.proofs.lots_read_lot.Tie as tie
 
@@ -15,10 +15,10 @@ enum-known-s : tie.Need-enum-known-s
 enum-known-s c = search needs
 
 returns : tie.Need-returns
-returns c = lot-numbers _ _ (sym (c .before .n .given .1) ∙ c .before .before .before .read-lot .ensures)
+returns c = ap lotNumbers (sym (c .before .n .given .1)) ∙ c .before .before .before .read-lot .ensures .0
 
 returns-2 : tie.Need-returns-2
-returns-2 c = lot-numbers _ _ (sym (c .before .s .given .1) ∙ c .before .before .before .read-lot .ensures)
+returns-2 c = ap lotNumbers (sym (c .before .s .given .1)) ∙ c .before .before .before .read-lot .ensures .0
 
 pub lots-read-lot-spec : {M : Type 1} → statement M
 lots-read-lot-spec =

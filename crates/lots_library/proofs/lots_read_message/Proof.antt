@@ -1,7 +1,7 @@
 -- `lots_library::lots_read_message` meets its contract. Assumes nothing.
-use mathlib.Core.Path.{sym, _∙_}
+use mathlib.Core.Path.{sym, ap, _∙_}
 use borrow.Author.Needs.{needs}
-use Rattle.lots_library.proofs.Numbers.{message-numbers}
+use Rattle.reading.specs.Answer.{messageNumbers}
 use Rattle.lots_library.proofs.lots_read_message.Statement.{statement}
 use Rattle.lots_library.proofs.lots_read_message.Tie as tie
 
@@ -18,10 +18,10 @@ cast-pending : tie.Need-cast-pending
 cast-pending c = search needs
 
 returns : tie.Need-returns
-returns c = message-numbers _ _ (sym (c .before .n .given .1) ∙ c .before .before .before .read-message .ensures)
+returns c = ap messageNumbers (sym (c .before .n .given .1)) ∙ c .before .before .before .read-message .ensures .0
 
 returns-2 : tie.Need-returns-2
-returns-2 c = message-numbers _ _ (sym (c .before .p .given .1) ∙ c .before .before .before .read-message .ensures)
+returns-2 c = ap messageNumbers (sym (c .before .p .given .1)) ∙ c .before .before .before .read-message .ensures .0
 
 pub lots-read-message-spec : {M : Type 1} → statement M
 lots-read-message-spec =

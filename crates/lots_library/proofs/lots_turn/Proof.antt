@@ -1,6 +1,5 @@
 -- `lots_library::lots_turn` meets its contract. Assumes nothing.
 use borrow.Author.Needs.{needs}
-use Rattle.lots_library.proofs.Numbers.{outcome-number}
 use Rattle.lots_library.proofs.lots_turn.Statement.{statement}
 use Rattle.lots_library.proofs.lots_turn.Tie as tie
 
@@ -14,7 +13,7 @@ same-length : tie.Need-same-length
 same-length c = search needs
 
 returns : tie.Need-returns
-returns c = outcome-number _ (c .before .before .before .turn .ensures) (c .number-of .ensures)
+returns c = rw (c .number-of .ensures) (c .before .before .before .turn .ensures .0)
 
 pub lots-turn-spec : {M : Type 1} → statement M
 lots-turn-spec = tie.close (tie.spec turn-requires number-of-requires same-length returns)

@@ -1,6 +1,6 @@
 -- `lots_library::number_of` meets its contract. Assumes nothing.
 use borrow.Author.Needs.{needs}
-use Rattle.lots_library.specs.Numbers.{answerNumber}
+use Rattle.record.specs.Answer.{numberOf}
 use Rattle.lots_library.proofs.number_of.Statement.{statement}
 use Rattle.lots_library.proofs.number_of.Tie as tie
 
@@ -11,11 +11,11 @@ enum-known-answer : tie.Need-enum-known-answer
 enum-known-answer c = search needs
 
 returns : tie.Need-returns
-unfolding answerNumber
+unfolding numberOf
 returns c = rw (c .enum-told .given .1)
 
 returns-2 : tie.Need-returns-2
-unfolding answerNumber
+unfolding numberOf
 returns-2 c = rw (c .before .answer .given .1)
 
 pub number-of-spec : {M : Type 1} → statement M

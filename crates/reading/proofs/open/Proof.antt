@@ -1,10 +1,10 @@
 -- `reading::open` meets its contract: the bytes written are those of the opened record. Assumes nothing.
-use mathlib.Core.Path.{_≡_, ap, _∙_}
+use mathlib.Core.Path.{_≡_, _∙_}
+use native.Mathlib.Omega.{arith}
 use lib.ListN.{length}
 use borrow.Author.Tests.{eq-eqb, ne-eqb}
 use Rattle.protocol.specs.Refusals.{first}
-use Rattle.record.specs.Answer.{reply, answerOf}
-use Rattle.record.specs.declared.Answer.the-variants.{Done}
+use Rattle.record.specs.Answer.{numberOf}
 use Rattle.record.specs.Layout.{size}
 use Rattle.record.specs.Reading.{openRefusal, openBytes}
 use Rattle.record.proofs.Opened.{opened-bytes}
@@ -14,8 +14,8 @@ use Rattle.reading.proofs.open.Statement.{statement}
 use Rattle.reading.proofs.open.Tie as tie
 
 returns : tie.Need-returns
-unfolding openRefusal openBytes first answerOf
-returns c = rw (ne-eqb (length (c .before .before .args .rec .now)) size (c .if1 .taken))
+unfolding openRefusal openBytes first numberOf
+returns c = let e = ne-eqb (length (c .before .before .args .rec .now)) size (c .if1 .taken) in (rw e, rw e, omega arith)
 
 fill-requires : tie.Need-fill-requires
 fill-requires c κs = search needs
@@ -32,12 +32,12 @@ same-length : tie.Need-same-length
 same-length c = search needs
 
 returns-2 : tie.Need-returns-2
-unfolding openRefusal openBytes first answerOf
+unfolding openRefusal openBytes first numberOf
 returns-2 c =
     let b = c .before .before .before .before .before .before in
     let l = b .before .before .before .before .args .rec .now in
-    let e : length l ≡ size = b .before .before .if1 .left in
-    rw (eq-eqb (length l) size e) (ap (reply Done) (opened-bytes _ .1 (c .before .before .no-links .ensures)))
+    let e = eq-eqb (length l) size (b .before .before .if1 .left) in
+    (rw e, rw e (opened-bytes _ .1 (c .before .before .no-links .ensures)), tt)
 
 pub open-spec : {M : Type 1} → statement M
 open-spec = tie.close (tie.spec returns fill-requires no-links-requires same-length returns-2)

@@ -19,7 +19,7 @@ count-fits : (n : ℕ) (p : ℕ → Bool) {m : ℕ} → m ≡ count n p → n �
 count-fits n p e h = omega (arith, e, count-le n p)
 
 returns : tie.Need-returns
-returns c = counts-refused _ 1 (wrong-size _ (c .if1 .taken)) (λ e. omega arith)
+returns c = (counts-refused _ (wrong-size _ (c .if1 .taken)) (λ e. omega arith), omega arith)
 
 count-bits-requires : tie.Need-count-bits-requires
 count-bits-requires c κs = search needs
@@ -28,7 +28,7 @@ sized-refusal-requires : tie.Need-sized-refusal-requires
 sized-refusal-requires c κs = (search needs, λ e. count-fit _ (sym (c .count-bits .ensures) ∙ eqb-true _ 0 e))
 
 returns-2 : tie.Need-returns-2
-returns-2 c = counts-refused _ _ (c .before .sized-refusal .ensures) (c .if2 .taken)
+returns-2 c = (counts-refused _ (c .before .sized-refusal .ensures) (c .if2 .taken), omega (arith, c .if2 .taken))
 
 seated-lots-requires : tie.Need-seated-lots-requires
 seated-lots-requires c κs = search needs
@@ -42,8 +42,8 @@ cast-t8 c = record { fits = count-fits _ _ (c .before .before .before .before .c
 returns-3 : tie.Need-returns-3
 returns-3 c =
     let a = c .before .before in
-    rw (c .before .seated-lots .ensures, c .phase .ensures, a .before .before .count-bits .ensures)
-    (counts-values _ (record-passed _ (a .before .sized-refusal .ensures) (a .if2 .left)))
+    let p = record-passed _ (a .before .sized-refusal .ensures) (a .if2 .left) in
+    (rw (c .before .seated-lots .ensures, c .phase .ensures, a .before .before .count-bits .ensures) (counts-values _ p), tt)
 
 pub read-counts-spec : {M : Type 1} → statement M
 read-counts-spec =

@@ -1,4 +1,5 @@
 -- `reading::read_lot` meets its contract. Assumes nothing.
+use native.Mathlib.Omega.{arith}
 use borrow.Author.Needs.{needs}
 use Rattle.reading.proofs.Refusals.{Held, lot-passed}
 use Rattle.reading.proofs.Values.{lot-refused, lot-values}
@@ -13,7 +14,7 @@ lot-refusal-requires : tie.Need-lot-refusal-requires
 lot-refusal-requires c κs = search needs
 
 returns : tie.Need-returns
-returns c = lot-refused _ _ _ (c .before .lot-refusal .ensures) (c .if1 .taken)
+returns c = (lot-refused _ _ (c .before .lot-refusal .ensures) (c .if1 .taken), omega (arith, c .if1 .taken))
 
 state-requires : tie.Need-state-requires
 state-requires c κs = let p = passed c in (p .accepted .sized, p .seat)
@@ -26,7 +27,7 @@ vector-requires c κs = let p = passed (c .before .before) in (p .accepted .size
 
 returns-2 : tie.Need-returns-2
 returns-2 c =
-    rw (c .before .before .state .ensures, c .before .number .ensures, c .vector .ensures) (lot-values _ _ (passed (c .before .before .before)))
+    (rw (c .before .before .state .ensures, c .before .number .ensures, c .vector .ensures) (lot-values _ _ (passed (c .before .before .before))), tt)
 
 pub read-lot-spec : {M : Type 1} → statement M
 read-lot-spec =

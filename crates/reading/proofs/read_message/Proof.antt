@@ -1,7 +1,7 @@
 -- `reading::read_message` meets its contract. Assumes nothing.
 use borrow.Author.Needs.{needs}
-use mathlib.Core.Path.{sym, ap, _∙_}
-use Rattle.reading.specs.declared.MessageRead.the-variants.{Pending}
+use mathlib.Core.Path.{sym, _∙_}
+use native.Mathlib.Omega.{arith}
 use Rattle.reading.proofs.Placed.{place-below, no-place, pending-at}
 use Rattle.record.proofs.Refused.{Passed, record-passed}
 use Rattle.reading.proofs.Values.{message-refused, message-value}
@@ -16,13 +16,13 @@ record-refusal-requires : tie.Need-record-refusal-requires
 record-refusal-requires c κs = search needs
 
 returns : tie.Need-returns
-returns c = message-refused _ _ _ (c .before .record-refusal .ensures) (c .if1 .taken)
+returns c = (message-refused _ _ (c .before .record-refusal .ensures) (c .if1 .taken), omega (arith, c .if1 .taken))
 
 place-of-requires : tie.Need-place-of-requires
 place-of-requires c κs = search needs
 
 returns-2 : tie.Need-returns-2
-returns-2 c = ap Pending (sym (no-place _ _ (c .before .place-of .ensures) (c .if2 .taken))) ∙ message-value _ _ (passed (c .before .before))
+returns-2 c = (message-value _ _ (sym (no-place _ _ (c .before .place-of .ensures) (c .if2 .taken))) (passed (c .before .before)), tt)
 
 is-pending-requires : tie.Need-is-pending-requires
 is-pending-requires c κs = (passed (c .before .before) .sized, place-below _ (c .before .place-of .ensures) (c .if2 .left))
@@ -30,8 +30,8 @@ is-pending-requires c κs = (passed (c .before .before) .sized, place-below _ (c
 returns-3 : tie.Need-returns-3
 returns-3 c =
     let b = c .before in
-    ap Pending (c .is-pending .ensures ∙ sym (pending-at _ _ (b .before .place-of .ensures) (b .if2 .left)))
-    ∙ message-value _ _ (passed (b .before .before))
+    let p = passed (b .before .before) in
+    (message-value _ _ (c .is-pending .ensures ∙ sym (pending-at _ _ (b .before .place-of .ensures) (b .if2 .left))) p, tt)
 
 pub read-message-spec : {M : Type 1} → statement M
 read-message-spec =
