@@ -1,5 +1,5 @@
--- Places of messages among the pending bits, sides by their numbers, and the list of a meaning's bytes. Assumes nothing.
-use Prim.Native.Nat.{ℕ, zero, suc, _+_, _*_, _<_}
+-- The size of a record, places of messages among the pending bits, sides by their numbers, and the list of a meaning's bytes. Assumes nothing.
+use Prim.Native.Nat.{ℕ, zero, suc, _+_, _*_, _≤_, _<_}
 use mathlib.Core.Path.{_≡_, refl, sym, ap}
 use native.Mathlib.Omega.{arith}
 use lib.Dec.{T}
@@ -23,6 +23,10 @@ exists-at i h = exists-messageAt seats width i h
 
 pub place-at : (i : ℕ) → i < messages → place seats width (messageAt seats width i) ≡ i
 place-at i h = place-messageAt seats width i h
+
+-- document 01 allows a record of 32,768 bytes
+pub size-allowed : size ≤ 32768
+size-allowed = omega arith
 
 -- the pending bits are whole bytes
 pub messages-bits : messages ≡ pendingSize * byteBits
