@@ -1,8 +1,10 @@
--- The answer of a delivery on a record that is not refused: the message is not pending, or it is. Assumes nothing.
-use Prim.Native.Nat.{ℕ}
-use mathlib.Core.Path.{_≡_, refl, _∙_}
+-- What a delivery comes to: refused, by the record or because the message is not pending, or done. Assumes nothing.
+use Prim.Native.Nat.{ℕ, zero, suc}
+use mathlib.Core.Path.{_≡_, refl, sym, _∙_}
+use mathlib.Core.Logic.{_≢_}
 use mathlib.Core.Bool.{Bool, true, false, not}
 use mathlib.Core.List.{List, [], _∷_}
+use native.Mathlib.Omega.{arith}
 use Rattle.graph.specs.Vector.{width}
 use Rattle.protocol.specs.Message.{Name, named}
 use Rattle.protocol.specs.Calls.{deliver, rows, refusal, accept, unlessRefused}
@@ -11,22 +13,45 @@ use Rattle.protocol.specs.State.{isPending}
 use Rattle.record.specs.Layout.{seats}
 use Rattle.record.specs.Meaning.{meaning, bytesOf}
 use Rattle.record.specs.Reading.{recordRefusal}
-use Rattle.record.proofs.Refused.{record-passed}
 use Rattle.record.specs.Call.{callRefusal, called}
-use Rattle.record.specs.Answer.{reply, replyOf, answerOf}
+use Rattle.record.specs.Answer.{numberOf, Numbered, outcome}
+use Rattle.record.specs.declared.Answer.{Answer}
 use Rattle.record.specs.declared.Answer.the-variants.{Done, Refused}
+use Rattle.record.proofs.Refused.{record-passed}
+use Rattle.record.proofs.Accepted.{refused-early}
 use Rattle.record.proofs.Call.{record-accepted}
 
-module _ (l : List ℕ) (e : recordRefusal l ≡ 0) (n : Name) where
-  refusal-is : (b : Bool) → isPending (meaning l .pending) (named n) ≡ b → callRefusal l (deliver n) ≡ first (row 10 (not b) ∷ [])
-  unfolding refusal rows
-  refusal-is b p = let f = record-passed l refl e in record-accepted l (f .sized) (f .fine) (deliver n) ∙ rw p
+-- answer a and the bytes y are what the delivery of n on l comes to
+abbrev pub Told : (l : List ℕ) → Name → Answer → (y : List ℕ) → Type 0
+Told l n a y = (outcome a y ≡ called l (deliver n)) × Numbered a
 
-  pub not-pending : isPending (meaning l .pending) (named n) ≡ false → reply (Refused 10) l ≡ replyOf (called l (deliver n))
-  unfolding called replyOf answerOf unlessRefused first
-  not-pending p = rw (refusal-is false p)
+module _ (l : List ℕ) (n : Name) where
+  -- a refused call leaves the bytes
+  told-refused : (k : ℕ) → k ≡ callRefusal l (deliver n) → k ≢ 0 → Told l n (Refused k) l
+  unfolding called unlessRefused numberOf
+  told-refused zero e h = absurd (h refl)
+  told-refused (suc k) e h = (rw (← e), omega arith)
 
-  pub delivered : isPending (meaning l .pending) (named n) ≡ true
-      → reply Done (bytesOf (accept seats width (meaning l) (deliver n))) ≡ replyOf (called l (deliver n))
-  unfolding called replyOf answerOf unlessRefused first
-  delivered p = rw (refusal-is true p)
+  -- an accepted one leaves those of the meaning after it
+  told-done : {y : List ℕ} → callRefusal l (deliver n) ≡ 0 → y ≡ bytesOf (accept seats width (meaning l) (deliver n)) → Told l n Done y
+  unfolding called unlessRefused numberOf
+  told-done e h = (rw (e, h), tt)
+
+  -- the record is refused
+  pub refuse-record : {k : ℕ} → k ≡ recordRefusal l → k ≢ 0 → Told l n (Refused k) l
+  refuse-record {k} e h = told-refused k (refused-early l (deliver n) e h) h
+
+  -- it is not: the message is pending or not
+  module _ (fine : recordRefusal l ≡ 0) where
+    refusal-is : (b : Bool) → isPending (meaning l .pending) (named n) ≡ b → callRefusal l (deliver n) ≡ first (row 10 (not b) ∷ [])
+    unfolding refusal rows
+    refusal-is b p = let f = record-passed l refl fine in record-accepted l (f .sized) (f .fine) (deliver n) ∙ rw p
+
+    pub refuse-message : isPending (meaning l .pending) (named n) ≡ false → Told l n (Refused 10) l
+    unfolding first
+    refuse-message p = told-refused 10 (sym (refusal-is false p)) (λ e. omega arith)
+
+    pub delivered : {y : List ℕ} → isPending (meaning l .pending) (named n) ≡ true → y ≡ bytesOf (accept seats width (meaning l) (deliver n))
+        → Told l n Done y
+    unfolding first
+    delivered p h = told-done (refusal-is true p) h

@@ -9,7 +9,7 @@ use lib.Dec.{T, eqb}
 use Rattle.memory.specs.Bits.{clearBit}
 use Rattle.graph.specs.Side.{Side, onSide}
 use Rattle.graph.specs.Vector.{width}
-use Rattle.base.proofs.Tests.{T-true, true-T, or-left, some-inj, none-some}
+use Rattle.base.proofs.Tests.{T-true, or-left, some-inj, none-some}
 use Rattle.protocol.specs.Message.{Msg, meet, probe, pull, going, seek, found, none-found, Name, nameOf, named, among}
 use Rattle.protocol.specs.Numbering.{exists, place}
 use Rattle.protocol.specs.Rules.{Entry, Change, keep, set, Effect, sending, setting, meeting, effect}
@@ -32,10 +32,8 @@ use Rattle.record.proofs.Pending.{after-taken}
 use Rattle.record.proofs.Update.{withChange, withoutMessage, bytes-withLink, bytes-keep}
 use Rattle.record.specs.inner.Sent.{sentBits}
 use Rattle.record.proofs.Sent.{bytes-withoutMessage, bytes-sent}
-use Rattle.messages.specs.inner.Places.{placeOf}
-use Rattle.rules.specs.inner.Done.{changed, done, ruled}
+use Rattle.rules.specs.inner.Done.{changed, done}
 use Rattle.messages.proofs.Named.{two-below, three-below}
-use Rattle.messages.proofs.Placed.{placed}
 
 -- a change at a level that exists to a link that names a seat
 AtLevel : Change → Type 0
@@ -72,7 +70,7 @@ rule-level M (found t a l) x = let (_, g, h) = three-below t a l _ _ _ x in (h, 
 rule-level M (none-found t l d) x = (two-below t l _ _ x .1, names-none)
 
 -- `to` is a seat
-to-seat : (m : Msg) → T (exists seats width m) → nameOf m .to < seats
+pub to-seat : (m : Msg) → T (exists seats width m) → nameOf m .to < seats
 unfolding exists
 to-seat (meet t a l) x = three-below t a l _ _ _ x .0
 to-seat (probe t a l) x = three-below t a l _ _ _ x .0
@@ -111,43 +109,37 @@ sent-exists {M} h m t n q =
     after : Sound seats width (accept seats width M (deliver (nameOf m)))
     after = deliver-sound h (nameOf m) accepted
 
-module _ {l : List ℕ} (f : Form l) (h : Sound seats width (meaning l)) (n : Name) where
-  module _ (m : Msg) (q : named n ≡ some m) (t : T (meaning l .pending m)) where
-    abbrev M : Meaning
-    M = meaning l
+module _ {l : List ℕ} (f : Form l) (h : Sound seats width (meaning l)) (n : Name) (m : Msg) (q : named n ≡ some m) (t : T (meaning l .pending m)) where
+  abbrev M : Meaning
+  M = meaning l
 
-    abbrev N : Meaning
-    N = withoutMessage (meaning l) m
+  abbrev N : Meaning
+  N = withoutMessage (meaning l) m
 
-    taken : clearBit l pendingFrom (place seats width m) ≡ bytesOf (withoutMessage (meaning l) m)
-    taken =
-        ap (λ (b : List ℕ). clearBit b pendingFrom (place seats width m)) (sym (bytes-meaning f))
-        ∙ sym (bytes-withoutMessage (meaning l) m (exists-pending l m t))
+  taken : clearBit l pendingFrom (place seats width m) ≡ bytesOf (withoutMessage (meaning l) m)
+  taken =
+      ap (λ (b : List ℕ). clearBit b pendingFrom (place seats width m)) (sym (bytes-meaning f))
+      ∙ sym (bytes-withoutMessage (meaning l) m (exists-pending l m t))
 
-    -- the rule does not see that the message is taken
-    same-rule : rule width (meaning (clearBit l pendingFrom (place seats width m))) m ≡ rule width (meaning l) m
-    unfolding rule
-    same-rule =
-        ap (λ (b : List ℕ). rule width (meaning b) m) taken
-        ∙ ap (λ (X : Meaning). rule width X m) (meaning-bytes (without-sound h m))
+  -- the rule does not see that the message is taken
+  same-rule : rule width (meaning (clearBit l pendingFrom (place seats width m))) m ≡ rule width (meaning l) m
+  unfolding rule
+  same-rule =
+      ap (λ (b : List ℕ). rule width (meaning b) m) taken
+      ∙ ap (λ (X : Meaning). rule width X m) (meaning-bytes (without-sound h m))
 
-    rule-bytes : ruled (some m) (clearBit l pendingFrom (place seats width m)) ≡ bytesOf (accept seats width (meaning l) (deliver n))
-    unfolding ruled done
-    rule-bytes =
-        let s = nameOf m .to in
-        let e = rule width (meaning l) m in
-        ap (λ (x : Effect). done s x (clearBit l pendingFrom (place seats width m))) same-rule
-        ∙ ap (λ (b : List ℕ). done s e b) taken
-        ∙ ap (sentBits (e .sent)) (sym (bytes-changed N s (e .change) (to-seat m (exists-pending l m t)) (rule-level M m (exists-pending l m t))))
-        ∙ sym (bytes-sent (withChange N s (e .change)) (e .sent) (sent-exists h m t))
-        ∙ ap (λ (p : Msg → Bool). bytesOf (record { seats = M .seats; link = withChange N s (e .change) .link; pending = p }))
-        (sym (after-taken (e .sent) (some m) (M .pending)))
-        ∙ ap bytesOf (sym (accept-deliver seats width M n m q))
-
-  pub deliver-bytes : (o : Option Msg) → named n ≡ o → isPending (meaning l .pending) o ≡ true
-      → ruled o (clearBit l pendingFrom (placeOf o)) ≡ bytesOf (accept seats width (meaning l) (deliver n))
-  unfolding isPending
-  deliver-bytes none q p = absurd (true-T p)
-  deliver-bytes (some m) q p =
-      let t : T (meaning l .pending m) = true-T p in
-      ap (λ (i : ℕ). ruled (some m) (clearBit l pendingFrom i)) (placed m (exists-pending l m t)) ∙ rule-bytes m q t
+  -- x is the record after the message is taken
+  pub deliver-bytes : {x : List ℕ} → x ≡ clearBit l pendingFrom (place seats width m)
+      → done (nameOf m .to) (rule width (meaning x) m) x ≡ bytesOf (accept seats width (meaning l) (deliver n))
+  unfolding done
+  deliver-bytes e =
+      let s = nameOf m .to in
+      let r = rule width (meaning l) m in
+      ap (λ (x : List ℕ). done s (rule width (meaning x) m) x) e
+      ∙ ap (λ (x : Effect). done s x (clearBit l pendingFrom (place seats width m))) same-rule
+      ∙ ap (λ (b : List ℕ). done s r b) taken
+      ∙ ap (sentBits (r .sent)) (sym (bytes-changed N s (r .change) (to-seat m (exists-pending l m t)) (rule-level M m (exists-pending l m t))))
+      ∙ sym (bytes-sent (withChange N s (r .change)) (r .sent) (sent-exists h m t))
+      ∙ ap (λ (p : Msg → Bool). bytesOf (record { seats = M .seats; link = withChange N s (r .change) .link; pending = p }))
+      (sym (after-taken (r .sent) (some m) (M .pending)))
+      ∙ ap bytesOf (sym (accept-deliver seats width M n m q))

@@ -1,64 +1,83 @@
--- The steps of `deliver`, from what its code has tested: r is the record's refusal and i the message's place. Assumes nothing.
-use Prim.Native.Nat.{ℕ, _<_}
-use mathlib.Core.Path.{_≡_, refl, sym, ap, _∙_}
-use mathlib.Core.Logic.{_≢_}
-use mathlib.Core.Bool.{true, false}
+-- The steps of a kind's handler, from what its code has tested: whether the numbers fit the kind, and whether the message is pending.
+-- Assumes nothing.
+use Prim.Native.Nat.{ℕ}
+use mathlib.Core.Path.{_≡_, refl, sym, _∙_, subst}
+use mathlib.Core.Option.{none, some}
+use mathlib.Core.Bool.{Bool, true, false, cond, _&&_}
 use mathlib.Core.List.{List}
 use lib.Dec.{T}
-use lib.ListN.{length, length-set}
+use lib.ListN.{length}
 use Rattle.memory.specs.Bytes.{AreBytes}
 use Rattle.memory.specs.Bits.{bitSet, clearBit}
-use Rattle.protocol.specs.Message.{Name, named}
-use Rattle.protocol.specs.Calls.{deliver}
+use Rattle.graph.specs.Vector.{width}
+use Rattle.base.proofs.Tests.{true-T}
+use Rattle.protocol.specs.Message.{Msg, Name, name, nameOf, named}
+use Rattle.protocol.specs.Numbering.{exists, place}
 use Rattle.protocol.specs.State.{isPending}
-use Rattle.record.specs.Layout.{messages, pendingFrom, size}
+use Rattle.protocol.specs.pages.Deliver.{rule}
+use Rattle.record.specs.Layout.{seats, pendingFrom, size}
 use Rattle.record.specs.Meaning.{meaning}
 use Rattle.record.specs.Reading.{recordRefusal}
+use Rattle.record.specs.declared.Answer.the-variants.{Done, Refused}
 use Rattle.record.proofs.Sound.{sound-is}
 use Rattle.record.proofs.Refused.{record-passed}
-use Rattle.record.specs.Call.{called}
-use Rattle.record.specs.Answer.{reply, replyOf}
-use Rattle.record.specs.declared.Answer.the-variants.{Done, Refused}
-use Rattle.record.proofs.Accepted.{record-refused}
-use Rattle.messages.specs.inner.Places.{placeOf, isMessage}
-use Rattle.rules.specs.inner.Done.{ruled}
-use Rattle.messages.proofs.Placed.{place-message, message-place, pending-bit, no-place}
-use Rattle.delivery.proofs.Answers.{not-pending, delivered}
+use Rattle.messages.proofs.Named.{when}
+use Rattle.rules.specs.inner.Done.{done}
+use Rattle.delivery.proofs.ByKind.{Kind}
+use Rattle.delivery.proofs.Answers.{Told, refuse-message, delivered}
 use Rattle.delivery.proofs.Delivered.{deliver-bytes}
 
-module _ (l : List ℕ) (n : Name) (r : ℕ) (er : r ≡ recordRefusal l) where
-  pub refuse-record : r ≢ 0 → reply (Refused r) l ≡ replyOf (called l (deliver n))
-  refuse-record ne = record-refused l (deliver n) er ne
+-- a record that is not refused has the size
+pub sized : (l : List ℕ) → recordRefusal l ≡ 0 → length l ≡ size
+sized l fine = record-passed l refl fine .sized
 
-  module _ (zero-r : r ≡ 0) (i : ℕ) (ei : i ≡ placeOf (named n)) where
-    fine : recordRefusal l ≡ 0
-    fine = sym er ∙ zero-r
+-- a message under a condition is pending: the condition holds, it exists, and its bit is set
+pending-when : (l : List ℕ) (b : Bool) (m : Msg)
+    → isPending (meaning l .pending) (when b m) ≡ ((b && exists seats width m) && bitSet l pendingFrom (place seats width m))
+unfolding isPending meaning
+pending-when l true m = refl
+pending-when l false m = refl
 
-    pub refuse-numbers : i ≡ messages → reply (Refused 10) l ≡ replyOf (called l (deliver n))
-    refuse-numbers e = not-pending l fine n (no-place l (named n) (sym ei ∙ e))
+-- a message under a condition that is pending is that message
+named-is : (l : List ℕ) (n : Name) (b : Bool) (m : Msg) → named n ≡ when b m → isPending (meaning l .pending) (named n) ≡ true
+    → (named n ≡ some m) × T (meaning l .pending m)
+unfolding isPending
+named-is l n true m e q = (e, true-T (rw e at q))
+named-is l n false m e q = absurd (true-T (rw e at q))
 
-    module _ (ne : i ≢ messages) where
-      pub is-message : T (isMessage (named n))
-      is-message = place-message (named n) (λ q. ne (ei ∙ q))
+-- f says whether the numbers fit
+module _ (l : List ℕ) (fine : recordRefusal l ≡ 0) {n : Name} {m : Msg} {f : Bool} (k : Kind n m f) where
+  pending-is : isPending (meaning l .pending) (named n) ≡ (f && bitSet l pendingFrom (place seats width m))
+  pending-is = rw (k .is-named, k .tests) (pending-when l (k .condition) m)
 
-      pub place-fits : (length l ≡ size) × (i < messages)
-      place-fits = (record-passed l refl fine .sized, rw ei (message-place (named n) is-message))
+  -- they do not
+  pub misfit : f ≡ false → Told l n (Refused 10) l
+  misfit e = refuse-message l n fine (pending-is ∙ rw e)
 
-      pub taken-fits : (x : List ℕ) → x ≡ clearBit l pendingFrom i → length x ≡ size
-      taken-fits x e = ap length e ∙ simp length-set (place-fits .0)
+  -- they do: i is the place of the message, p says whether it is pending, and x is the record once it is taken away
+  module _ (fits : f ≡ true) {i : ℕ} {p : Bool} {x : List ℕ} (ei : i ≡ place seats width m) (ep : p ≡ bitSet l pendingFrom i)
+      (ex : x ≡ cond p (clearBit l pendingFrom i) l) where
+    bit-is : isPending (meaning l .pending) (named n) ≡ p
+    bit-is = pending-is ∙ rw (fits, ← ei, ← ep)
 
-      bit-is : isPending (meaning l .pending) (named n) ≡ bitSet l pendingFrom i
-      bit-is = pending-bit l (named n) is-message ∙ ap (bitSet l pendingFrom) (sym ei)
+    -- it is not pending
+    pub idle : p ≡ false → Told l n (Refused 10) x
+    idle e = subst (λ (y : List ℕ). Told l n (Refused 10) y) (sym (ex ∙ rw e)) (refuse-message l n fine (bit-is ∙ e))
 
-      pub refuse-message : bitSet l pendingFrom i ≡ false → reply (Refused 10) l ≡ replyOf (called l (deliver n))
-      refuse-message e = not-pending l fine n (bit-is ∙ e)
+    -- it is, and y is the record after its rule
+    pub carried-out : AreBytes l → p ≡ true → {y : List ℕ} → y ≡ done (nameOf m .to) (rule width (meaning x) m) x → Told l n Done y
+    carried-out bs e ey =
+        let r = record-passed l refl fine in
+        let s = sound-is l (r .sized) bs .0 (r .fine) in
+        let q = bit-is ∙ e in
+        let h = named-is l n (k .condition) m (k .is-named) q in
+        delivered l n fine q (ey ∙ deliver-bytes (s .0) (s .1) n m (h .0) (h .1) (ex ∙ rw (e, ei)))
 
-      -- x is the record after the message is taken, y after its rule
-      pub do-message : AreBytes l → bitSet l pendingFrom i ≡ true → (x y : List ℕ) → x ≡ clearBit l pendingFrom i → y ≡ ruled (named n) x
-          → reply Done y ≡ replyOf (called l (deliver n))
-      do-message b e x y ex ey =
-          let f = record-passed l refl fine in
-          let s = sound-is l (f .sized) b .0 (f .fine) in
-          let p : isPending (meaning l .pending) (named n) ≡ true = bit-is ∙ e in
-          ap (reply Done) (ey ∙ ap (ruled (named n)) (ex ∙ ap (clearBit l pendingFrom) ei) ∙ deliver-bytes (s .0) (s .1) n (named n) refl p)
-          ∙ delivered l fine n p
+-- a kind that is none
+pub named-zero : {k : ℕ} (t a l s : ℕ) → k ≡ 0 → named (name k t a l s) ≡ none
+unfolding named
+named-zero t a l s e = rw e
+
+pub refuse-kind : (l : List ℕ) (n : Name) → recordRefusal l ≡ 0 → named n ≡ none → Told l n (Refused 10) l
+unfolding isPending
+refuse-kind l n fine e = refuse-message l n fine (rw e)

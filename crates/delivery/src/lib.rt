@@ -1,18 +1,36 @@
 // Delivery over a lent record (document 01, "Messages", "Calls" and "Refused calls"). The answer and the bytes left are those of record's
 // specs/Call.antt.
 ghost use mathlib.Core.Path.{_≡_};
-ghost use lib.Dec.{T};
+ghost use mathlib.Core.Bool.{cond};
+ghost use Prim.Native.Nat.{_<_};
 ghost use lib.ListN.{length};
-ghost use Rattle.protocol.specs.Message.{name, named};
+ghost use Rattle.memory.specs.Bits.{bitSet, clearBit};
+ghost use Rattle.graph.specs.Side.{sideOfNumber};
+ghost use Rattle.graph.specs.Vector.{width};
+ghost use Rattle.protocol.specs.Message.{name, found as foundOf, none-found};
+ghost use Rattle.protocol.specs.pages.Deliver.{rule};
 ghost use Rattle.protocol.specs.Calls.{deliver as delivering};
-ghost use Rattle.record.specs.Layout.{size};
+ghost use Rattle.record.specs.Layout.{seats, levels, messages, pendingFrom, size};
+ghost use Rattle.record.specs.Meaning.{meaning};
+ghost use Rattle.record.specs.Reading.{recordRefusal};
 ghost use Rattle.record.specs.Call.{called};
-ghost use Rattle.record.specs.Answer.{reply, replyOf};
-ghost use Rattle.messages.specs.inner.Places.{isMessage};
-ghost use Rattle.rules.specs.inner.Done.{ruled};
-use messages::place_of;
+ghost use Rattle.record.specs.Answer.{Numbered, outcome};
+ghost use Rattle.rules.specs.inner.Done.{done};
+use messages::found_place;
+use messages::going_place;
+use messages::meet_place;
+use messages::none_place;
+use messages::pair_fits;
+use messages::probe_place;
+use messages::pull_fits;
+use messages::pull_place;
+use messages::seek_place;
+use messages::side_fits;
 use record::Answer;
-use record::MESSAGES;
+use record::ENTRIES;
+use record::ENTRY;
+use record::LEVELS;
+use record::WIDTH;
 use record::refusals::NO_SUCH_MESSAGE;
 use rules::found;
 use rules::going;
@@ -23,27 +41,144 @@ use rules::pull;
 use rules::seek;
 use soundness::record_refusal;
 
-// The rule of the message that five numbers name.
-fn handle(rec: &mut [u8], kind: u8, to: usize, about: usize, level: usize, side: usize)
-    requires { ⌜ (length (now rec) ≡ size) × T (isMessage (named (name kind to about level side))) ⌝ }
-    ensures { λ _. ⌜ now (rec .exit) ≡ ruled (named (name kind to about level side)) (now (rec .entry)) ⌝ }
+// Takes the message at place i away if it is pending, and says whether it was.
+fn take_pending(rec: &mut [u8], i: usize) -> bool
+    requires { ⌜ (length (now rec) ≡ size) × (i < messages) ⌝ }
+    ensures { λ r. ⌜ (r ≡ bitSet (now (rec .entry)) pendingFrom i)
+        × (now (rec .exit) ≡ cond r (clearBit (now (rec .entry)) pendingFrom i) (now (rec .entry))) ⌝ }
 {
-    match kind {
-        1 => meet(rec, to, about, level),
-        2 => probe(rec, to, about, level),
-        3 => pull(rec, to, about, level, side),
-        4 => going(rec, to, level, side),
-        5 => seek(rec, to, about, level),
-        6 => found(rec, to, about, level),
-        7 => none(rec, to, level, side),
-        0 | 8..=255 => {}
+    if record::is_pending(rec, i) {
+        record::take(rec, i);
+        return true;
     }
+    false
+}
+
+// FOUND, lent the entry of `to` alone.
+fn lend_found(rec: &mut [u8], to: usize, about: usize, level: usize)
+    requires { ⌜ (length (now rec) ≡ size) × (to < seats) × (about < seats) × (level < levels) ⌝ }
+    ensures { λ _. ⌜ now (rec .exit) ≡ done to (rule width (meaning (now (rec .entry))) (foundOf to about level)) (now (rec .entry)) ⌝ }
+{
+    let number = record::number(rec, about);
+    let a = ENTRIES + ENTRY * to;
+    let e = a + ENTRY;
+    found(&mut rec[a..e], about, number, level);
+}
+
+// NONE, lent the entry of `to` alone.
+fn lend_none(rec: &mut [u8], to: usize, level: usize, side: usize)
+    requires { ⌜ (length (now rec) ≡ size) × (to < seats) × (level < levels) × (side < 2) ⌝ }
+    ensures { λ _. ⌜ now (rec .exit) ≡ done to (rule width (meaning (now (rec .entry))) (none-found to level (sideOfNumber side))) (now (rec .entry)) ⌝ }
+{
+    let a = ENTRIES + ENTRY * to;
+    let e = a + ENTRY;
+    none(&mut rec[a..e], level, side);
+}
+
+// The kinds, each on a record that is not refused: the numbers fit the kind and the message is pending, or it is refused; it is taken away,
+// and its rule is done.
+fn deliver_meet(rec: &mut [u8], to: usize, about: usize, level: usize, side: usize) -> Answer
+    requires { ⌜ recordRefusal (now rec) ≡ 0 ⌝ }
+    ensures { λ r. ⌜ (outcome r (now (rec .exit)) ≡ called (now (rec .entry)) (delivering (name 1 to about level side))) × Numbered r ⌝ }
+{
+    if !pair_fits(to, about, level, side, LEVELS) {
+        return Answer::Refused(NO_SUCH_MESSAGE);
+    }
+    if !take_pending(rec, meet_place(to, about, level)) {
+        return Answer::Refused(NO_SUCH_MESSAGE);
+    }
+    meet(rec, to, about, level);
+    Answer::Done
+}
+
+fn deliver_probe(rec: &mut [u8], to: usize, about: usize, level: usize, side: usize) -> Answer
+    requires { ⌜ recordRefusal (now rec) ≡ 0 ⌝ }
+    ensures { λ r. ⌜ (outcome r (now (rec .exit)) ≡ called (now (rec .entry)) (delivering (name 2 to about level side))) × Numbered r ⌝ }
+{
+    if !pair_fits(to, about, level, side, WIDTH) {
+        return Answer::Refused(NO_SUCH_MESSAGE);
+    }
+    if !take_pending(rec, probe_place(to, about, level)) {
+        return Answer::Refused(NO_SUCH_MESSAGE);
+    }
+    probe(rec, to, about, level);
+    Answer::Done
+}
+
+fn deliver_pull(rec: &mut [u8], to: usize, about: usize, level: usize, side: usize) -> Answer
+    requires { ⌜ recordRefusal (now rec) ≡ 0 ⌝ }
+    ensures { λ r. ⌜ (outcome r (now (rec .exit)) ≡ called (now (rec .entry)) (delivering (name 3 to about level side))) × Numbered r ⌝ }
+{
+    if !pull_fits(to, about, level, side) {
+        return Answer::Refused(NO_SUCH_MESSAGE);
+    }
+    if !take_pending(rec, pull_place(to, about, level, side)) {
+        return Answer::Refused(NO_SUCH_MESSAGE);
+    }
+    pull(rec, to, about, level, side);
+    Answer::Done
+}
+
+fn deliver_going(rec: &mut [u8], to: usize, about: usize, level: usize, side: usize) -> Answer
+    requires { ⌜ recordRefusal (now rec) ≡ 0 ⌝ }
+    ensures { λ r. ⌜ (outcome r (now (rec .exit)) ≡ called (now (rec .entry)) (delivering (name 4 to about level side))) × Numbered r ⌝ }
+{
+    if !side_fits(to, about, level, side) {
+        return Answer::Refused(NO_SUCH_MESSAGE);
+    }
+    if !take_pending(rec, going_place(to, level, side)) {
+        return Answer::Refused(NO_SUCH_MESSAGE);
+    }
+    going(rec, to, level, side);
+    Answer::Done
+}
+
+fn deliver_seek(rec: &mut [u8], to: usize, about: usize, level: usize, side: usize) -> Answer
+    requires { ⌜ recordRefusal (now rec) ≡ 0 ⌝ }
+    ensures { λ r. ⌜ (outcome r (now (rec .exit)) ≡ called (now (rec .entry)) (delivering (name 5 to about level side))) × Numbered r ⌝ }
+{
+    if !pair_fits(to, about, level, side, LEVELS) {
+        return Answer::Refused(NO_SUCH_MESSAGE);
+    }
+    if !take_pending(rec, seek_place(to, about, level)) {
+        return Answer::Refused(NO_SUCH_MESSAGE);
+    }
+    seek(rec, to, about, level);
+    Answer::Done
+}
+
+fn deliver_found(rec: &mut [u8], to: usize, about: usize, level: usize, side: usize) -> Answer
+    requires { ⌜ recordRefusal (now rec) ≡ 0 ⌝ }
+    ensures { λ r. ⌜ (outcome r (now (rec .exit)) ≡ called (now (rec .entry)) (delivering (name 6 to about level side))) × Numbered r ⌝ }
+{
+    if !pair_fits(to, about, level, side, LEVELS) {
+        return Answer::Refused(NO_SUCH_MESSAGE);
+    }
+    if !take_pending(rec, found_place(to, about, level)) {
+        return Answer::Refused(NO_SUCH_MESSAGE);
+    }
+    lend_found(rec, to, about, level);
+    Answer::Done
+}
+
+fn deliver_none(rec: &mut [u8], to: usize, about: usize, level: usize, side: usize) -> Answer
+    requires { ⌜ recordRefusal (now rec) ≡ 0 ⌝ }
+    ensures { λ r. ⌜ (outcome r (now (rec .exit)) ≡ called (now (rec .entry)) (delivering (name 7 to about level side))) × Numbered r ⌝ }
+{
+    if !side_fits(to, about, level, side) {
+        return Answer::Refused(NO_SUCH_MESSAGE);
+    }
+    if !take_pending(rec, none_place(to, level, side)) {
+        return Answer::Refused(NO_SUCH_MESSAGE);
+    }
+    lend_none(rec, to, level, side);
+    Answer::Done
 }
 
 // Delivers the message that five numbers name: it is taken away, and its rule is done. Refused: 1 wrong size, 2 unsound, 10 no such
 // message.
 pub fn deliver(rec: &mut [u8], kind: u8, to: u8, about: u8, level: u8, side: u8) -> Answer
-    ensures { λ r. ⌜ reply r (now (rec .exit)) ≡ replyOf (called (now (rec .entry)) (delivering (name kind to about level side))) ⌝ }
+    ensures { λ r. ⌜ (outcome r (now (rec .exit)) ≡ called (now (rec .entry)) (delivering (name kind to about level side))) × Numbered r ⌝ }
 {
     let refused = record_refusal(rec);
     if refused != 0 {
@@ -53,14 +188,14 @@ pub fn deliver(rec: &mut [u8], kind: u8, to: u8, about: u8, level: u8, side: u8)
     let about = about as usize;
     let level = level as usize;
     let side = side as usize;
-    let place = place_of(kind, to, about, level, side);
-    if place == MESSAGES {
-        return Answer::Refused(NO_SUCH_MESSAGE);
+    match kind {
+        1 => deliver_meet(rec, to, about, level, side),
+        2 => deliver_probe(rec, to, about, level, side),
+        3 => deliver_pull(rec, to, about, level, side),
+        4 => deliver_going(rec, to, about, level, side),
+        5 => deliver_seek(rec, to, about, level, side),
+        6 => deliver_found(rec, to, about, level, side),
+        7 => deliver_none(rec, to, about, level, side),
+        0 | 8..=255 => Answer::Refused(NO_SUCH_MESSAGE),
     }
-    if !record::is_pending(rec, place) {
-        return Answer::Refused(NO_SUCH_MESSAGE);
-    }
-    record::take(rec, place);
-    handle(rec, kind, to, about, level, side);
-    Answer::Done
 }

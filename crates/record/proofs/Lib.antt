@@ -4,6 +4,7 @@ pub mod Cells
 pub mod Values
 pub mod Form
 pub mod Links
+pub mod Lent
 pub mod Round
 pub mod Frame
 pub mod Pending

@@ -5,5 +5,6 @@ pub mod Meaning
 pub mod Sound
 pub mod Reading
 pub mod Call
+pub mod Local
 pub mod Answer
 pub mod inner

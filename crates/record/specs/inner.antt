@@ -2,3 +2,4 @@
 pub mod Cell
 pub mod Sent
 pub mod Opened
+pub mod Entry

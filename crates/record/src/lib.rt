@@ -10,6 +10,7 @@ ghost use Rattle.graph.specs.Side.{sideOfNumber};
 ghost use Rattle.record.specs.Layout.{seats, levels, messages, numberSize, vectorSize, size};
 ghost use Rattle.record.specs.Layout.{phaseAt, stateAt, numberFrom, vectorFrom, linkAt, pendingFrom};
 
+pub mod fields;
 pub mod lots;
 pub mod refusals;
 
@@ -158,7 +159,9 @@ pub fn set_link(rec: &mut [u8], s: usize, k: usize, d: usize, v: u8)
     requires { ⌜ (length (now rec) ≡ size) × (s < seats) × (k < levels) × (d < 2) ⌝ }
     ensures { λ _. ⌜ now (rec .exit) ≡ set (now (rec .entry)) (linkAt s k (sideOfNumber d)) v ⌝ }
 {
-    rec[ENTRIES + ENTRY * s + LINKS_AT + 2 * k + d] = v;
+    let a = ENTRIES + ENTRY * s;
+    let e = a + ENTRY;
+    fields::set_link(&mut rec[a..e], k, d, v);
 }
 
 // Whether the message at place i is pending.

@@ -2,3 +2,4 @@
 pub mod Sides
 pub mod Sends
 pub mod Linked
+pub mod Written

@@ -1,23 +1,27 @@
-// The rules of the seven kinds, one handler for each (document 01, "Messages"). Each leaves the bytes that the protocol's rule of the
-// message gives: specs/Done.antt, of `rule` in protocol's specs/Calls.antt. No handler asks that the record is sound.
+// The rules of the seven kinds, one handler for each (document 01, "Messages"). Those that write, MEET's set, FOUND and NONE, are lent the
+// entry of `to` alone and write in it; the others read and send, and leave the bytes that the protocol's rule gives: specs/inner/Done.antt, of
+// `rule` in protocol's specs/pages/Deliver.antt. No handler asks that the record is sound.
 ghost use mathlib.Core.Path.{_≡_};
 ghost use mathlib.Core.Bool.{not, cond};
 ghost use mathlib.Core.List.{[], _∷_};
 ghost use Prim.Native.Nat.{_<_};
 ghost use lib.Dec.{eqb, ltb};
-ghost use lib.ListN.{length};
+ghost use lib.ListN.{length, set};
+ghost use Rattle.memory.specs.Bytes.{numberAt};
 ghost use Rattle.graph.specs.Vector.{width, bit as bitAt};
-ghost use Rattle.protocol.specs.Message.{meet as meetOf, probe as probeOf, pull as pullOf, going as goingOf, seek as seekOf, found as foundOf, none-found};
+ghost use Rattle.protocol.specs.Message.{meet as meetOf, probe as probeOf, pull as pullOf, going as goingOf, seek as seekOf};
 ghost use Rattle.protocol.specs.Rules.{toLink, setting as settingOf};
 ghost use Rattle.protocol.specs.State.{entry as entryOf};
 ghost use Rattle.protocol.specs.pages.Deliver.{rule};
-ghost use Rattle.record.specs.Layout.{seats, levels, size};
+ghost use Rattle.record.specs.Layout.{seats, levels, noLink, numberSize, numberOffset, entrySize, size};
 ghost use Rattle.record.specs.Meaning.{meaning, linkOf};
-ghost use Rattle.graph.specs.Side.{sideOfNumber};
+ghost use Rattle.graph.specs.Side.{sideOf, sideOfNumber};
+ghost use Rattle.record.specs.inner.Entry.{linkIn};
 ghost use Rattle.record.specs.inner.Sent.{sentBits};
 ghost use Rattle.rules.specs.inner.Done.{done};
+ghost use Rattle.rules.specs.inner.Entry.{IsSet};
 
-mod writes;
+mod to_link;
 
 use graph::bit;
 use messages::found_place;
@@ -25,19 +29,43 @@ use messages::meet_place;
 use messages::none_place;
 use messages::probe_place;
 use messages::seek_place;
+use record::ENTRIES;
+use record::ENTRY;
 use record::NONE;
 use record::SEATS;
 use record::WIDTH;
+use record::fields;
 use record::lots::beyond;
 use record::lots::is_staying;
 use record::lots::link;
 use record::lots::share;
 use record::lots::side_of;
-use writes::meet_about_link;
-use writes::probe_link;
-use writes::pull_link;
-use writes::put_link;
-use writes::seek_link;
+use to_link::meet_about_link;
+use to_link::probe_link;
+use to_link::pull_link;
+use to_link::seek_link;
+
+// What the messages of MEET need of the entry of `to` as it was before the set: the link that was there, that on the other side, and the
+// vector.
+pub struct Before {
+    pub old: u8,
+    pub other: u8,
+    pub vector: u8,
+}
+
+// 1 MEET, in the entry of `to`: its link on side d is set to `about`.
+fn meet_set(entry: &mut [u8], about: usize, level: usize, d: usize) -> Before
+    requires { ⌜ (length (now entry) ≡ entrySize) × (about < seats) × (level < levels) × (d < 2) ⌝ }
+    ensures { λ r. ⌜ IsSet (now (entry .entry)) (now (entry .exit)) about level (sideOfNumber d) r ⌝ }
+{
+    let before = Before {
+        old: fields::link(entry, level, d),
+        other: fields::link(entry, level, 1 - d),
+        vector: fields::vector(entry),
+    };
+    fields::set_link(entry, level, d, about as u8);
+    before
+}
 
 // 1 MEET, after a set below the highest level: PROBE to `about`, and PULL to the link on the other side, along that side, for the opposite
 // of the bit of `to`.
@@ -61,20 +89,21 @@ fn spread(
     }
 }
 
-// 1 MEET, the link is set to `about`.
+// 1 MEET, the link is set to `about`: the entry of `to` is lent for it, then the messages are sent.
 fn setting(rec: &mut [u8], to: usize, about: usize, level: usize, d: usize)
     requires { ⌜ (length (now rec) ≡ size) × (to < seats) × (about < seats) × (level < levels) × (d < 2) ⌝ }
     ensures { λ _. ⌜ now (rec .exit) ≡ done to (settingOf width (meaning (now (rec .entry)) .seats .number) (meaning (now (rec .entry)) .seats .vector)
         (entryOf (meaning (now (rec .entry))) to) to about level (sideOfNumber d)) (now (rec .entry)) ⌝ }
 {
+    let a = ENTRIES + ENTRY * to;
+    let e = a + ENTRY;
+    let before = meet_set(&mut rec[a..e], about, level, d);
+    let old = before.old as usize;
+    let other = before.other as usize;
     let away = 1 - d;
-    let old = link(rec, to, level, d);
-    let other = link(rec, to, level, away);
-    let vector = record::vector(rec, to);
-    put_link(rec, to, level, d, about as u8);
     record::send(rec, meet_place(about, to, level));
     meet_about_link(rec, about, old, level);
-    spread(rec, to, about, level, vector, other, away);
+    spread(rec, to, about, level, before.vector, other, away);
 }
 
 // 1 MEET: the link is `about`, nothing; it is nearer, it gets the MEET; otherwise it is set.
@@ -159,19 +188,20 @@ pub fn seek(rec: &mut [u8], to: usize, about: usize, level: usize)
     record::send(rec, none_place(about, level, d));
 }
 
-// 6 FOUND: set the link on the side of `about` to it.
-pub fn found(rec: &mut [u8], to: usize, about: usize, level: usize)
-    requires { ⌜ (length (now rec) ≡ size) × (to < seats) × (about < seats) × (level < levels) ⌝ }
-    ensures { λ _. ⌜ now (rec .exit) ≡ done to (rule width (meaning (now (rec .entry))) (foundOf to about level)) (now (rec .entry)) ⌝ }
+// 6 FOUND, in the entry of `to`: its link on the side of `about`, a lot with that number, is set to it.
+pub fn found(entry: &mut [u8], about: usize, number: u64, level: usize)
+    requires { ⌜ (length (now entry) ≡ entrySize) × (about < seats) × (level < levels) ⌝ }
+    ensures { λ _. ⌜ now (entry .exit)
+        ≡ set (now (entry .entry)) (linkIn level (sideOf (numberAt (now (entry .entry)) numberOffset numberSize) number)) about ⌝ }
 {
-    let d = side_of(rec, to, about);
-    put_link(rec, to, level, d, about as u8);
+    let d = graph::side_of(fields::number(entry), number);
+    fields::set_link(entry, level, d, about as u8);
 }
 
-// 7 NONE: set the link on the side to none.
-pub fn none(rec: &mut [u8], to: usize, level: usize, side: usize)
-    requires { ⌜ (length (now rec) ≡ size) × (to < seats) × (level < levels) × (side < 2) ⌝ }
-    ensures { λ _. ⌜ now (rec .exit) ≡ done to (rule width (meaning (now (rec .entry))) (none-found to level (sideOfNumber side))) (now (rec .entry)) ⌝ }
+// 7 NONE, in the entry of `to`: its link on the side is set to none.
+pub fn none(entry: &mut [u8], level: usize, side: usize)
+    requires { ⌜ (length (now entry) ≡ entrySize) × (level < levels) × (side < 2) ⌝ }
+    ensures { λ _. ⌜ now (entry .exit) ≡ set (now (entry .entry)) (linkIn level (sideOfNumber side)) noLink ⌝ }
 {
-    put_link(rec, to, level, side, NONE);
+    fields::set_link(entry, level, side, NONE);
 }

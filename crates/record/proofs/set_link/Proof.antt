@@ -1,49 +1,52 @@
--- `record::set_link` meets its contract: the side is given by its number. Assumes nothing.
-use Prim.Native.Nat.{ℕ}
-use mathlib.Core.Path.{ap}
-use lib.ListN.{set}
-use Rattle.record.proofs.Places.{linkAt-number}
+-- `record::set_link` meets its contract: a link written in the entry is that link of the record. Assumes nothing.
+use mathlib.Core.Path.{ap, _∙_}
+use Rattle.graph.specs.Side.{sideOfNumber}
+use Rattle.record.proofs.Lent.{lentBack, set-lent}
 use borrow.Author.Needs.{needs}
 use Rattle.record.proofs.set_link.Statement.{statement}
 use Rattle.record.proofs.set_link.Tie as tie
 
-mul-rec : tie.Need-mul-rec
-mul-rec c = search needs
+mul-a : tie.Need-mul-a
+mul-a c = search needs
 
-add-rec : tie.Need-add-rec
-add-rec c = search needs
+add-a : tie.Need-add-a
+add-a c = search needs
 
-add-rec-2 : tie.Need-add-rec-2
-add-rec-2 c = search needs
+add-e : tie.Need-add-e
+add-e c = search needs
 
-mul-rec-2 : tie.Need-mul-rec-2
-mul-rec-2 c = search needs
+sub-set-link : tie.Need-sub-set-link
+sub-set-link c = search needs
 
-add-rec-3 : tie.Need-add-rec-3
-add-rec-3 c = search needs
+part-set-link-start : tie.Need-part-set-link-start
+part-set-link-start c = search needs
 
-add-rec-4 : tie.Need-add-rec-4
-add-rec-4 c = search needs
+part-set-link-end : tie.Need-part-set-link-end
+part-set-link-end c = search needs
 
-slice-write-rec : tie.Need-slice-write-rec
-slice-write-rec c = search needs
+set-link-requires : tie.Need-set-link-requires
+set-link-requires c κs = search needs
 
 same-length : tie.Need-same-length
 same-length c = search needs
 
 returns : tie.Need-returns
-returns c = let a = c .args in ap (λ (n : ℕ). set (a .rec .now) n (a .v)) (linkAt-number (a .s) (a .k) (a .d) (c .pre .3))
+returns c =
+    let b = c .before .before .before .before .before in
+    let a = b .args in
+    ap (lentBack (a .rec .now) (a .s)) (c .before .before .set-link .ensures)
+    ∙ set-lent (a .rec .now) (a .s) (a .k) (sideOfNumber (a .d)) (b .pre .2) (a .v) (b .pre .1) (b .pre .0)
 
 pub set-link-spec : {M : Type 1} → statement M
 set-link-spec =
     tie.close
     (tie.spec
-    mul-rec
-    add-rec
-    add-rec-2
-    mul-rec-2
-    add-rec-3
-    add-rec-4
-    slice-write-rec
+    mul-a
+    add-a
+    add-e
+    sub-set-link
+    part-set-link-start
+    part-set-link-end
+    set-link-requires
     same-length
     returns)

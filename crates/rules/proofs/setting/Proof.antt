@@ -1,26 +1,38 @@
--- `rules::setting` meets its contract: what it writes follows from what it read first. Assumes nothing.
+-- `rules::setting` meets its contract: what it sends follows from what the entry had. Assumes nothing.
 use borrow.Author.Needs.{needs}
 use Rattle.rules.proofs.Linked.{setting-done}
 use Rattle.rules.proofs.setting.Statement.{statement}
 use Rattle.rules.proofs.setting.Tie as tie
 
+mul-a : tie.Need-mul-a
+mul-a c = search needs
+
+add-a : tie.Need-add-a
+add-a c = search needs
+
+add-e : tie.Need-add-e
+add-e c = search needs
+
+sub-meet-set : tie.Need-sub-meet-set
+sub-meet-set c = search needs
+
+part-meet-set-start : tie.Need-part-meet-set-start
+part-meet-set-start c = search needs
+
+part-meet-set-end : tie.Need-part-meet-set-end
+part-meet-set-end c = search needs
+
+meet-set-requires : tie.Need-meet-set-requires
+meet-set-requires c κs = search needs
+
+cast-old : tie.Need-cast-old
+cast-old c = search needs
+
+cast-other : tie.Need-cast-other
+cast-other c = search needs
+
 sub-away : tie.Need-sub-away
 sub-away c = search needs
-
-link-requires : tie.Need-link-requires
-link-requires c κs = search needs
-
-link-requires-2 : tie.Need-link-requires-2
-link-requires-2 c κs = search needs
-
-vector-requires : tie.Need-vector-requires
-vector-requires c κs = search needs
-
-cast-put-link : tie.Need-cast-put-link
-cast-put-link c = search needs
-
-put-link-requires : tie.Need-put-link-requires
-put-link-requires c κs = search needs
 
 meet-place-requires : tie.Need-meet-place-requires
 meet-place-requires c κs = search needs
@@ -41,17 +53,15 @@ returns : tie.Need-returns
 returns c =
     let m = c .before .before .before .before .before .before in
     let s = m .before .before .before .before in
-    let p = s .before .before .before .before .before in
-    let v = p .before .before in
-    let b = v .before .before .before .before .before .before .before in
+    let e = s .before .before .before .before .before .before .before in
+    let b = e .before .before .before in
     let a = b .args in
-    setting-done (a .rec .now) (a .about) (a .level) _ _
+    setting-done (a .rec .now) (a .to) (a .about) (a .level) (a .d) _
     (b .pre .1)
+    (b .pre .3)
+    (b .pre .0)
     (b .pre .4)
-    (v .before .before .before .before .link .ensures)
-    (v .before .before .link2 .ensures)
-    (v .vector .ensures)
-    (p .put-link .ensures)
+    (e .meet-set .ensures)
     (s .before .meet-place .ensures .0)
     (s .send .ensures)
     (m .meet-about-link .ensures)
@@ -61,12 +71,16 @@ pub setting-spec : {M : Type 1} → statement M
 setting-spec =
     tie.close
     (tie.spec
+    mul-a
+    add-a
+    add-e
+    sub-meet-set
+    part-meet-set-start
+    part-meet-set-end
+    meet-set-requires
+    cast-old
+    cast-other
     sub-away
-    link-requires
-    link-requires-2
-    vector-requires
-    cast-put-link
-    put-link-requires
     meet-place-requires
     send-requires
     meet-about-link-requires

@@ -1,12 +1,12 @@
-// What the rules write: a link of the entry of `to`, and messages to a link, if there is one.
+// What the rules send to a link, if there is one.
 ghost use mathlib.Core.Path.{_≡_};
-ghost use Prim.Native.Nat.{_+_, _*_, _<_};
+ghost use Prim.Native.Nat.{_<_};
 ghost use lib.Dec.{eqb};
-ghost use lib.ListN.{length, set};
+ghost use lib.ListN.{length};
 ghost use Rattle.graph.specs.Vector.{width};
 ghost use Rattle.protocol.specs.Message.{meet, probe, pull, seek};
 ghost use Rattle.protocol.specs.Rules.{toLink};
-ghost use Rattle.record.specs.Layout.{seats, levels, linksOffset, entrySize, size, linkAt};
+ghost use Rattle.record.specs.Layout.{seats, levels, size};
 ghost use Rattle.record.specs.Meaning.{linkOf};
 ghost use Rattle.graph.specs.Side.{sideOfNumber};
 ghost use Rattle.record.specs.inner.Sent.{sentBits};
@@ -14,28 +14,7 @@ use messages::meet_place;
 use messages::probe_place;
 use messages::pull_place;
 use messages::seek_place;
-use record::ENTRIES;
-use record::ENTRY;
-use record::LINKS_AT;
 use record::SEATS;
-
-// Writes the link at level k on side d in an entry.
-fn put_in_entry(entry: &mut [u8], k: usize, d: usize, v: u8)
-    requires { ⌜ (length (now entry) ≡ entrySize) × (k < levels) × (d < 2) ⌝ }
-    ensures { λ _. ⌜ now (entry .exit) ≡ set (now (entry .entry)) (linksOffset + 2 * k + d) v ⌝ }
-{
-    entry[LINKS_AT + 2 * k + d] = v;
-}
-
-// Writes the link of seat s at level k on side d: its entry alone is lent on.
-pub fn put_link(rec: &mut [u8], s: usize, k: usize, d: usize, v: u8)
-    requires { ⌜ (length (now rec) ≡ size) × (s < seats) × (k < levels) × (d < 2) ⌝ }
-    ensures { λ _. ⌜ now (rec .exit) ≡ set (now (rec .entry)) (linkAt s k (sideOfNumber d)) v ⌝ }
-{
-    let a = ENTRIES + ENTRY * s;
-    let e = a + ENTRY;
-    put_in_entry(&mut rec[a..e], k, d, v);
-}
 
 // MEET to a lot about the link z.
 pub fn meet_about_link(rec: &mut [u8], to: usize, z: usize, level: usize)

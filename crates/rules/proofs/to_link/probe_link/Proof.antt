@@ -1,8 +1,8 @@
--- `rules::writes::probe_link` meets its contract: a byte that is a seat is a link. Assumes nothing.
+-- `rules::to_link::probe_link` meets its contract: a byte that is a seat is a link. Assumes nothing.
 use borrow.Author.Needs.{needs}
 use Rattle.rules.proofs.Sends.{send-link, send-no-link}
-use Rattle.rules.proofs.writes.probe_link.Statement.{statement}
-use Rattle.rules.proofs.writes.probe_link.Tie as tie
+use Rattle.rules.proofs.to_link.probe_link.Statement.{statement}
+use Rattle.rules.proofs.to_link.probe_link.Tie as tie
 
 probe-place-requires : tie.Need-probe-place-requires
 probe-place-requires c κs = search needs

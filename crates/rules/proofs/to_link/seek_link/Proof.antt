@@ -1,8 +1,8 @@
--- `rules::writes::seek_link` meets its contract: a byte that is a seat is a link. Assumes nothing.
+-- `rules::to_link::seek_link` meets its contract: a byte that is a seat is a link. Assumes nothing.
 use borrow.Author.Needs.{needs}
 use Rattle.rules.proofs.Sends.{send-link, send-no-link}
-use Rattle.rules.proofs.writes.seek_link.Statement.{statement}
-use Rattle.rules.proofs.writes.seek_link.Tie as tie
+use Rattle.rules.proofs.to_link.seek_link.Statement.{statement}
+use Rattle.rules.proofs.to_link.seek_link.Tie as tie
 
 seek-place-requires : tie.Need-seek-place-requires
 seek-place-requires c κs = search needs

@@ -1,8 +1,8 @@
--- `rules::writes::meet_about_link` meets its contract: a byte that is a seat is a link. Assumes nothing.
+-- `rules::to_link::meet_about_link` meets its contract: a byte that is a seat is a link. Assumes nothing.
 use borrow.Author.Needs.{needs}
 use Rattle.rules.proofs.Sends.{send-link, send-no-link}
-use Rattle.rules.proofs.writes.meet_about_link.Statement.{statement}
-use Rattle.rules.proofs.writes.meet_about_link.Tie as tie
+use Rattle.rules.proofs.to_link.meet_about_link.Statement.{statement}
+use Rattle.rules.proofs.to_link.meet_about_link.Tie as tie
 
 meet-place-requires : tie.Need-meet-place-requires
 meet-place-requires c κs = search needs

@@ -1,8 +1,8 @@
--- `rules::writes::pull_link` meets its contract: a byte that is a seat is a link. Assumes nothing.
+-- `rules::to_link::pull_link` meets its contract: a byte that is a seat is a link. Assumes nothing.
 use borrow.Author.Needs.{needs}
 use Rattle.rules.proofs.Sends.{send-link, send-no-link}
-use Rattle.rules.proofs.writes.pull_link.Statement.{statement}
-use Rattle.rules.proofs.writes.pull_link.Tie as tie
+use Rattle.rules.proofs.to_link.pull_link.Statement.{statement}
+use Rattle.rules.proofs.to_link.pull_link.Tie as tie
 
 pull-place-requires : tie.Need-pull-place-requires
 pull-place-requires c κs = search needs
