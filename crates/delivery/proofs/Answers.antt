@@ -1,5 +1,5 @@
 -- What a delivery comes to: refused, by the record or because the message is not pending, or done. Assumes nothing.
-use Prim.Native.Nat.{ℕ, zero, suc}
+use Prim.Native.Nat.{ℕ}
 use mathlib.Core.Path.{_≡_, refl, sym, _∙_}
 use mathlib.Core.Logic.{_≢_}
 use mathlib.Core.Bool.{Bool, true, false, not}
@@ -7,7 +7,7 @@ use mathlib.Core.List.{List, [], _∷_}
 use native.Mathlib.Omega.{arith}
 use Rattle.graph.specs.Vector.{width}
 use Rattle.protocol.specs.Message.{Name, named}
-use Rattle.protocol.specs.Calls.{deliver, rows, refusal, accept, unlessRefused}
+use Rattle.protocol.specs.Calls.{deliver, rows, refusal, accept}
 use Rattle.protocol.specs.Refusals.{row, first}
 use Rattle.protocol.specs.State.{isPending}
 use Rattle.record.specs.Layout.{seats}
@@ -18,7 +18,7 @@ use Rattle.record.specs.Answer.{numberOf, Numbered, outcome}
 use Rattle.record.specs.declared.Answer.{Answer}
 use Rattle.record.specs.declared.Answer.the-variants.{Done, Refused}
 use Rattle.record.proofs.Refused.{record-passed}
-use Rattle.record.proofs.Accepted.{refused-early}
+use Rattle.record.proofs.Accepted.{refused-early, outcome-refused, outcome-done}
 use Rattle.record.proofs.Call.{record-accepted}
 
 -- answer a and the bytes y are what the delivery of n on l comes to
@@ -26,16 +26,9 @@ abbrev pub Told : (l : List ℕ) → Name → Answer → (y : List ℕ) → Type
 Told l n a y = (outcome a y ≡ called l (deliver n)) × Numbered a
 
 module _ (l : List ℕ) (n : Name) where
-  -- a refused call leaves the bytes
   told-refused : (k : ℕ) → k ≡ callRefusal l (deliver n) → k ≢ 0 → Told l n (Refused k) l
-  unfolding called unlessRefused numberOf
-  told-refused zero e h = absurd (h refl)
-  told-refused (suc k) e h = (rw (← e), omega arith)
-
-  -- an accepted one leaves those of the meaning after it
-  told-done : {y : List ℕ} → callRefusal l (deliver n) ≡ 0 → y ≡ bytesOf (accept seats width (meaning l) (deliver n)) → Told l n Done y
-  unfolding called unlessRefused numberOf
-  told-done e h = (rw (e, h), tt)
+  unfolding numberOf
+  told-refused k e h = (outcome-refused l (deliver n) k e h refl, omega (arith, h))
 
   -- the record is refused
   pub refuse-record : {k : ℕ} → k ≡ recordRefusal l → k ≢ 0 → Told l n (Refused k) l
@@ -53,5 +46,5 @@ module _ (l : List ℕ) (n : Name) where
 
     pub delivered : {y : List ℕ} → isPending (meaning l .pending) (named n) ≡ true → y ≡ bytesOf (accept seats width (meaning l) (deliver n))
         → Told l n Done y
-    unfolding first
-    delivered p h = told-done (refusal-is true p) h
+    unfolding first numberOf
+    delivered p h = (outcome-done l (deliver n) (refusal-is true p) h, tt)

@@ -1,7 +1,7 @@
 -- The refusal number of a changing call from its two parts, the record's and the table's; and what the call answers and leaves.
 -- Assumes nothing.
 use Prim.Native.Nat.{ℕ, zero, suc}
-use mathlib.Core.Path.{_≡_, refl, sym, ap, _∙_}
+use mathlib.Core.Path.{_≡_, refl, sym, _∙_}
 use mathlib.Core.Logic.{_≢_}
 use mathlib.Core.List.{List}
 use Rattle.memory.specs.Bytes.{AreBytes}
@@ -15,8 +15,6 @@ use Rattle.record.proofs.Form.{Form}
 use Rattle.record.proofs.Sound.{sound-is}
 use Rattle.record.proofs.Refused.{Later, rows-passed, record-passed, record-stops, record-goes}
 use Rattle.record.specs.Call.{callRefusal, called}
-use Rattle.record.specs.Answer.{reply, answerOf, replyOf}
-use Rattle.record.specs.declared.Answer.the-variants.{Refused}
 
 -- what an accepted call is made on
 pub record Accepted (l : List ℕ) (c : Call) : Type 0 where
@@ -62,12 +60,3 @@ module _ (l : List ℕ) where
       → record { refused = 0; after = m } ≡ called l c
   unfolding called unlessRefused
   outcome-done c e h = rw (e, h)
-
-  -- a call on a record that is refused
-  pub record-refused : (c : Call) {n : ℕ} → n ≡ recordRefusal l → n ≢ 0 → reply (Refused n) l ≡ replyOf (called l c)
-  unfolding replyOf answerOf
-  record-refused c {n} e h = refused n h ∙ ap replyOf (outcome-refused c n (refused-early c e h) h refl)
-    where
-      refused : (n : ℕ) → n ≢ 0 → reply (Refused n) l ≡ replyOf (record { refused = n; after = l })
-      refused zero h = absurd (h refl)
-      refused (suc n) h = refl

@@ -1,5 +1,5 @@
--- The answer of a changing call in document 01's numbers: what the promises of the changing calls cite. Assumes nothing.
-use Prim.Native.Nat.{ℕ, zero, suc, _<_}
+-- The answer of a changing call in document 01's numbers, by its cases: what the promises of the changing calls cite. Assumes nothing.
+use Prim.Native.Nat.{ℕ, _<_}
 use mathlib.Core.List.{List}
 use Rattle.protocol.specs.Calls.{Outcome}
 use Rattle.record.specs.declared.Answer.{Answer}
@@ -18,19 +18,3 @@ Numbered (Refused n) = 0 < n
 -- what a call came to that answered a and left the bytes l
 abbrev pub outcome : Answer → List ℕ → Outcome (List ℕ)
 outcome a l = record { refused = numberOf a; after = l }
-
--- the other way: what a call answered, and the bytes it left
-pub record Reply : Type 0 where
-  pub answer : Answer
-  pub bytes : List ℕ
-
-abbrev pub reply : Answer → List ℕ → Reply
-reply a l = record { answer = a; bytes = l }
-
--- 0 is done, any other number a refusal
-unfoldable pub answerOf : ℕ → Answer
-answerOf zero = Done
-answerOf (suc n) = Refused (suc n)
-
-unfoldable pub replyOf : Outcome (List ℕ) → Reply
-replyOf o = reply (answerOf (o .refused)) (o .after)

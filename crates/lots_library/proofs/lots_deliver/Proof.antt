@@ -1,6 +1,5 @@
 -- `lots_library::lots_deliver` meets its contract. Assumes nothing.
 use borrow.Author.Needs.{needs}
-use Rattle.lots_library.proofs.Numbers.{reply-number}
 use Rattle.lots_library.proofs.lots_deliver.Statement.{statement}
 use Rattle.lots_library.proofs.lots_deliver.Tie as tie
 
@@ -14,7 +13,7 @@ same-length : tie.Need-same-length
 same-length c = search needs
 
 returns : tie.Need-returns
-returns c = reply-number _ (c .before .before .before .deliver .ensures) (c .number-of .ensures)
+returns c = rw (c .number-of .ensures) (c .before .before .before .deliver .ensures .0)
 
 pub lots-deliver-spec : {M : Type 1} → statement M
 lots-deliver-spec = tie.close (tie.spec deliver-requires number-of-requires same-length returns)
