@@ -1,16 +1,17 @@
-// Line P: the counts, and with nothing pending each list of two or more lots. The lists of a level are found by their heads, the lots with
-// which they start: the next list is that of the smallest bits above those of the last one.
+// The text of line P: the counts, and with nothing pending each list of two or more lots. The lists of a level are found by their heads, the
+// lots with which they start: the next list is that of the smallest bits above those of the last one. Each function that takes a position n
+// of the lent buffer puts its text there and gives the position after it.
 ghost use mathlib.Core.Path.{_≡_};
 ghost use Prim.Native.Nat.{_<_};
 ghost use lib.ListN.{length};
 ghost use Rattle.record.specs.Layout.{seats, levels, size};
-use super::say;
+use super::text;
 use graph::LEFT;
 use graph::RIGHT;
-use reading::CountsRead;
 use record::LEVELS;
 use record::OPEN;
 use record::SEATS;
+use record::SIZE;
 use record::WIDTH;
 use record::lots::is_member;
 use record::lots::link;
@@ -59,111 +60,97 @@ fn next_head(rec: &[u8], k: usize, last: usize) -> usize
     best
 }
 
-// Writes the first k bits of the vector on seat s.
-fn bits(rec: &[u8], s: usize, k: usize)
+// The first k bits of the vector on seat s, `-` for none.
+fn bits(rec: &[u8], s: usize, k: usize, out: &mut [u8], n: usize) -> usize
     requires { ⌜ (length (now rec) ≡ size) × (s < seats) × (k < levels) ⌝ }
 {
-    for j in 0..k {
-        say::number(graph::bit(record::vector(rec, s), j) as u64);
-    }
-}
-
-// Writes the number on seat s, if there is one, and gives its right neighbour at level k.
-fn number(rec: &[u8], s: usize, k: usize) -> usize
-    requires { ⌜ (length (now rec) ≡ size) × (k < levels) ⌝ }
-{
-    if s >= SEATS {
-        return SEATS;
-    }
-    say::text(b" ");
-    say::number(record::number(rec, s));
-    link(rec, s, k, RIGHT)
-}
-
-// Writes the numbers from seat s along level k.
-fn numbers(rec: &[u8], s: usize, k: usize)
-    requires { ⌜ (length (now rec) ≡ size) × (k < levels) ⌝ }
-{
-    let mut at = s;
-    for _ in 0..SEATS {
-        at = number(rec, at, k);
-    }
-}
-
-// Writes level and bits of the list of seat s, `-` at level 0.
-fn title(rec: &[u8], s: usize, k: usize)
-    requires { ⌜ (length (now rec) ≡ size) × (s < seats) × (k < levels) ⌝ }
-{
-    say::number(k as u64);
-    say::text(b" ");
     if k == 0 {
-        say::text(b"-");
+        return text::byte(out, n, b'-');
     }
-    bits(rec, s, k);
-    say::text(b":");
+    let mut at = n;
+    for j in 0..k {
+        at = text::decimal(out, at, graph::bit(record::vector(rec, s), j) as u64);
+    }
+    at
 }
 
-// Writes the list of level k that starts on seat s.
-fn list(rec: &[u8], s: usize, k: usize)
+// Level and bits of the list of seat s.
+fn title(rec: &[u8], s: usize, k: usize, out: &mut [u8], n: usize) -> usize
     requires { ⌜ (length (now rec) ≡ size) × (s < seats) × (k < levels) ⌝ }
 {
-    title(rec, s, k);
-    numbers(rec, s, k);
-    say::text(b"\n");
+    let mut at = text::decimal(out, n, k as u64);
+    at = text::byte(out, at, b' ');
+    at = bits(rec, s, k, out, at);
+    text::byte(out, at, b':')
 }
 
-// Writes the lists of level k, ascending by their bits. There are fewer than seats.
-fn level(rec: &[u8], k: usize)
+// The numbers from seat s along level k.
+fn numbers(rec: &[u8], s: usize, k: usize, out: &mut [u8], n: usize) -> usize
+    requires { ⌜ (length (now rec) ≡ size) × (k < levels) ⌝ }
+{
+    let mut seat = s;
+    let mut at = n;
+    for _ in 0..SEATS {
+        if seat >= SEATS {
+            return at;
+        }
+        at = text::number(out, at, b" ", record::number(rec, seat));
+        seat = link(rec, seat, k, RIGHT);
+    }
+    at
+}
+
+// The list of level k that starts on seat s.
+fn list(rec: &[u8], s: usize, k: usize, out: &mut [u8], n: usize) -> usize
+    requires { ⌜ (length (now rec) ≡ size) × (s < seats) × (k < levels) ⌝ }
+{
+    let mut at = title(rec, s, k, out, n);
+    at = numbers(rec, s, k, out, at);
+    text::byte(out, at, b'\n')
+}
+
+// The lists of level k, ascending by their bits. There are fewer than seats.
+fn level(rec: &[u8], k: usize, out: &mut [u8], n: usize) -> usize
     requires { ⌜ (length (now rec) ≡ size) × (k < levels) ⌝ }
 {
     let mut head = SEATS;
+    let mut at = n;
     for _ in 0..SEATS {
         head = next_head(rec, k, head);
         if head >= SEATS {
-            return;
+            return at;
         }
-        list(rec, head, k);
+        at = list(rec, head, k, out, at);
     }
+    at
 }
 
-// Writes the lists of all levels.
-fn lists(rec: &[u8])
-    requires { ⌜ length (now rec) ≡ size ⌝ }
-{
+// The lists of all levels; none of bytes that are no record.
+fn lists(rec: &[u8], out: &mut [u8], n: usize) -> usize {
+    let mut at = n;
+    if rec.len() != SIZE {
+        return at;
+    }
     for k in 0..LEVELS {
-        level(rec, k);
+        at = level(rec, k, out, at);
     }
+    at
 }
 
-// The same of bytes of any length.
-fn all_lists(rec: &[u8]) {
-    if rec.len() == record::SIZE {
-        lists(rec);
-    }
-}
-
-// Writes the first line.
-fn counts(lots: u64, phase: u8, pending: u64) {
-    say::text(b"lots ");
-    say::number(lots);
+// The first line.
+fn counts(lots: u64, phase: u8, pending: u64, out: &mut [u8]) -> usize {
+    let n = text::number(out, 0, b"lots ", lots);
     if phase == OPEN {
-        say::text(b" phase open pending ");
-    } else {
-        say::text(b" phase clearing pending ");
+        return text::last_number(out, n, b" phase open pending ", pending);
     }
-    say::number(pending);
-    say::text(b"\n");
+    text::last_number(out, n, b" phase clearing pending ", pending)
 }
 
-// Carries out line P.
-pub fn print(rec: &[u8]) {
-    match reading::read_counts(rec) {
-        CountsRead::Refused(n) => say::refused(n),
-        CountsRead::Counted(lots, phase, pending) => {
-            counts(lots as u64, phase, pending as u64);
-            if pending == 0 {
-                all_lists(rec);
-            }
-        }
+// The text of line P.
+pub fn listing(rec: &[u8], lots: u8, phase: u8, pending: u32, out: &mut [u8]) -> usize {
+    let n = counts(lots as u64, phase, pending as u64, out);
+    if pending == 0 {
+        return lists(rec, out, n);
     }
+    n
 }

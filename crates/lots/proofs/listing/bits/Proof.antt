@@ -1,14 +1,25 @@
 -- `listing::bits` is safe and ends. Assumes nothing.
 use Prim.Native.Nat.{_-_, _≤_}
+use mathlib.Core.Path.{_≡_}
+use lib.ListN.{length}
 use borrow.Author.Needs.{needs}
 use Rattle.lots.proofs.listing.bits.Statement.{statement}
 use Rattle.lots.proofs.listing.bits.Tie as tie
 
 abbrev Inv-loop : tie.InvT-loop
-Inv-loop rec s k j₀ j = j ≤ k
+Inv-loop rec s k out₀ n at₀ j₀ out at j = (length out ≡ length out₀) × (j ≤ k)
 
 abbrev μ-loop : tie.MeasureT-loop
-μ-loop rec s k j₀ j = k - j
+μ-loop rec s k out₀ n at₀ j₀ out at j = k - j
+
+byte-requires : tie.Need-byte-requires Inv-loop μ-loop
+byte-requires c κs = search needs
+
+same-length : tie.Need-same-length Inv-loop μ-loop
+same-length c = search needs
+
+returns : tie.Need-returns Inv-loop μ-loop
+returns c = tt
 
 loop-holds : tie.Need-loop-holds Inv-loop μ-loop
 loop-holds c = search needs
@@ -19,8 +30,8 @@ vector-requires c κs = search needs
 bit-requires : tie.Need-bit-requires Inv-loop μ-loop
 bit-requires c κs = search needs
 
-number-requires : tie.Need-number-requires Inv-loop μ-loop
-number-requires c κs = search needs
+decimal-requires : tie.Need-decimal-requires Inv-loop μ-loop
+decimal-requires c κs = search needs
 
 add-j : tie.Need-add-j Inv-loop μ-loop
 add-j c = search needs
@@ -31,8 +42,11 @@ loop-less c = search needs
 loop-again : tie.Need-loop-again Inv-loop μ-loop
 loop-again c = search needs
 
-returns : tie.Need-returns Inv-loop μ-loop
-returns c = tt
+same-length-2 : tie.Need-same-length-2 Inv-loop μ-loop
+same-length-2 c = search needs
+
+returns-2 : tie.Need-returns-2 Inv-loop μ-loop
+returns-2 c = tt
 
 pub bits-spec : {M : Type 1} → statement M
 bits-spec =
@@ -40,11 +54,15 @@ bits-spec =
     (tie.spec
     Inv-loop
     μ-loop
+    byte-requires
+    same-length
+    returns
     loop-holds
     vector-requires
     bit-requires
-    number-requires
+    decimal-requires
     add-j
     loop-less
     loop-again
-    returns)
+    same-length-2
+    returns-2)

@@ -1,15 +1,20 @@
 -- `listing::lists` is safe and ends. Assumes nothing.
 use Prim.Native.Nat.{_-_, _≤_}
-use Rattle.record.specs.Layout.{levels}
+use mathlib.Core.Path.{_≡_}
+use lib.ListN.{length}
+use Rattle.record.specs.Layout.{levels, size}
 use borrow.Author.Needs.{needs}
 use Rattle.lots.proofs.listing.lists.Statement.{statement}
 use Rattle.lots.proofs.listing.lists.Tie as tie
 
 abbrev Inv-loop : tie.InvT-loop
-Inv-loop rec k₀ k = k ≤ levels
+Inv-loop rec out₀ n at₀ k₀ out at k = (length rec ≡ size) × (length out ≡ length out₀) × (k ≤ levels)
 
 abbrev μ-loop : tie.MeasureT-loop
-μ-loop rec k₀ k = levels - k
+μ-loop rec out₀ n at₀ k₀ out at k = levels - k
+
+returns : tie.Need-returns Inv-loop μ-loop
+returns c = tt
 
 loop-holds : tie.Need-loop-holds Inv-loop μ-loop
 loop-holds c = search needs
@@ -26,8 +31,23 @@ loop-less c = search needs
 loop-again : tie.Need-loop-again Inv-loop μ-loop
 loop-again c = search needs
 
-returns : tie.Need-returns Inv-loop μ-loop
-returns c = tt
+same-length : tie.Need-same-length Inv-loop μ-loop
+same-length c = search needs
+
+returns-2 : tie.Need-returns-2 Inv-loop μ-loop
+returns-2 c = tt
 
 pub lists-spec : {M : Type 1} → statement M
-lists-spec = tie.close (tie.spec Inv-loop μ-loop loop-holds level-requires add-k loop-less loop-again returns)
+lists-spec =
+    tie.close
+    (tie.spec
+    Inv-loop
+    μ-loop
+    returns
+    loop-holds
+    level-requires
+    add-k
+    loop-less
+    loop-again
+    same-length
+    returns-2)

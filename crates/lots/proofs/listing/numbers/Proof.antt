@@ -1,21 +1,38 @@
 -- `listing::numbers` is safe and ends: the turns are counted. Assumes nothing.
 use Prim.Native.Nat.{_-_, _≤_}
+use mathlib.Core.Path.{_≡_}
+use lib.ListN.{length}
 use Rattle.record.specs.Layout.{seats}
 use borrow.Author.Needs.{needs}
 use Rattle.lots.proofs.listing.numbers.Statement.{statement}
 use Rattle.lots.proofs.listing.numbers.Tie as tie
 
 abbrev Inv-loop : tie.InvT-loop
-Inv-loop rec s k at₀ counter₀ at counter = counter ≤ seats
+Inv-loop rec s k out₀ n seat₀ at₀ t8 counter₀ out seat at counter = (length out ≡ length out₀) × (counter ≤ seats)
 
 abbrev μ-loop : tie.MeasureT-loop
-μ-loop rec s k at₀ counter₀ at counter = seats - counter
+μ-loop rec s k out₀ n seat₀ at₀ t8 counter₀ out seat at counter = seats - counter
 
 loop-holds : tie.Need-loop-holds Inv-loop μ-loop
 loop-holds c = search needs
 
+same-length : tie.Need-same-length Inv-loop μ-loop
+same-length c = search needs
+
+returns : tie.Need-returns Inv-loop μ-loop
+returns c = tt
+
+slice-aggregate-number : tie.Need-slice-aggregate-number Inv-loop μ-loop
+slice-aggregate-number c = search needs
+
 number-requires : tie.Need-number-requires Inv-loop μ-loop
 number-requires c κs = search needs
+
+number-requires-2 : tie.Need-number-requires-2 Inv-loop μ-loop
+number-requires-2 c κs = search needs
+
+link-requires : tie.Need-link-requires Inv-loop μ-loop
+link-requires c κs = search needs
 
 add-counter : tie.Need-add-counter Inv-loop μ-loop
 add-counter c = search needs
@@ -26,10 +43,27 @@ loop-less c = search needs
 loop-again : tie.Need-loop-again Inv-loop μ-loop
 loop-again c = search needs
 
-returns : tie.Need-returns Inv-loop μ-loop
-returns c = tt
+same-length-2 : tie.Need-same-length-2 Inv-loop μ-loop
+same-length-2 c = search needs
+
+returns-2 : tie.Need-returns-2 Inv-loop μ-loop
+returns-2 c = tt
 
 pub numbers-spec : {M : Type 1} → statement M
 numbers-spec =
     tie.close
-    (tie.spec Inv-loop μ-loop loop-holds number-requires add-counter loop-less loop-again returns)
+    (tie.spec
+    Inv-loop
+    μ-loop
+    loop-holds
+    same-length
+    returns
+    slice-aggregate-number
+    number-requires
+    number-requires-2
+    link-requires
+    add-counter
+    loop-less
+    loop-again
+    same-length-2
+    returns-2)
