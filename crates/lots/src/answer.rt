@@ -7,6 +7,10 @@ use find::Found;
 use reading::CountsRead;
 use record::Answer;
 
+const NEWLINE: u8 = b'\n';
+
+const SPACE: u8 = b' ';
+
 // The answer to a line: that of the call that it is, or none.
 pub enum LineAnswer {
     Bad,
@@ -53,7 +57,7 @@ pub fn text_of(rec: &[u8], answer: LineAnswer, out: &mut [u8]) -> usize {
 }
 
 fn refused(n: u8, out: &mut [u8]) -> usize {
-    text::last_number(out, 0, b"no ", n as u64)
+    text::number(out, 0, b"no ", n as u64, NEWLINE)
 }
 
 fn changed(answer: Answer, out: &mut [u8]) -> usize {
@@ -63,16 +67,14 @@ fn changed(answer: Answer, out: &mut [u8]) -> usize {
     }
 }
 
-fn holder(seat: u8, hops: u64, out: &mut [u8]) -> usize {
-    let n = text::number(out, 0, b"holder ", seat as u64);
-    text::last_number(out, n, b" hops ", hops)
-}
-
 fn searched(answer: Found, out: &mut [u8]) -> usize {
     match answer {
         Found::Refused(n) => refused(n, out),
-        Found::Holder(seat, hops) => holder(seat, hops, out),
-        Found::Nobody(hops) => text::last_number(out, 0, b"none hops ", hops),
+        Found::Holder(seat, hops) => {
+            let n = text::number(out, 0, b"holder ", seat as u64, SPACE);
+            text::number(out, n, b"hops ", hops, NEWLINE)
+        }
+        Found::Nobody(hops) => text::number(out, 0, b"none hops ", hops, NEWLINE),
     }
 }
 

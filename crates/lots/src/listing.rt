@@ -16,6 +16,13 @@ use record::WIDTH;
 use record::lots::is_member;
 use record::lots::link;
 
+// A one and the first k bits of the vector on seat s, as a number.
+fn prefix(rec: &[u8], s: usize, k: usize) -> usize
+    requires { ⌜ (length (now rec) ≡ size) × (s < seats) × (k < levels) ⌝ }
+{
+    (record::vector(rec, s) as usize + (1 << WIDTH)) >> (WIDTH - k)
+}
+
 // Whether a list of level k starts on seat s and goes on.
 fn is_head(rec: &[u8], s: usize, k: usize) -> bool
     requires { ⌜ (length (now rec) ≡ size) × (s < seats) × (k < levels) ⌝ }
@@ -23,68 +30,45 @@ fn is_head(rec: &[u8], s: usize, k: usize) -> bool
     is_member(rec, s) && (link(rec, s, k, LEFT) >= SEATS && link(rec, s, k, RIGHT) < SEATS)
 }
 
-// The first k bits of the vector on seat s, as a number.
-fn prefix(rec: &[u8], s: usize, k: usize) -> usize
-    requires { ⌜ (length (now rec) ≡ size) × (s < seats) × (k < levels) ⌝ }
-{
-    (record::vector(rec, s) as usize) >> (WIDTH - k)
-}
-
-// Whether seat s is the head of a list of level k, and of one after the list of seat `last` if that is a seat.
-fn follows(rec: &[u8], k: usize, last: usize, s: usize) -> bool
-    requires { ⌜ (length (now rec) ≡ size) × (s < seats) × (k < levels) ⌝ }
-{
-    is_head(rec, s, k) && (last >= SEATS || prefix(rec, last, k) < prefix(rec, s, k))
-}
-
-// Of the heads s and `best`, if that is a seat, the one whose list comes first.
-fn earlier(rec: &[u8], k: usize, best: usize, s: usize) -> usize
-    requires { ⌜ (length (now rec) ≡ size) × (s < seats) × (k < levels) ⌝ }
-{
-    if best >= SEATS || prefix(rec, s, k) < prefix(rec, best, k) {
-        return s;
-    }
-    best
-}
-
-// The head of the first list of level k after that of seat `last`, of the first list if that is no seat; SEATS if there is none.
+// The head of the list of level k with the smallest prefix above `last`; SEATS if there is none.
 fn next_head(rec: &[u8], k: usize, last: usize) -> usize
     requires { ⌜ (length (now rec) ≡ size) × (k < levels) ⌝ }
 {
     let mut best = SEATS;
+    let mut least = usize::MAX;
     for s in 0..SEATS {
-        if follows(rec, k, last, s) {
-            best = earlier(rec, k, best, s);
+        let p = prefix(rec, s, k);
+        if last < p && p < least && is_head(rec, s, k) {
+            best = s;
+            least = p;
         }
     }
     best
 }
 
-// The first k bits of the vector on seat s, `-` for none.
-fn bits(rec: &[u8], s: usize, k: usize, out: &mut [u8], n: usize) -> usize
-    requires { ⌜ (length (now rec) ≡ size) × (s < seats) × (k < levels) ⌝ }
+// The first k bits of a vector, `-` for none, with a colon and a space after them.
+fn bits(vector: u8, k: usize, out: &mut [u8], n: usize) -> usize
+    requires { ⌜ k < levels ⌝ }
 {
     if k == 0 {
-        return text::byte(out, n, b'-');
+        return text::bytes(out, n, b"-: ");
     }
     let mut at = n;
     for j in 0..k {
-        at = text::decimal(out, at, graph::bit(record::vector(rec, s), j) as u64);
+        at = text::byte(
+            out,
+            at,
+            if graph::bit(vector, j) == 1 {
+                b'1'
+            } else {
+                b'0'
+            },
+        );
     }
-    at
+    text::bytes(out, at, b": ")
 }
 
-// Level and bits of the list of seat s.
-fn title(rec: &[u8], s: usize, k: usize, out: &mut [u8], n: usize) -> usize
-    requires { ⌜ (length (now rec) ≡ size) × (s < seats) × (k < levels) ⌝ }
-{
-    let mut at = text::decimal(out, n, k as u64);
-    at = text::byte(out, at, b' ');
-    at = bits(rec, s, k, out, at);
-    text::byte(out, at, b':')
-}
-
-// The numbers from seat s along level k.
+// The numbers from seat s along level k, with spaces between, and a newline.
 fn numbers(rec: &[u8], s: usize, k: usize, out: &mut [u8], n: usize) -> usize
     requires { ⌜ (length (now rec) ≡ size) × (k < levels) ⌝ }
 {
@@ -94,33 +78,40 @@ fn numbers(rec: &[u8], s: usize, k: usize, out: &mut [u8], n: usize) -> usize
         if seat >= SEATS {
             return at;
         }
-        at = text::number(out, at, b" ", record::number(rec, seat));
-        seat = link(rec, seat, k, RIGHT);
+        let next = link(rec, seat, k, RIGHT);
+        at = text::decimal(
+            out,
+            at,
+            record::number(rec, seat),
+            if next < SEATS { b' ' } else { b'\n' },
+        );
+        seat = next;
     }
     at
 }
 
-// The list of level k that starts on seat s.
+// The list of level k that starts on seat s: level, bits and numbers.
 fn list(rec: &[u8], s: usize, k: usize, out: &mut [u8], n: usize) -> usize
     requires { ⌜ (length (now rec) ≡ size) × (s < seats) × (k < levels) ⌝ }
 {
-    let mut at = title(rec, s, k, out, n);
-    at = numbers(rec, s, k, out, at);
-    text::byte(out, at, b'\n')
+    let mut at = text::decimal(out, n, k as u64, b' ');
+    at = bits(record::vector(rec, s), k, out, at);
+    numbers(rec, s, k, out, at)
 }
 
 // The lists of level k, ascending by their bits. There are fewer than seats.
 fn level(rec: &[u8], k: usize, out: &mut [u8], n: usize) -> usize
     requires { ⌜ (length (now rec) ≡ size) × (k < levels) ⌝ }
 {
-    let mut head = SEATS;
+    let mut last = 0;
     let mut at = n;
     for _ in 0..SEATS {
-        head = next_head(rec, k, head);
+        let head = next_head(rec, k, last);
         if head >= SEATS {
             return at;
         }
         at = list(rec, head, k, out, at);
+        last = prefix(rec, head, k);
     }
     at
 }
@@ -139,11 +130,11 @@ fn lists(rec: &[u8], out: &mut [u8], n: usize) -> usize {
 
 // The first line.
 fn counts(lots: u64, phase: u8, pending: u64, out: &mut [u8]) -> usize {
-    let n = text::number(out, 0, b"lots ", lots);
+    let n = text::number(out, 0, b"lots ", lots, b' ');
     if phase == OPEN {
-        return text::last_number(out, n, b" phase open pending ", pending);
+        return text::number(out, n, b"phase open pending ", pending, b'\n');
     }
-    text::last_number(out, n, b" phase clearing pending ", pending)
+    text::number(out, n, b"phase clearing pending ", pending, b'\n')
 }
 
 // The text of line P.

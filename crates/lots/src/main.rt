@@ -11,7 +11,7 @@ use libc::STDERR_FILENO;
 use libc::STDIN_FILENO;
 use libc::STDOUT_FILENO;
 
-const NEWLINE: u8 = 10;
+const NEWLINE: u8 = b'\n';
 
 // Room for every answer. The longest is that of P: a line of at most 40 bytes, then for each of 9 levels at most 64 numbers of 20 digits, each
 // with a space before it, and at most 32 lists, each with 12 bytes of level, bits, signs and newline. These are 15,592.
@@ -22,7 +22,7 @@ fn write(answer: &[u8], n: usize) -> bool {
     if n <= answer.len() && io::write_all(STDOUT_FILENO, &answer[..n]) {
         return true;
     }
-    io::write_all(STDERR_FILENO, b"lots: an answer could not be written\n");
+    io::write_all(STDERR_FILENO, b"lots: write failed\n");
     false
 }
 
@@ -78,14 +78,12 @@ fn take_all(rec: &mut [u8], line: &mut [u8], n: usize, piece: &[u8]) -> Input {
     }
 }
 
-// The end of input: the last line may lack its newline.
-fn end_input(rec: &mut [u8], line: &[u8], n: usize) -> Input {
-    if n != 0 {
+// After the last read, which failed if it answered a negative number. Otherwise input is at its end, and the last line may lack its newline.
+fn end_input(rec: &mut [u8], line: &[u8], n: usize, got: isize) {
+    if got < 0 {
+        io::write_all(STDERR_FILENO, b"lots: read failed\n");
+    } else if n != 0 {
         end_line(rec, line, n);
-    }
-    Input {
-        kept: 0,
-        is_more: false,
     }
 }
 
@@ -93,15 +91,12 @@ fn end_input(rec: &mut [u8], line: &[u8], n: usize) -> Input {
 fn read_some(rec: &mut [u8], line: &mut [u8], n: usize) -> Input {
     let mut piece = io::buffer();
     let got = libc::read(STDIN_FILENO, &mut piece);
-    if got < 0 {
-        io::write_all(STDERR_FILENO, b"lots: standard input could not be read\n");
+    if got <= 0 {
+        end_input(rec, line, n, got);
         return Input {
-            kept: n,
+            kept: 0,
             is_more: false,
         };
-    }
-    if got == 0 {
-        return end_input(rec, line, n);
     }
     let count = io::count(got, &piece);
     take_all(rec, line, n, &piece[..count])

@@ -1,8 +1,6 @@
 // Text put together in a lent buffer. Each function puts its text at position n and gives the position after it; a byte past the end of the
 // buffer is left out.
 
-const NEWLINE: u8 = 10;
-
 // One byte.
 pub fn byte(out: &mut [u8], n: usize, b: u8) -> usize {
     if n < out.len() {
@@ -21,21 +19,16 @@ pub fn bytes(out: &mut [u8], n: usize, some: &[u8]) -> usize {
     at
 }
 
-// A number in decimal.
-pub fn decimal(out: &mut [u8], n: usize, x: u64) -> usize {
+// A number in decimal and the byte after it.
+pub fn decimal(out: &mut [u8], n: usize, x: u64, after: u8) -> usize {
     let mut digits = [0u8; 20];
     let count = io::decimal(x, &mut digits);
-    bytes(out, n, &digits[..count])
+    let at = bytes(out, n, &digits[..count]);
+    byte(out, at, after)
 }
 
-// Some bytes and a number.
-pub fn number(out: &mut [u8], n: usize, before: &[u8], x: u64) -> usize {
+// A number with the bytes before it and the byte after it.
+pub fn number(out: &mut [u8], n: usize, before: &[u8], x: u64, after: u8) -> usize {
     let at = bytes(out, n, before);
-    decimal(out, at, x)
-}
-
-// Some bytes, a number and the newline.
-pub fn last_number(out: &mut [u8], n: usize, before: &[u8], x: u64) -> usize {
-    let at = number(out, n, before, x);
-    byte(out, at, NEWLINE)
+    decimal(out, at, x, after)
 }

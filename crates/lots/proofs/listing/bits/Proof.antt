@@ -7,13 +7,16 @@ use Rattle.lots.proofs.listing.bits.Statement.{statement}
 use Rattle.lots.proofs.listing.bits.Tie as tie
 
 abbrev Inv-loop : tie.InvT-loop
-Inv-loop rec s k out₀ n at₀ j₀ out at j = (length out ≡ length out₀) × (j ≤ k)
+Inv-loop vector k out₀ n at₀ j₀ t8 out at j = (length out ≡ length out₀) × (j ≤ k)
 
 abbrev μ-loop : tie.MeasureT-loop
-μ-loop rec s k out₀ n at₀ j₀ out at j = k - j
+μ-loop vector k out₀ n at₀ j₀ t8 out at j = k - j
 
-byte-requires : tie.Need-byte-requires Inv-loop μ-loop
-byte-requires c κs = search needs
+slice-aggregate-bytes : tie.Need-slice-aggregate-bytes Inv-loop μ-loop
+slice-aggregate-bytes c = search needs
+
+bytes-requires : tie.Need-bytes-requires Inv-loop μ-loop
+bytes-requires c κs = search needs
 
 same-length : tie.Need-same-length Inv-loop μ-loop
 same-length c = search needs
@@ -24,14 +27,11 @@ returns c = tt
 loop-holds : tie.Need-loop-holds Inv-loop μ-loop
 loop-holds c = search needs
 
-vector-requires : tie.Need-vector-requires Inv-loop μ-loop
-vector-requires c κs = search needs
-
 bit-requires : tie.Need-bit-requires Inv-loop μ-loop
 bit-requires c κs = search needs
 
-decimal-requires : tie.Need-decimal-requires Inv-loop μ-loop
-decimal-requires c κs = search needs
+byte-requires : tie.Need-byte-requires Inv-loop μ-loop
+byte-requires c κs = search needs
 
 add-j : tie.Need-add-j Inv-loop μ-loop
 add-j c = search needs
@@ -41,6 +41,12 @@ loop-less c = search needs
 
 loop-again : tie.Need-loop-again Inv-loop μ-loop
 loop-again c = search needs
+
+slice-aggregate-bytes-2 : tie.Need-slice-aggregate-bytes-2 Inv-loop μ-loop
+slice-aggregate-bytes-2 c = search needs
+
+bytes-requires-2 : tie.Need-bytes-requires-2 Inv-loop μ-loop
+bytes-requires-2 c κs = search needs
 
 same-length-2 : tie.Need-same-length-2 Inv-loop μ-loop
 same-length-2 c = search needs
@@ -54,15 +60,17 @@ bits-spec =
     (tie.spec
     Inv-loop
     μ-loop
-    byte-requires
+    slice-aggregate-bytes
+    bytes-requires
     same-length
     returns
     loop-holds
-    vector-requires
     bit-requires
-    decimal-requires
+    byte-requires
     add-j
     loop-less
     loop-again
+    slice-aggregate-bytes-2
+    bytes-requires-2
     same-length-2
     returns-2)

@@ -8,10 +8,10 @@ use Rattle.lots.proofs.listing.level.Statement.{statement}
 use Rattle.lots.proofs.listing.level.Tie as tie
 
 abbrev Inv-loop : tie.InvT-loop
-Inv-loop rec k out₀ n head₀ at₀ counter₀ out head at counter = (length out ≡ length out₀) × (counter ≤ seats)
+Inv-loop rec k out₀ n last₀ at₀ counter₀ out last at counter = (length out ≡ length out₀) × (counter ≤ seats)
 
 abbrev μ-loop : tie.MeasureT-loop
-μ-loop rec k out₀ n head₀ at₀ counter₀ out head at counter = seats - counter
+μ-loop rec k out₀ n last₀ at₀ counter₀ out last at counter = seats - counter
 
 loop-holds : tie.Need-loop-holds Inv-loop μ-loop
 loop-holds c = search needs
@@ -27,6 +27,9 @@ returns c = tt
 
 list-requires : tie.Need-list-requires Inv-loop μ-loop
 list-requires c κs = search needs
+
+prefix-requires : tie.Need-prefix-requires Inv-loop μ-loop
+prefix-requires c κs = search needs
 
 add-counter : tie.Need-add-counter Inv-loop μ-loop
 add-counter c = search needs
@@ -54,6 +57,7 @@ level-spec =
     same-length
     returns
     list-requires
+    prefix-requires
     add-counter
     loop-less
     loop-again

@@ -8,10 +8,10 @@ use Rattle.lots.proofs.listing.numbers.Statement.{statement}
 use Rattle.lots.proofs.listing.numbers.Tie as tie
 
 abbrev Inv-loop : tie.InvT-loop
-Inv-loop rec s k out₀ n seat₀ at₀ t8 counter₀ out seat at counter = (length out ≡ length out₀) × (counter ≤ seats)
+Inv-loop rec s k out₀ n seat₀ at₀ counter₀ out seat at counter = (length out ≡ length out₀) × (counter ≤ seats)
 
 abbrev μ-loop : tie.MeasureT-loop
-μ-loop rec s k out₀ n seat₀ at₀ t8 counter₀ out seat at counter = seats - counter
+μ-loop rec s k out₀ n seat₀ at₀ counter₀ out seat at counter = seats - counter
 
 loop-holds : tie.Need-loop-holds Inv-loop μ-loop
 loop-holds c = search needs
@@ -22,17 +22,14 @@ same-length c = search needs
 returns : tie.Need-returns Inv-loop μ-loop
 returns c = tt
 
-slice-aggregate-number : tie.Need-slice-aggregate-number Inv-loop μ-loop
-slice-aggregate-number c = search needs
+link-requires : tie.Need-link-requires Inv-loop μ-loop
+link-requires c κs = search needs
 
 number-requires : tie.Need-number-requires Inv-loop μ-loop
 number-requires c κs = search needs
 
-number-requires-2 : tie.Need-number-requires-2 Inv-loop μ-loop
-number-requires-2 c κs = search needs
-
-link-requires : tie.Need-link-requires Inv-loop μ-loop
-link-requires c κs = search needs
+decimal-requires : tie.Need-decimal-requires Inv-loop μ-loop
+decimal-requires c κs = search needs
 
 add-counter : tie.Need-add-counter Inv-loop μ-loop
 add-counter c = search needs
@@ -58,10 +55,9 @@ numbers-spec =
     loop-holds
     same-length
     returns
-    slice-aggregate-number
-    number-requires
-    number-requires-2
     link-requires
+    number-requires
+    decimal-requires
     add-counter
     loop-less
     loop-again
