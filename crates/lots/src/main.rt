@@ -2,20 +2,14 @@
 //
 // An answer is put together whole and written by one call. After a write that fails, or a read that does, nothing more is written or carried
 // out, so that standard output has a beginning of the right answers; a line on standard error says so. The language has no exit status.
-mod answer;
-mod listing;
+mod lines;
 mod settle;
-mod text;
 
 use libc::STDERR_FILENO;
 use libc::STDIN_FILENO;
 use libc::STDOUT_FILENO;
 
 const NEWLINE: u8 = b'\n';
-
-// Room for every answer. The longest is that of P: a line of at most 40 bytes, then for each of 9 levels at most 64 numbers of 20 digits, each
-// with a space before it, and at most 32 lists, each with 12 bytes of level, bits, signs and newline. These are 15,592.
-const ROOM: usize = 16384;
 
 // Writes the first n bytes of an answer. Whether all of them were written.
 fn write(answer: &[u8], n: usize) -> bool {
@@ -28,9 +22,9 @@ fn write(answer: &[u8], n: usize) -> bool {
 
 // Carries out one line and writes its answer. Whether it was written.
 fn run(rec: &mut [u8], line: &[u8]) -> bool {
-    let mut out = [0u8; ROOM];
-    let answer = answer::carry_out(rec, line);
-    let n = answer::text_of(rec, answer, &mut out);
+    let mut out = [0u8; answers::ROOM];
+    let answer = lines::carry_out(rec, line);
+    let n = answers::text_of(rec, answer, &mut out);
     write(&out, n)
 }
 
@@ -56,8 +50,13 @@ fn take(rec: &mut [u8], line: &mut [u8], n: usize, byte: u8) -> Input {
             is_more: end_line(rec, line, n),
         };
     }
+    let mut kept = n;
+    if n < line.len() {
+        line[n] = byte;
+        kept = n + 1;
+    }
     Input {
-        kept: text::byte(line, n, byte),
+        kept,
         is_more: true,
     }
 }

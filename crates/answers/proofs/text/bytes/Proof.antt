@@ -3,8 +3,8 @@ use Prim.Native.Nat.{_-_, _≤_}
 use mathlib.Core.Path.{_≡_}
 use lib.ListN.{length}
 use borrow.Author.Needs.{needs}
-use Rattle.lots.proofs.text.bytes.Statement.{statement}
-use Rattle.lots.proofs.text.bytes.Tie as tie
+use Rattle.answers.proofs.text.bytes.Statement.{statement}
+use Rattle.answers.proofs.text.bytes.Tie as tie
 
 abbrev Inv-loop : tie.InvT-loop
 Inv-loop out₀ n some at₀ i₀ i-end out at i = (length out ≡ length out₀) × (i ≤ i-end) × (i-end ≡ length some)

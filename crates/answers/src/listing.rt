@@ -16,6 +16,8 @@ use record::WIDTH;
 use record::lots::is_member;
 use record::lots::link;
 
+const ZERO: u8 = b'0';
+
 // A one and the first k bits of the vector on seat s, as a number.
 fn prefix(rec: &[u8], s: usize, k: usize) -> usize
     requires { ⌜ (length (now rec) ≡ size) × (s < seats) × (k < levels) ⌝ }
@@ -55,15 +57,7 @@ fn bits(vector: u8, k: usize, out: &mut [u8], n: usize) -> usize
     }
     let mut at = n;
     for j in 0..k {
-        at = text::byte(
-            out,
-            at,
-            if graph::bit(vector, j) == 1 {
-                b'1'
-            } else {
-                b'0'
-            },
-        );
+        at = text::byte(out, at, ZERO + graph::bit(vector, j) as u8);
     }
     text::bytes(out, at, b": ")
 }

@@ -4,8 +4,8 @@ use mathlib.Core.Path.{_≡_}
 use lib.ListN.{length}
 use Rattle.record.specs.Layout.{levels, size}
 use borrow.Author.Needs.{needs}
-use Rattle.lots.proofs.listing.lists.Statement.{statement}
-use Rattle.lots.proofs.listing.lists.Tie as tie
+use Rattle.answers.proofs.listing.lists.Statement.{statement}
+use Rattle.answers.proofs.listing.lists.Tie as tie
 
 abbrev Inv-loop : tie.InvT-loop
 Inv-loop rec out₀ n at₀ k₀ out at k = (length rec ≡ size) × (length out ≡ length out₀) × (k ≤ levels)

@@ -1,8 +1,7 @@
-// What a line of `lots` does, its answer, and the text of an answer.
-use super::listing;
-use super::settle;
-use super::text;
-use command::Parsed;
+// The text of an answer of `lots`, put together in a lent buffer; nothing here reads or writes anything else.
+mod listing;
+mod text;
+
 use find::Found;
 use reading::CountsRead;
 use record::Answer;
@@ -11,39 +10,16 @@ const NEWLINE: u8 = b'\n';
 
 const SPACE: u8 = b' ';
 
+// Room for the text of every answer. The longest is that of P: a line of at most 40 bytes, then for each of 9 levels at most 64 numbers of 20
+// digits, each with a byte after it, and at most 32 lists, each with at most 12 bytes of level, bits and signs. These are 15,592.
+pub const ROOM: usize = 16384;
+
 // The answer to a line: that of the call that it is, or none.
 pub enum LineAnswer {
     Bad,
     Changed(Answer),
     Searched(Found),
     Counted(CountsRead),
-}
-
-// Carries out one line.
-pub fn carry_out(rec: &mut [u8], line: &[u8]) -> LineAnswer {
-    match command::parse(line) {
-        Parsed::Bad => LineAnswer::Bad,
-        Parsed::Join(seat, number, vector, contact) => LineAnswer::Changed(joining::join(
-            rec,
-            seat,
-            number,
-            vector,
-            contact,
-        )),
-        Parsed::Leave(seat) => LineAnswer::Changed(joining::leave(rec, seat)),
-        Parsed::Deliver(kind, to, about, level, side) => LineAnswer::Changed(delivery::deliver(
-            rec,
-            kind,
-            to,
-            about,
-            level,
-            side,
-        )),
-        Parsed::Turn => LineAnswer::Changed(clearing::turn(rec)),
-        Parsed::Settle => LineAnswer::Changed(settle::settle(rec)),
-        Parsed::Find(seat, number) => LineAnswer::Searched(find::find(rec, seat, number)),
-        Parsed::Print => LineAnswer::Counted(reading::read_counts(rec)),
-    }
 }
 
 // Puts the text of an answer at the start of a lent buffer and gives its length. The record is the one that the line left.
@@ -56,10 +32,12 @@ pub fn text_of(rec: &[u8], answer: LineAnswer, out: &mut [u8]) -> usize {
     }
 }
 
+// `no N`
 fn refused(n: u8, out: &mut [u8]) -> usize {
     text::number(out, 0, b"no ", n as u64, NEWLINE)
 }
 
+// `ok`, or a refusal.
 fn changed(answer: Answer, out: &mut [u8]) -> usize {
     match answer {
         Answer::Done => text::bytes(out, 0, b"ok\n"),
@@ -67,6 +45,7 @@ fn changed(answer: Answer, out: &mut [u8]) -> usize {
     }
 }
 
+// `holder S hops H`, `none hops H`, or a refusal.
 fn searched(answer: Found, out: &mut [u8]) -> usize {
     match answer {
         Found::Refused(n) => refused(n, out),
@@ -78,6 +57,7 @@ fn searched(answer: Found, out: &mut [u8]) -> usize {
     }
 }
 
+// Counts and lists, or a refusal.
 fn counted(rec: &[u8], answer: CountsRead, out: &mut [u8]) -> usize {
     match answer {
         CountsRead::Refused(n) => refused(n, out),

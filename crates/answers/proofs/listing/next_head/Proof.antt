@@ -2,8 +2,8 @@
 use Prim.Native.Nat.{_-_, _≤_}
 use Rattle.record.specs.Layout.{seats}
 use borrow.Author.Needs.{needs}
-use Rattle.lots.proofs.listing.next_head.Statement.{statement}
-use Rattle.lots.proofs.listing.next_head.Tie as tie
+use Rattle.answers.proofs.listing.next_head.Statement.{statement}
+use Rattle.answers.proofs.listing.next_head.Tie as tie
 
 abbrev Inv-loop : tie.InvT-loop
 Inv-loop rec k from best₀ least₀ s₀ best least s = s ≤ seats

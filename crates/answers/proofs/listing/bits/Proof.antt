@@ -3,8 +3,8 @@ use Prim.Native.Nat.{_-_, _≤_}
 use mathlib.Core.Path.{_≡_}
 use lib.ListN.{length}
 use borrow.Author.Needs.{needs}
-use Rattle.lots.proofs.listing.bits.Statement.{statement}
-use Rattle.lots.proofs.listing.bits.Tie as tie
+use Rattle.answers.proofs.listing.bits.Statement.{statement}
+use Rattle.answers.proofs.listing.bits.Tie as tie
 
 abbrev Inv-loop : tie.InvT-loop
 Inv-loop vector k out₀ n at₀ j₀ t8 out at j = (length out ≡ length out₀) × (j ≤ k)
@@ -29,6 +29,12 @@ loop-holds c = search needs
 
 bit-requires : tie.Need-bit-requires Inv-loop μ-loop
 bit-requires c κs = search needs
+
+cast-byte : tie.Need-cast-byte Inv-loop μ-loop
+cast-byte c = search needs
+
+add-byte : tie.Need-add-byte Inv-loop μ-loop
+add-byte c = search needs
 
 byte-requires : tie.Need-byte-requires Inv-loop μ-loop
 byte-requires c κs = search needs
@@ -66,6 +72,8 @@ bits-spec =
     returns
     loop-holds
     bit-requires
+    cast-byte
+    add-byte
     byte-requires
     add-j
     loop-less
