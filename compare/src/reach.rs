@@ -221,7 +221,10 @@ impl Reach {
     }
 
     fn lengths(&mut self, input: &[u8]) {
-        self.note_if(INPUTS.contains(&input.len()), Mark::InputLength(input.len()));
+        self.note_if(
+            INPUTS.contains(&input.len()),
+            Mark::InputLength(input.len()),
+        );
         let newlines = input.iter().all(|&byte| byte == b'\n');
         self.note_if(newlines && !input.is_empty(), Mark::OnlyNewlines);
         for piece in input.split_inclusive(|&byte| byte == b'\n') {
@@ -311,7 +314,9 @@ impl Reach {
         self.note_if(states(before).any(leaving), Mark::LeavingContact);
         self.note_if(is_pending(before), Mark::JoinWhilePending);
         self.note_if(after.counts().lots == SEATS, Mark::AllSeated);
-        let ends = after.seated().filter(|(_, lot)| lot.number == 0 || lot.number == u64::MAX);
+        let ends = after
+            .seated()
+            .filter(|(_, lot)| lot.number == 0 || lot.number == u64::MAX);
         self.note_if(ends.count() == 2, Mark::BothEndsSeated);
         let (new_seat, new_number) = (self.seats.insert(seat), self.numbers.insert(number));
         self.note_if(!new_seat, Mark::SeatAgain);
@@ -339,8 +344,16 @@ impl Reach {
         } = message;
         self.note(Mark::Delivered(kind, level, side));
         let is_end = |end: Option<&Message>| end == Some(&message);
-        self.largest = if is_end(before.pending().last()) { self.largest + 1 } else { 0 };
-        self.smallest = if is_end(before.pending().first()) { self.smallest + 1 } else { 0 };
+        self.largest = if is_end(before.pending().last()) {
+            self.largest + 1
+        } else {
+            0
+        };
+        self.smallest = if is_end(before.pending().first()) {
+            self.smallest + 1
+        } else {
+            0
+        };
         let ended = !is_pending(after);
         self.note_if(ended && self.largest >= ROW, Mark::LargestFirst);
         self.note_if(ended && self.smallest >= ROW, Mark::SmallestFirst);
@@ -379,7 +392,10 @@ impl Reach {
         };
         let clearing = counts.phase == Phase::Clearing;
         self.note(Mark::Printed(clearing, counts.pending > 0));
-        self.note_if(COUNTED.contains(&counts.lots), Mark::CountedLots(counts.lots));
+        self.note_if(
+            COUNTED.contains(&counts.lots),
+            Mark::CountedLots(counts.lots),
+        );
         self.note_sizes(&PENDING, counts.pending, Mark::CountedPending);
         let mut text = Vec::new();
         answer.print(&mut text);

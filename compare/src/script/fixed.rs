@@ -22,8 +22,14 @@ pub fn scripts() -> Vec<(String, Script)> {
         named("one equal vector, descending", one_list(&descending())),
         named("one equal vector, alternating", one_list(&alternating())),
         named("pairs with the widest numbers", pairs()),
-        named("largest first", drained(|model| model.pending().last().copied())),
-        named("smallest first", drained(|model| model.pending().first().copied())),
+        named(
+            "largest first",
+            drained(|model| model.pending().last().copied()),
+        ),
+        named(
+            "smallest first",
+            drained(|model| model.pending().first().copied()),
+        ),
         named("filled and emptied", filled_and_emptied()),
         named("twelve clearings", clearings(12)),
         named("leavers and their neighbours", leavers()),
@@ -71,13 +77,18 @@ impl Lines {
     }
 
     fn deliver(&mut self, m: Message) {
-        self.say(format!("D {} {} {} {} {}", m.kind, m.to, m.about, m.level, m.side));
+        self.say(format!(
+            "D {} {} {} {} {}",
+            m.kind, m.to, m.about, m.level, m.side
+        ));
     }
 
     /// Fills all seats, each lot at the one before it.
     fn fill(&mut self, number: impl Fn(u64) -> u64, vector: impl Fn(u8) -> u8) {
         for seat in 0..SEATS {
-            let contact = seat.checked_sub(1).map_or(NO_CONTACT, |before| before as u8);
+            let contact = seat
+                .checked_sub(1)
+                .map_or(NO_CONTACT, |before| before as u8);
             self.join(seat, number(seat as u64), vector(seat as u8), contact);
         }
     }
@@ -149,7 +160,15 @@ fn unfinished_lines() -> Vec<(String, Script)> {
 /// line with its newline and without it.
 fn inputs_of_a_length() -> Vec<(String, Script)> {
     let mut scripts = Vec::new();
-    for length in [1, PIECE - 1, PIECE, PIECE + 1, 2 * PIECE - 1, 2 * PIECE, 2 * PIECE + 1] {
+    for length in [
+        1,
+        PIECE - 1,
+        PIECE,
+        PIECE + 1,
+        2 * PIECE - 1,
+        2 * PIECE,
+        2 * PIECE + 1,
+    ] {
         for last in ["P", "P\n", "bad\n"] {
             let name = format!("an input of {length} bytes that ends in {last:?}");
             scripts.push((name, before(length.saturating_sub(last.len()), last)));
@@ -171,7 +190,15 @@ fn before(length: usize, last: &str) -> Script {
 /// Each command, cut by the end of a piece at each of its bytes.
 fn commands_across_pieces() -> Vec<(String, Script)> {
     let mut scripts = Vec::new();
-    let commands = ["J 7 1234567890 255 0", "L 0", "D 1 0 1 0 0", "F 0 99", "T", "A", "P"];
+    let commands = [
+        "J 7 1234567890 255 0",
+        "L 0",
+        "D 1 0 1 0 0",
+        "F 0 99",
+        "T",
+        "A",
+        "P",
+    ];
     for command in commands {
         for cut in 0..=command.len() {
             let start = "J 0 100 0 255\nJ 1 200 0 0\n";
@@ -200,10 +227,29 @@ fn every_byte() -> Script {
 /// Each refusal of each line, with its neighbour that is not refused.
 fn every_refusal() -> Script {
     let mut lines = Lines::new();
-    lines.say_all(&["J 0 10 0 0", "J 64 10 0 255", "J 0 10 0 254", "J 63 10 0 255"]);
+    lines.say_all(&[
+        "J 0 10 0 0",
+        "J 64 10 0 255",
+        "J 0 10 0 254",
+        "J 63 10 0 255",
+    ]);
     lines.say_all(&["J 63 11 0 63", "J 1 10 0 63", "J 1 11 0 2", "J 1 11 0 255"]);
-    lines.say_all(&["J 1 11 0 63", "T", "L 64", "L 2", "D 1 63 1 0 1", "D 8 63 1 0 0"]);
-    lines.say_all(&["D 0 63 1 0 0", "D 1 63 1 9 0", "D 1 63 1 0 0", "P", "A", "P"]);
+    lines.say_all(&[
+        "J 1 11 0 63",
+        "T",
+        "L 64",
+        "L 2",
+        "D 1 63 1 0 1",
+        "D 8 63 1 0 0",
+    ]);
+    lines.say_all(&[
+        "D 0 63 1 0 0",
+        "D 1 63 1 9 0",
+        "D 1 63 1 0 0",
+        "P",
+        "A",
+        "P",
+    ]);
     lines.say_all(&["F 64 10", "F 2 10", "F 63 10", "L 63", "L 63", "F 63 11"]);
     // A leaving contact is a contact.
     lines.say_all(&["J 2 5 128 63", "P", "F 2 5", "T", "A", "T", "P", "F 63 10"]);
@@ -333,7 +379,12 @@ fn clearings(count: u8) -> Script {
         lines.say_all(&["A", "P", "T", "P"]);
         let contact = (0..SEATS as u8).find(|seat| !left.contains(seat));
         for &seat in &left {
-            lines.join(seat.into(), u64::from(seat) * 10, seat & 3, contact.unwrap_or(0));
+            lines.join(
+                seat.into(),
+                u64::from(seat) * 10,
+                seat & 3,
+                contact.unwrap_or(0),
+            );
         }
         lines.say_all(&["A", "P"]);
         lines.search_from_all(u64::from(turn) * 53);
@@ -351,13 +402,25 @@ fn leavers() -> Script {
     }
     lines.leave_all([2, 3, 5].into_iter());
     // A join at a leaver, which goes on taking part.
-    lines.say_all(&["J 9 10 7 3", "F 3 10", "A", "P", "F 5 22", "T", "P", "F 3 9"]);
+    lines.say_all(&[
+        "J 9 10 7 3",
+        "F 3 10",
+        "A",
+        "P",
+        "F 5 22",
+        "T",
+        "P",
+        "F 3 9",
+    ]);
     while let Some(&message) = lines.model.pending().iter().next() {
         lines.deliver(message);
         lines.say_all(&["F 0 9", "F 3 9", "P"]);
     }
     debug_assert_eq!(lines.model.phase(), Phase::Clearing);
-    debug_assert!(lines.model.seated().any(|(_, lot)| lot.state == State::Leaving));
+    debug_assert!(lines
+        .model
+        .seated()
+        .any(|(_, lot)| lot.state == State::Leaving));
     lines.say_all(&["T", "P", "F 0 9", "J 3 9 96 9", "A", "P"]);
     lines.script
 }
@@ -373,7 +436,10 @@ mod tests {
         let mut marks = BTreeSet::new();
         for (name, script) in scripts() {
             let run = selfcheck::run(&script.concat());
-            marks.extend(run.unwrap_or_else(|failure| panic!("{name}: {failure:?}")).marks);
+            marks.extend(
+                run.unwrap_or_else(|failure| panic!("{name}: {failure:?}"))
+                    .marks,
+            );
         }
         let left: Vec<_> = reach::all().difference(&marks).copied().collect();
         assert!(left.is_empty(), "not reached: {left:?}");

@@ -163,7 +163,7 @@ impl Writer {
         let below = |number: &&u64| seated().all(|other| **number < other);
         let above = unused.iter().filter(above).min();
         let below = unused.iter().filter(below).max();
-        let is_even = self.model.counts().lots % 2 == 0;
+        let is_even = self.model.counts().lots.is_multiple_of(2);
         let next = match self.towards {
             Towards::Anywhere => None,
             Towards::Above => above,
@@ -191,7 +191,13 @@ impl Writer {
     fn fill(&mut self) {
         let way = self.random.below(6);
         let anywhere = Towards::Anywhere;
-        let towards = [anywhere, anywhere, Towards::Above, Towards::Below, Towards::Outwards];
+        let towards = [
+            anywhere,
+            anywhere,
+            Towards::Above,
+            Towards::Below,
+            Towards::Outwards,
+        ];
         self.towards = self.random.pick(&towards);
         for _ in self.seats(None).len()..self.pools.seats.len() {
             self.join();

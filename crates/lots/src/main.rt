@@ -1,7 +1,7 @@
 // `lots`: a record of lots, opened and then changed and asked by the lines of standard input (document 01, "The program").
 //
 // An answer is put together whole and written by one call. After a write that fails, or a read that does, nothing more is written or carried
-// out, so that standard output has a beginning of the right answers; a line on standard error says so. The language has no exit status.
+// out, so that standard output has a beginning of the right answers; a line on standard error says so. The language gives a program no exit status.
 mod lines;
 mod settle;
 
