@@ -9,8 +9,9 @@
 //! - [`roster`] is document 01's roster with its table of refusals.
 //! - [`selfcheck`] runs a script on the model and holds every answer against
 //!   the roster and the graph.
-//! - [`script`] makes scripts from a seed, [`shrink`] makes a failing one small,
-//!   [`child`] runs another program on one.
+//! - [`script`] makes scripts, fixed ones and from a seed; [`reach`] says what
+//!   they reach, [`shrink`] makes a failing one small, [`child`] runs another
+//!   program on one.
 //!
 //! ```
 //! use compare::model::Model;
@@ -30,6 +31,7 @@ pub mod inputs;
 pub mod lent;
 pub mod model;
 pub mod random;
+pub mod reach;
 pub mod roster;
 mod rules;
 pub mod script;

@@ -2,6 +2,7 @@
 //! numbers and vectors it draws and how often it takes each step.
 
 mod damage;
+pub mod fixed;
 mod pools;
 mod writer;
 

@@ -3,11 +3,13 @@
 
 use crate::graph::{self, Links, Member};
 use crate::model::{Found, Message, Model, Phase};
+use crate::reach::{Mark, Reach};
 use crate::roster::Roster;
 use crate::text::{self, Answer, Command};
+use std::collections::BTreeSet;
 
 /// More deliveries than this in a row count as a run without end. The longest
-/// that a script has met is about 17,000, on a full record.
+/// that a script has met is about 21,000, on a full record.
 pub const MOST_DELIVERIES: u64 = 1_000_000;
 
 /// A check that failed.
@@ -24,6 +26,8 @@ pub struct Run {
     pub output: Vec<u8>,
     pub lines: usize,
     pub deliveries: u64,
+    /// What the script reached.
+    pub marks: BTreeSet<Mark>,
 }
 
 /// Runs an input on a fresh model.
@@ -36,6 +40,7 @@ pub(crate) fn run_on(model: Model, input: &[u8]) -> Result<Run, Failure> {
     let roster = Roster::new();
     let mut checked = Checked { model, roster };
     let mut run = Run::default();
+    let mut reach = Reach::of_input(input);
     for line in text::lines(input) {
         run.lines += 1;
         let failure = |what| Failure {
@@ -43,10 +48,14 @@ pub(crate) fn run_on(model: Model, input: &[u8]) -> Result<Run, Failure> {
             what,
         };
         let command = text::parse(line);
-        run.deliveries += checked.count_deliveries(command).map_err(failure)?;
-        let answer = checked.line(command).map_err(failure)?;
+        let deliveries = checked.count_deliveries(command).map_err(failure)?;
+        let before = checked.model.clone();
+        let answer = checked.line(command, &before).map_err(failure)?;
+        reach.line(line, &answer, &before, &checked.model, deliveries);
         answer.print(&mut run.output);
+        run.deliveries += deliveries;
     }
+    run.marks = reach.marks();
     Ok(run)
 }
 
@@ -78,12 +87,11 @@ impl Checked {
         }
     }
 
-    fn line(&mut self, command: Option<Command>) -> Result<Answer, &'static str> {
-        let before = self.model.clone();
+    fn line(&mut self, command: Option<Command>, before: &Model) -> Result<Answer, &'static str> {
         let answer = text::answer(&mut self.model, command);
         match command {
-            None => holds(self.model == before, "a bad line changed the record")?,
-            Some(call) => self.call(call, &answer, &before)?,
+            None => holds(self.model == *before, "a bad line changed the record")?,
+            Some(call) => self.call(call, &answer, before)?,
         }
         Ok(answer)
     }

@@ -1,10 +1,12 @@
-//! Generates scripts from a seed, runs each on the model and on a program, and
-//! compares every byte of their outputs.
+//! Runs scripts, fixed ones and generated from a seed, on the model and on a
+//! program, and compares every byte of their outputs.
 
 use compare::child::{self, End, Output, Running};
-use compare::script::{self, Script};
+use compare::reach::{self, Mark};
+use compare::script::{self, fixed, Script};
 use compare::selfcheck::{self, Failure, Run};
 use compare::{shrink, text};
+use std::collections::BTreeSet;
 use std::io::{self, Write};
 use std::path::{Path, PathBuf};
 use std::process::ExitCode;
@@ -12,7 +14,8 @@ use std::time::{Duration, Instant};
 
 const USAGE: &str = "usage:
   drive --program PATH [--scripts N] [--seed S] [--lines L]
-      compare the program's output with the model's on N scripts of about L lines
+      compare the program's output with the model's on the fixed scripts and on
+      N others of about L lines
   drive --self N [--seed S] [--lines L]
       only check the model itself
   drive --script I [--seed S] [--lines L]
@@ -92,29 +95,76 @@ fn show(options: &Options, index: u64) -> io::Result<ExitCode> {
     Ok(ExitCode::SUCCESS)
 }
 
-fn drive(options: &Options) -> io::Result<ExitCode> {
-    let start = Instant::now();
-    let (mut lines, mut deliveries) = (0, 0);
-    for index in 0..options.scripts {
-        let script = script::generate(options.seed, index, options.lines);
-        match try_script(options.program.as_deref(), &script)? {
+/// What the scripts so far gave together.
+#[derive(Default)]
+struct Totals {
+    scripts: usize,
+    lines: usize,
+    deliveries: u64,
+    marks: BTreeSet<Mark>,
+}
+
+impl Totals {
+    /// Runs a script; whether it passed. If not, says so under its name, and
+    /// the shrunk script goes to a file.
+    fn pass(&mut self, options: &Options, script: &Script, name: &str) -> io::Result<bool> {
+        match try_script(options.program.as_deref(), script)? {
             Ok(run) => {
-                lines += run.lines;
-                deliveries += run.deliveries;
+                self.scripts += 1;
+                self.lines += run.lines;
+                self.deliveries += run.deliveries;
+                self.marks.extend(run.marks);
+                Ok(true)
             }
             Err(trouble) => {
-                let name = format!("drive-{}-{index}.txt", options.seed);
-                println!("script {index} of seed {}", options.seed);
-                report(&script, &trouble, &std::env::temp_dir().join(name))?;
-                println!("{index} passed, 1 failed");
-                return Ok(ExitCode::FAILURE);
+                println!("script {name}");
+                let file = format!("drive-{}.txt", name.replace([' ', '/', '`'], "-"));
+                report(script, &trouble, &std::env::temp_dir().join(file))?;
+                Ok(false)
             }
         }
     }
+}
+
+fn drive(options: &Options) -> io::Result<ExitCode> {
+    let start = Instant::now();
+    let (mut fixed, mut generated) = (Totals::default(), Totals::default());
+    let mut passed = true;
+    for (name, script) in fixed::scripts() {
+        passed = passed && fixed.pass(options, &script, &name)?;
+    }
+    for index in (0..options.scripts).take_while(|_| passed) {
+        let script = script::generate(options.seed, index, options.lines);
+        let name = format!("{index} of seed {}", options.seed);
+        if !generated.pass(options, &script, &name)? {
+            passed = false;
+            break;
+        }
+    }
+    let scripts = fixed.scripts + generated.scripts;
+    if !passed {
+        println!("{scripts} passed, 1 failed");
+        return Ok(ExitCode::FAILURE);
+    }
     let seconds = start.elapsed().as_secs_f64();
+    let lines = fixed.lines + generated.lines;
+    let deliveries = fixed.deliveries + generated.deliveries;
+    print_marks(&fixed.marks, &generated.marks);
     println!("{lines} lines, {deliveries} deliveries, {seconds:.1} seconds");
-    println!("{} passed, 0 failed", options.scripts);
+    println!("{scripts} passed, 0 failed");
     Ok(ExitCode::SUCCESS)
+}
+
+/// How many of the marks the scripts reach, and which the generated ones leave
+/// to the fixed ones.
+fn print_marks(fixed: &BTreeSet<Mark>, generated: &BTreeSet<Mark>) {
+    let all = reach::all();
+    let reached = |marks: &BTreeSet<Mark>| all.intersection(marks).count();
+    let (by_fixed, by_generated) = (reached(fixed), reached(generated));
+    let of = all.len();
+    println!("{of} marks: fixed scripts reach {by_fixed}, generated ones {by_generated}");
+    let left: Vec<_> = all.difference(generated).collect();
+    println!("left to the fixed scripts: {left:?}");
 }
 
 enum Trouble<'a> {

@@ -1,6 +1,7 @@
 //! Lines of another form, made from good ones.
 
 use crate::random::Random;
+use crate::reach::LENGTHS;
 
 type Damage = fn(&[u8], &mut Random) -> Vec<u8>;
 
@@ -152,13 +153,14 @@ fn nothing(_: &[u8], _: &mut Random) -> Vec<u8> {
 }
 
 /// A line longer than any command: just longer, around a page, or far longer.
-fn overlong(line: &[u8], random: &mut Random) -> Vec<u8> {
+pub fn overlong(line: &[u8], random: &mut Random) -> Vec<u8> {
     let filler: [&[u8]; 7] = [b"0", b"7", b" ", b" 0", b"T", b"\0", b"\xff"];
     let filler = random.pick(&filler);
     let length = match random.below(12) {
         0 => 70_000,
-        1..=3 => random.pick(&[127, 128, 255, 256, 257, 1023, 1024, 4095, 4096, 4097, 8192]),
-        4..=6 => 1_000 + random.below(8_000),
+        1..=3 => random.pick(&[255, 256, 257, 1023, 1024]),
+        4..=6 => random.pick(&LENGTHS),
+        7 => 1_000 + random.below(8_000),
         _ => 30 + random.below(30),
     };
     let mut line = match random.one_in(3) {

@@ -10,6 +10,17 @@ use crate::random::Random;
 use crate::text::{self, Command};
 use std::collections::VecDeque;
 
+/// Where the numbers of joins lie.
+#[derive(Clone, Copy)]
+enum Towards {
+    Anywhere,
+    /// Next above, or next below, all that are seated.
+    Above,
+    Below,
+    /// In turn above and below.
+    Outwards,
+}
+
 /// The order in which a drain takes pending messages.
 #[derive(Clone, Copy)]
 enum Order {
@@ -31,6 +42,7 @@ pub struct Writer {
     script: Script,
     limit: usize,
     order: Order,
+    towards: Towards,
     /// What deliveries sent, in order; some of it is no longer pending.
     sent: VecDeque<Message>,
     /// The last message taken away.
@@ -46,6 +58,7 @@ impl Writer {
             script: Script::new(),
             limit,
             order: Order::Random,
+            towards: Towards::Anywhere,
             sent: VecDeque::new(),
             taken: None,
         }
@@ -55,8 +68,8 @@ impl Writer {
         self.script.len() >= self.limit
     }
 
-    /// Mostly brings the record to rest, and one time in four takes the last
-    /// newline away.
+    /// Mostly brings the record to rest. One time in four the last newline is
+    /// taken away, after a line longer than any command half of these times.
     pub fn finish(mut self) -> Script {
         if self.limit > 0 && !self.random.one_in(4) {
             for line in ["A", "P", "T", "A", "P", "T", "P"] {
@@ -65,6 +78,11 @@ impl Writer {
             self.find_from_all();
         }
         if self.random.one_in(4) {
+            if self.limit > 0 && self.random.one_in(2) {
+                let good = self.some_good_line();
+                let line = damage::overlong(&good, &mut self.random);
+                self.say(line);
+            }
             if let Some(last) = self.script.last_mut() {
                 last.pop();
             }
@@ -130,12 +148,30 @@ impl Writer {
             };
         }
         let seat = self.random.pick(&free);
-        let number = self.random.pick(&numbers);
+        let number = self.next_number(&numbers);
         let contact = match seats.is_empty() {
             true => NO_CONTACT,
             false => self.random.pick(&seats),
         };
         self.say_join(seat, number, contact);
+    }
+
+    /// One of the unused numbers, where the joins lead.
+    fn next_number(&mut self, unused: &[u64]) -> u64 {
+        let seated = || self.model.seated().map(|(_, lot)| lot.number);
+        let above = |number: &&u64| seated().all(|other| other < **number);
+        let below = |number: &&u64| seated().all(|other| **number < other);
+        let above = unused.iter().filter(above).min();
+        let below = unused.iter().filter(below).max();
+        let is_even = self.model.counts().lots.is_multiple_of(2);
+        let next = match self.towards {
+            Towards::Anywhere => None,
+            Towards::Above => above,
+            Towards::Below => below,
+            Towards::Outwards if is_even => above,
+            Towards::Outwards => below,
+        };
+        next.copied().unwrap_or_else(|| self.random.pick(unused))
     }
 
     fn say_join(&mut self, seat: u8, number: u64, contact: u8) {
@@ -154,6 +190,15 @@ impl Writer {
 
     fn fill(&mut self) {
         let way = self.random.below(6);
+        let anywhere = Towards::Anywhere;
+        let towards = [
+            anywhere,
+            anywhere,
+            Towards::Above,
+            Towards::Below,
+            Towards::Outwards,
+        ];
+        self.towards = self.random.pick(&towards);
         for _ in self.seats(None).len()..self.pools.seats.len() {
             self.join();
             match way {
@@ -162,6 +207,7 @@ impl Writer {
                 _ => self.say("A"),
             }
         }
+        self.towards = anywhere;
     }
 
     fn leave(&mut self) {

@@ -1,5 +1,5 @@
 // Line A: deliveries of the smallest pending message, until none is pending.
-use super::say;
+use record::Answer;
 
 // Delivers the smallest pending message, if there is one.
 fn deliver_first(rec: &mut [u8]) -> bool {
@@ -16,14 +16,10 @@ fn deliver_first(rec: &mut [u8]) -> bool {
 }
 
 // Deliveries end (`every-list` of crate runs); the turns count down from a number that no run uses up.
-fn deliver_all(rec: &mut [u8]) {
+pub fn settle(rec: &mut [u8]) -> Answer {
     let mut turns = u64::MAX;
     while turns > 0 && deliver_first(rec) {
         turns -= 1;
     }
-}
-
-pub fn settle(rec: &mut [u8]) {
-    deliver_all(rec);
-    say::text(b"ok\n");
+    Answer::Done
 }

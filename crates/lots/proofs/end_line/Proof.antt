@@ -12,14 +12,17 @@ slice-aggregate-run c = let b = c .before .before .before .before .before in
 run-requires : tie.Need-run-requires
 run-requires c κs = search needs
 
-bad-requires : tie.Need-bad-requires
-bad-requires c κs = search needs
-
 same-length : tie.Need-same-length
 same-length c = search needs
 
 returns : tie.Need-returns
 returns c = search needs
+
+run-requires-2 : tie.Need-run-requires-2
+run-requires-2 c κs = search needs
+
+same-length-2 : tie.Need-same-length-2
+same-length-2 c = search needs
 
 returns-2 : tie.Need-returns-2
 returns-2 c = search needs
@@ -27,4 +30,11 @@ returns-2 c = search needs
 pub end-line-spec : {M : Type 1} → statement M
 end-line-spec =
     tie.close
-    (tie.spec slice-aggregate-run run-requires bad-requires same-length returns returns-2)
+    (tie.spec
+    slice-aggregate-run
+    run-requires
+    same-length
+    returns
+    run-requires-2
+    same-length-2
+    returns-2)

@@ -1,30 +1,21 @@
 -- `read_all` is safe and ends: the turns are counted. Assumes nothing.
-use mathlib.Core.Path.{_≡_, refl}
+use mathlib.Core.Path.{_≡_}
 use lib.ListN.{length}
 use borrow.Author.Needs.{needs}
 use Rattle.lots.proofs.read_all.Statement.{statement}
 use Rattle.lots.proofs.read_all.Tie as tie
 
 abbrev Inv-loop : tie.InvT-loop
-Inv-loop rec₀ line₀ kept₀ turns₀ rec line kept turns = (length rec ≡ length rec₀) × (length line ≡ length line₀)
+Inv-loop rec₀ line₀ input₀ turns₀ rec line input turns = (length rec ≡ length rec₀) × (length line ≡ length line₀)
 
 abbrev μ-loop : tie.MeasureT-loop
-μ-loop rec₀ line₀ kept₀ turns₀ rec line kept turns = turns
+μ-loop rec₀ line₀ input₀ turns₀ rec line input turns = turns
 
 loop-holds : tie.Need-loop-holds Inv-loop μ-loop
-loop-holds c = (refl, refl)
+loop-holds c = search needs
 
 read-some-requires : tie.Need-read-some-requires Inv-loop μ-loop
-read-some-requires c κs = tt
-
-same-length : tie.Need-same-length Inv-loop μ-loop
-same-length c = search needs
-
-same-length-2 : tie.Need-same-length-2 Inv-loop μ-loop
-same-length-2 c = search needs
-
-returns : tie.Need-returns Inv-loop μ-loop
-returns c = tt
+read-some-requires c κs = search needs
 
 sub-turns : tie.Need-sub-turns Inv-loop μ-loop
 sub-turns c = search needs
@@ -34,6 +25,15 @@ loop-less c = search needs
 
 loop-again : tie.Need-loop-again Inv-loop μ-loop
 loop-again c = search needs
+
+same-length : tie.Need-same-length Inv-loop μ-loop
+same-length c = search needs
+
+same-length-2 : tie.Need-same-length-2 Inv-loop μ-loop
+same-length-2 c = search needs
+
+returns : tie.Need-returns Inv-loop μ-loop
+returns c = tt
 
 same-length-3 : tie.Need-same-length-3 Inv-loop μ-loop
 same-length-3 c = search needs
@@ -52,12 +52,12 @@ read-all-spec =
     μ-loop
     loop-holds
     read-some-requires
-    same-length
-    same-length-2
-    returns
     sub-turns
     loop-less
     loop-again
+    same-length
+    same-length-2
+    returns
     same-length-3
     same-length-4
     returns-2)

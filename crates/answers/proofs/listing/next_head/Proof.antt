@@ -2,23 +2,23 @@
 use Prim.Native.Nat.{_-_, _≤_}
 use Rattle.record.specs.Layout.{seats}
 use borrow.Author.Needs.{needs}
-use Rattle.lots.proofs.listing.next_head.Statement.{statement}
-use Rattle.lots.proofs.listing.next_head.Tie as tie
+use Rattle.answers.proofs.listing.next_head.Statement.{statement}
+use Rattle.answers.proofs.listing.next_head.Tie as tie
 
 abbrev Inv-loop : tie.InvT-loop
-Inv-loop rec k last best₀ s₀ best s = s ≤ seats
+Inv-loop rec k from best₀ least₀ s₀ best least s = s ≤ seats
 
 abbrev μ-loop : tie.MeasureT-loop
-μ-loop rec k last best₀ s₀ best s = seats - s
+μ-loop rec k from best₀ least₀ s₀ best least s = seats - s
 
 loop-holds : tie.Need-loop-holds Inv-loop μ-loop
 loop-holds c = search needs
 
-follows-requires : tie.Need-follows-requires Inv-loop μ-loop
-follows-requires c κs = search needs
+prefix-requires : tie.Need-prefix-requires Inv-loop μ-loop
+prefix-requires c κs = search needs
 
-earlier-requires : tie.Need-earlier-requires Inv-loop μ-loop
-earlier-requires c κs = search needs
+is-head-requires : tie.Need-is-head-requires Inv-loop μ-loop
+is-head-requires c κs = search needs
 
 add-s : tie.Need-add-s Inv-loop μ-loop
 add-s c = search needs
@@ -39,8 +39,8 @@ next-head-spec =
     Inv-loop
     μ-loop
     loop-holds
-    follows-requires
-    earlier-requires
+    prefix-requires
+    is-head-requires
     add-s
     loop-less
     loop-again

@@ -1,9 +1,9 @@
--- `settle::deliver_all` is safe and ends: the turns are counted. Assumes nothing.
+-- `settle::settle` is safe and ends: the turns are counted. Assumes nothing.
 use mathlib.Core.Path.{_≡_, refl}
 use lib.ListN.{length}
 use borrow.Author.Needs.{needs}
-use Rattle.lots.proofs.settle.deliver_all.Statement.{statement}
-use Rattle.lots.proofs.settle.deliver_all.Tie as tie
+use Rattle.lots.proofs.settle.settle.Statement.{statement}
+use Rattle.lots.proofs.settle.settle.Tie as tie
 
 abbrev Inv-loop : tie.InvT-loop
 Inv-loop rec₀ turns₀ rec turns = length rec ≡ length rec₀
@@ -38,8 +38,8 @@ same-length-2 c = search needs
 returns-2 : tie.Need-returns-2 Inv-loop μ-loop
 returns-2 c = tt
 
-pub deliver-all-spec : {M : Type 1} → statement M
-deliver-all-spec =
+pub settle-spec : {M : Type 1} → statement M
+settle-spec =
     tie.close
     (tie.spec
     Inv-loop

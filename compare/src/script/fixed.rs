@@ -1,0 +1,453 @@
+//! Scripts that are the same in every run: lengths, counts and orders that
+//! generated ones reach rarely or never. Together they reach every mark.
+
+use super::Script;
+use crate::graph::SEATS;
+use crate::model::{Message, Model, Phase, State, NO_CONTACT};
+use crate::reach::{LENGTHS, PIECE};
+use crate::text;
+
+/// Every fixed script, with a name for reports.
+pub fn scripts() -> Vec<(String, Script)> {
+    let mut scripts = vec![
+        named("empty input", Vec::new()),
+        named("one newline", newlines(1)),
+        named("a piece of newlines", newlines(PIECE)),
+        named("more newlines than a piece", newlines(PIECE + 1)),
+        named("lines of every length", finished_lines()),
+        named("every byte", every_byte()),
+        named("every refusal", every_refusal()),
+        named("every vector", every_vector()),
+        named("one equal vector, ascending", one_list(&ascending())),
+        named("one equal vector, descending", one_list(&descending())),
+        named("one equal vector, alternating", one_list(&alternating())),
+        named("pairs with the widest numbers", pairs()),
+        named(
+            "largest first",
+            drained(|model| model.pending().last().copied()),
+        ),
+        named(
+            "smallest first",
+            drained(|model| model.pending().first().copied()),
+        ),
+        named("filled and emptied", filled_and_emptied()),
+        named("twelve clearings", clearings(12)),
+        named("leavers and their neighbours", leavers()),
+    ];
+    scripts.extend(unfinished_lines());
+    scripts.extend(inputs_of_a_length());
+    scripts.extend(commands_across_pieces());
+    scripts
+}
+
+fn named(name: &str, script: Script) -> (String, Script) {
+    (name.to_string(), script)
+}
+
+fn newlines(count: usize) -> Script {
+    vec![b"\n".to_vec(); count]
+}
+
+/// Lines with a model beside them.
+struct Lines {
+    model: Model,
+    script: Script,
+}
+
+impl Lines {
+    fn new() -> Lines {
+        Lines {
+            model: Model::open(),
+            script: Script::new(),
+        }
+    }
+
+    fn say(&mut self, line: impl AsRef<[u8]>) {
+        let line = line.as_ref();
+        text::answer(&mut self.model, text::parse(line));
+        self.script.push([line, b"\n"].concat());
+    }
+
+    fn say_all(&mut self, lines: &[&str]) {
+        lines.iter().for_each(|line| self.say(line));
+    }
+
+    fn join(&mut self, seat: usize, number: u64, vector: u8, contact: u8) {
+        self.say(format!("J {seat} {number} {vector} {contact}"));
+    }
+
+    fn deliver(&mut self, m: Message) {
+        self.say(format!(
+            "D {} {} {} {} {}",
+            m.kind, m.to, m.about, m.level, m.side
+        ));
+    }
+
+    /// Fills all seats, each lot at the one before it.
+    fn fill(&mut self, number: impl Fn(u64) -> u64, vector: impl Fn(u8) -> u8) {
+        for seat in 0..SEATS {
+            let contact = seat
+                .checked_sub(1)
+                .map_or(NO_CONTACT, |before| before as u8);
+            self.join(seat, number(seat as u64), vector(seat as u8), contact);
+        }
+    }
+
+    fn leave_all(&mut self, seats: impl Iterator<Item = u8>) {
+        seats.for_each(|seat| self.say(format!("L {seat}")));
+    }
+
+    fn search_from_all(&mut self, number: u64) {
+        for start in 0..SEATS {
+            self.say(format!("F {start} {number}"));
+        }
+    }
+}
+
+/// A line of some length, all of one byte or a command that goes on with it.
+fn long_line(length: usize, start: &[u8], filler: u8) -> Vec<u8> {
+    let mut line = start.to_vec();
+    line.resize(length, filler);
+    line
+}
+
+/// A start and what fills the rest: digits, spaces after a command, zeros in
+/// front of a number, zero bytes.
+const LONG: [(&[u8], u8); 5] = [
+    (b"", b'7'),
+    (b"J 0 1 0 255", b' '),
+    (b"L ", b'0'),
+    (b"T", 0),
+    (b"F 0 1", b'1'),
+];
+
+fn finished_lines() -> Script {
+    let mut lines = Lines::new();
+    lines.say("J 0 1 0 255");
+    for length in LENGTHS {
+        for (start, filler) in LONG {
+            lines.say(long_line(length, start, filler));
+            lines.say("F 0 1");
+        }
+    }
+    lines.say("P");
+    lines.script
+}
+
+/// Scripts that end in a long line without its newline, and in each command.
+fn unfinished_lines() -> Vec<(String, Script)> {
+    let start = b"J 0 1 0 255\n".to_vec();
+    let mut scripts = Vec::new();
+    for length in LENGTHS {
+        for (begin, filler) in LONG {
+            let script = vec![start.clone(), long_line(length, begin, filler)];
+            scripts.push((format!("an unfinished line of {length} bytes"), script));
+        }
+    }
+    let commands = ["J 1 2 0 0", "L 0", "D 1 0 1 0 0", "T", "A", "F 0 1", "P"];
+    for command in commands {
+        let mut script = vec![start.clone(), b"J 1 2 0 0\n".to_vec()];
+        if command.starts_with('J') {
+            script.pop();
+        }
+        script.push(command.as_bytes().to_vec());
+        scripts.push((format!("unfinished `{command}`"), script));
+    }
+    scripts
+}
+
+/// Inputs of exactly a piece, of two, and of a byte less and more; the last
+/// line with its newline and without it.
+fn inputs_of_a_length() -> Vec<(String, Script)> {
+    let mut scripts = Vec::new();
+    for length in [
+        1,
+        PIECE - 1,
+        PIECE,
+        PIECE + 1,
+        2 * PIECE - 1,
+        2 * PIECE,
+        2 * PIECE + 1,
+    ] {
+        for last in ["P", "P\n", "bad\n"] {
+            let name = format!("an input of {length} bytes that ends in {last:?}");
+            scripts.push((name, before(length.saturating_sub(last.len()), last)));
+        }
+    }
+    scripts
+}
+
+/// Some bytes of lines, then the given bytes.
+fn before(length: usize, last: &str) -> Script {
+    let mut script = vec![b"T\n".to_vec(); length / 2];
+    if length % 2 == 1 {
+        script.push(b"\n".to_vec());
+    }
+    script.push(last.as_bytes().to_vec());
+    script
+}
+
+/// Each command, cut by the end of a piece at each of its bytes.
+fn commands_across_pieces() -> Vec<(String, Script)> {
+    let mut scripts = Vec::new();
+    let commands = [
+        "J 7 1234567890 255 0",
+        "L 0",
+        "D 1 0 1 0 0",
+        "F 0 99",
+        "T",
+        "A",
+        "P",
+    ];
+    for command in commands {
+        for cut in 0..=command.len() {
+            let start = "J 0 100 0 255\nJ 1 200 0 0\n";
+            let rest = format!("{command}\nA\nP\n");
+            let mut script = before(PIECE - cut - start.len(), "");
+            script.extend([start.as_bytes().to_vec(), rest.into_bytes()]);
+            scripts.push((format!("`{command}` cut after {cut} bytes"), script));
+        }
+    }
+    scripts
+}
+
+/// Each byte alone, before a command, inside it and after it.
+fn every_byte() -> Script {
+    let mut lines = Lines::new();
+    for byte in (0..=u8::MAX).filter(|&byte| byte != b'\n') {
+        lines.say([byte]);
+        lines.say([byte, b'T']);
+        lines.say([b'T', byte]);
+        lines.say([b'F', byte, b'0', b' ', b'1']);
+        lines.say([b'F', b' ', b'0', b' ', b'1', byte]);
+    }
+    lines.script
+}
+
+/// Each refusal of each line, with its neighbour that is not refused.
+fn every_refusal() -> Script {
+    let mut lines = Lines::new();
+    lines.say_all(&[
+        "J 0 10 0 0",
+        "J 64 10 0 255",
+        "J 0 10 0 254",
+        "J 63 10 0 255",
+    ]);
+    lines.say_all(&["J 63 11 0 63", "J 1 10 0 63", "J 1 11 0 2", "J 1 11 0 255"]);
+    lines.say_all(&[
+        "J 1 11 0 63",
+        "T",
+        "L 64",
+        "L 2",
+        "D 1 63 1 0 1",
+        "D 8 63 1 0 0",
+    ]);
+    lines.say_all(&[
+        "D 0 63 1 0 0",
+        "D 1 63 1 9 0",
+        "D 1 63 1 0 0",
+        "P",
+        "A",
+        "P",
+    ]);
+    lines.say_all(&["F 64 10", "F 2 10", "F 63 10", "L 63", "L 63", "F 63 11"]);
+    // A leaving contact is a contact.
+    lines.say_all(&["J 2 5 128 63", "P", "F 2 5", "T", "A", "T", "P", "F 63 10"]);
+    lines.say_all(&["J 3 7 0 1", "L 1", "T", "T", "A", "T", "P", "J 63 10 0 1"]);
+    lines.say_all(&["A", "P"]);
+    lines.script
+}
+
+/// Four records of 64 lots in which each vector is met once.
+fn every_vector() -> Script {
+    let mut lines = Lines::new();
+    for quarter in 0..4u8 {
+        let odd = |seat: u64| seat * 0x1234_5678_9ABC_DEF1 + u64::from(quarter);
+        lines.fill(odd, |seat| (seat * 4 + quarter).reverse_bits());
+        lines.say_all(&["A", "P"]);
+        lines.search_from_all(odd(u64::from(quarter) * 20));
+        for seat in 0..SEATS as u64 {
+            lines.say(format!("F {quarter} {}", odd(seat)));
+        }
+        lines.leave_all(0..SEATS as u8);
+        lines.say_all(&["T", "A", "T", "P"]);
+    }
+    lines.script
+}
+
+fn ascending() -> Vec<u64> {
+    (0..SEATS as u64).map(|n| n * 1_000).collect()
+}
+
+fn descending() -> Vec<u64> {
+    ascending().into_iter().rev().collect()
+}
+
+/// In turn above and below all that came before, and both ends at last.
+fn alternating() -> Vec<u64> {
+    let middle = 1u64 << 63;
+    let far = |step: u64| match step % 2 {
+        0 => middle + step,
+        _ => middle - step,
+    };
+    let mut numbers: Vec<u64> = (0..SEATS as u64 - 2).map(far).collect();
+    numbers.extend([u64::MAX, 0]);
+    numbers
+}
+
+/// Lots of one vector that all join at the first, settled by one `A`: in
+/// ascending order more than 20,000 deliveries.
+fn one_list(numbers: &[u64]) -> Script {
+    let mut lines = Lines::new();
+    for (seat, &number) in numbers.iter().enumerate() {
+        let contact = if seat == 0 { NO_CONTACT } else { 0 };
+        lines.join(seat, number, 0b1010_0101, contact);
+    }
+    lines.say_all(&["P", "A", "P", "A"]);
+    for number in [0, 1, u64::MAX, numbers[SEATS / 2]] {
+        lines.search_from_all(number);
+    }
+    lines.script
+}
+
+/// 32 pairs, each with bits of its own from level 5 on, and numbers of twenty
+/// digits: the longest answer.
+fn pairs() -> Script {
+    let mut lines = Lines::new();
+    lines.fill(|seat| u64::MAX - seat, |seat| seat / 2 * 8);
+    lines.say_all(&["A", "P"]);
+    lines.leave_all((0..SEATS as u8).filter(|seat| seat % 3 == 0));
+    lines.say_all(&["P", "T", "P", "A", "P", "T", "P"]);
+    lines.script
+}
+
+/// Joins and a clearing, each drained message by message in one order. Many
+/// share all bits, so that every rule is met at every level.
+fn drained(next: fn(&Model) -> Option<Message>) -> Script {
+    let mut lines = Lines::new();
+    for seat in 0..24u8 {
+        let contact = if seat == 0 { NO_CONTACT } else { seat / 2 };
+        let number = u64::from(seat).reverse_bits();
+        let vector = [0, 1, 0, 128][usize::from(seat) % 4];
+        lines.join(seat.into(), number, vector, contact);
+    }
+    lines.drain(next);
+    lines.leave_all((0..24).filter(|seat| seat % 3 != 1));
+    lines.say("T");
+    lines.drain(next);
+    lines.say_all(&["T", "P"]);
+    lines.script
+}
+
+impl Lines {
+    fn drain(&mut self, next: fn(&Model) -> Option<Message>) {
+        self.say("P");
+        while let Some(message) = next(&self.model) {
+            self.deliver(message);
+        }
+        self.say_all(&["P", "F 1 1000"]);
+    }
+}
+
+/// Every seat taken, left and taken again, from the last seat down too.
+fn filled_and_emptied() -> Script {
+    let mut lines = Lines::new();
+    lines.fill(|seat| seat, |seat| seat.reverse_bits());
+    lines.say_all(&["A", "P"]);
+    lines.leave_all((0..SEATS as u8).rev());
+    lines.say_all(&["T", "A", "P", "T", "P", "T", "F 0 0"]);
+    for seat in (0..SEATS as u8).rev() {
+        let contact = if seat == 63 { NO_CONTACT } else { 63 };
+        lines.join(seat.into(), u64::from(seat), !seat, contact);
+        lines.say_all(&["A", "P"]);
+    }
+    lines.search_from_all(31);
+    lines.script
+}
+
+/// Some of the lots leave, are cleared and come back with the same seats and
+/// numbers, again and again.
+fn clearings(count: u8) -> Script {
+    let mut lines = Lines::new();
+    lines.fill(|seat| seat * 10, |seat| seat & 3);
+    lines.say("A");
+    for turn in 0..count {
+        let leaver = |seat: &u8| seat % count == turn || seat % 5 == turn % 5;
+        let left: Vec<u8> = (0..SEATS as u8).filter(leaver).collect();
+        lines.leave_all(left.iter().copied());
+        lines.say_all(&["T", "P"]);
+        lines.say_all(&["A", "P", "T", "P"]);
+        let contact = (0..SEATS as u8).find(|seat| !left.contains(seat));
+        for &seat in &left {
+            lines.join(
+                seat.into(),
+                u64::from(seat) * 10,
+                seat & 3,
+                contact.unwrap_or(0),
+            );
+        }
+        lines.say_all(&["A", "P"]);
+        lines.search_from_all(u64::from(turn) * 53);
+    }
+    lines.script
+}
+
+/// Searches and joins while lots leave and messages are pending.
+fn leavers() -> Script {
+    let mut lines = Lines::new();
+    for seat in 0..8u8 {
+        let contact = if seat == 0 { NO_CONTACT } else { 0 };
+        lines.join(seat.into(), u64::from(seat) * 3, seat << 5, contact);
+        lines.say_all(&["P", "F 0 21"]);
+    }
+    lines.leave_all([2, 3, 5].into_iter());
+    // A join at a leaver, which goes on taking part.
+    lines.say_all(&[
+        "J 9 10 7 3",
+        "F 3 10",
+        "A",
+        "P",
+        "F 5 22",
+        "T",
+        "P",
+        "F 3 9",
+    ]);
+    while let Some(&message) = lines.model.pending().iter().next() {
+        lines.deliver(message);
+        lines.say_all(&["F 0 9", "F 3 9", "P"]);
+    }
+    debug_assert_eq!(lines.model.phase(), Phase::Clearing);
+    debug_assert!(lines
+        .model
+        .seated()
+        .any(|(_, lot)| lot.state == State::Leaving));
+    lines.say_all(&["T", "P", "F 0 9", "J 3 9 96 9", "A", "P"]);
+    lines.script
+}
+
+#[cfg(test)]
+mod tests {
+    use super::*;
+    use crate::{reach, selfcheck};
+    use std::collections::BTreeSet;
+
+    #[test]
+    fn fixed_scripts_reach_every_mark() {
+        let mut marks = BTreeSet::new();
+        for (name, script) in scripts() {
+            let run = selfcheck::run(&script.concat());
+            marks.extend(
+                run.unwrap_or_else(|failure| panic!("{name}: {failure:?}"))
+                    .marks,
+            );
+        }
+        let left: Vec<_> = reach::all().difference(&marks).copied().collect();
+        assert!(left.is_empty(), "not reached: {left:?}");
+    }
+
+    #[test]
+    fn equal_vectors_in_ascending_order_take_20790_deliveries() {
+        let run = selfcheck::run(&one_list(&ascending()).concat()).unwrap();
+        assert_eq!(run.deliveries, 20_790);
+    }
+}
