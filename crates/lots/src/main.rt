@@ -11,9 +11,9 @@ use libc::STDOUT_FILENO;
 
 const NEWLINE: u8 = b'\n';
 
-// Writes the first n bytes of an answer. Whether all of them were written.
+// Writes the first n bytes of an answer. Whether all of them were written. One that fills its room may have lost bytes, and is not written.
 fn write(answer: &[u8], n: usize) -> bool {
-    if n <= answer.len() && io::write_all(STDOUT_FILENO, &answer[..n]) {
+    if n < answer.len() && io::write_all(STDOUT_FILENO, &answer[..n]) {
         return true;
     }
     io::write_all(STDERR_FILENO, b"lots: write failed\n");

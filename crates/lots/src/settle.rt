@@ -6,11 +6,10 @@ fn deliver_first(rec: &mut [u8]) -> bool {
     if rec.len() != record::SIZE {
         return false;
     }
-    let i = messages::first_pending(rec, 0);
-    if i >= record::MESSAGES {
+    let m = messages::next::next_pending(rec, 0, 0, 0, 0, 0);
+    if m.kind == 0 {
         return false;
     }
-    let m = messages::message_at(i);
     delivery::deliver(rec, m.kind, m.to, m.about, m.level, m.side);
     true
 }
