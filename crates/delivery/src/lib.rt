@@ -4,33 +4,25 @@ ghost use mathlib.Core.Path.{_≡_};
 ghost use mathlib.Core.Bool.{cond};
 ghost use Prim.Native.Nat.{_<_};
 ghost use lib.ListN.{length};
-ghost use Rattle.memory.specs.Bits.{bitSet, clearBit};
+ghost use Rattle.memory.specs.Bits.{clearBit};
 ghost use Rattle.graph.specs.Side.{sideOfNumber};
 ghost use Rattle.graph.specs.Vector.{width};
-ghost use Rattle.protocol.specs.Message.{name, found as foundOf, none-found};
+ghost use Rattle.protocol.specs.Message.{name, named, found as foundOf, none-found};
+ghost use Rattle.protocol.specs.State.{isPending};
 ghost use Rattle.protocol.specs.pages.Deliver.{rule};
 ghost use Rattle.protocol.specs.Calls.{deliver as delivering};
-ghost use Rattle.record.specs.Layout.{seats, levels, messages, pendingFrom, size};
+ghost use Rattle.record.specs.Layout.{seats, levels, pendingFrom, size};
 ghost use Rattle.record.specs.Meaning.{meaning};
 ghost use Rattle.record.specs.Reading.{recordRefusal};
 ghost use Rattle.record.specs.Call.{called};
 ghost use Rattle.record.specs.Answer.{Numbered, outcome};
+ghost use Rattle.messages.specs.inner.Places.{placeOf};
 ghost use Rattle.rules.specs.inner.Done.{done};
-use messages::found_place;
-use messages::going_place;
-use messages::meet_place;
-use messages::none_place;
-use messages::pair_fits;
-use messages::probe_place;
-use messages::pull_fits;
-use messages::pull_place;
-use messages::seek_place;
-use messages::side_fits;
+use messages::place_of;
 use record::Answer;
 use record::ENTRIES;
 use record::ENTRY;
-use record::LEVELS;
-use record::WIDTH;
+use record::MESSAGES;
 use record::refusals::NO_SUCH_MESSAGE;
 use rules::found;
 use rules::going;
@@ -41,17 +33,21 @@ use rules::pull;
 use rules::seek;
 use soundness::record_refusal;
 
-// Takes the message at place i away if it is pending, and says whether it was.
-fn take_pending(rec: &mut [u8], i: usize) -> bool
-    requires { ⌜ (length (now rec) ≡ size) × (i < messages) ⌝ }
-    ensures { λ r. ⌜ (r ≡ bitSet (now (rec .entry)) pendingFrom i)
-        × (now (rec .exit) ≡ cond r (clearBit (now (rec .entry)) pendingFrom i) (now (rec .entry))) ⌝ }
+// Takes the message that five numbers name away if it is pending, and says whether it was.
+fn take_named(rec: &mut [u8], kind: u8, to: usize, about: usize, level: usize, side: usize) -> bool
+    requires { ⌜ recordRefusal (now rec) ≡ 0 ⌝ }
+    ensures { λ r. ⌜ (let n = named (name kind to about level side) in let l = now (rec .entry) in
+        (r ≡ isPending (meaning l .pending) n) × (now (rec .exit) ≡ cond r (clearBit l pendingFrom (placeOf n)) l)) ⌝ }
 {
-    if record::is_pending(rec, i) {
-        record::take(rec, i);
-        return true;
+    let i = place_of(kind, to, about, level, side);
+    if i == MESSAGES {
+        return false;
     }
-    false
+    if !record::is_pending(rec, i) {
+        return false;
+    }
+    record::take(rec, i);
+    true
 }
 
 // FOUND, lent the entry of `to` alone.
@@ -75,16 +71,12 @@ fn lend_none(rec: &mut [u8], to: usize, level: usize, side: usize)
     none(&mut rec[a..e], level, side);
 }
 
-// The kinds, each on a record that is not refused: the numbers fit the kind and the message is pending, or it is refused; it is taken away,
-// and its rule is done.
+// The kinds, each on a record that is not refused: the message is taken away, and its rule is done; or it is refused.
 fn deliver_meet(rec: &mut [u8], to: usize, about: usize, level: usize, side: usize) -> Answer
     requires { ⌜ recordRefusal (now rec) ≡ 0 ⌝ }
     ensures { λ r. ⌜ (outcome r (now (rec .exit)) ≡ called (now (rec .entry)) (delivering (name 1 to about level side))) × Numbered r ⌝ }
 {
-    if !pair_fits(to, about, level, side, LEVELS) {
-        return Answer::Refused(NO_SUCH_MESSAGE);
-    }
-    if !take_pending(rec, meet_place(to, about, level)) {
+    if !take_named(rec, 1, to, about, level, side) {
         return Answer::Refused(NO_SUCH_MESSAGE);
     }
     meet(rec, to, about, level);
@@ -95,10 +87,7 @@ fn deliver_probe(rec: &mut [u8], to: usize, about: usize, level: usize, side: us
     requires { ⌜ recordRefusal (now rec) ≡ 0 ⌝ }
     ensures { λ r. ⌜ (outcome r (now (rec .exit)) ≡ called (now (rec .entry)) (delivering (name 2 to about level side))) × Numbered r ⌝ }
 {
-    if !pair_fits(to, about, level, side, WIDTH) {
-        return Answer::Refused(NO_SUCH_MESSAGE);
-    }
-    if !take_pending(rec, probe_place(to, about, level)) {
+    if !take_named(rec, 2, to, about, level, side) {
         return Answer::Refused(NO_SUCH_MESSAGE);
     }
     probe(rec, to, about, level);
@@ -109,10 +98,7 @@ fn deliver_pull(rec: &mut [u8], to: usize, about: usize, level: usize, side: usi
     requires { ⌜ recordRefusal (now rec) ≡ 0 ⌝ }
     ensures { λ r. ⌜ (outcome r (now (rec .exit)) ≡ called (now (rec .entry)) (delivering (name 3 to about level side))) × Numbered r ⌝ }
 {
-    if !pull_fits(to, about, level, side) {
-        return Answer::Refused(NO_SUCH_MESSAGE);
-    }
-    if !take_pending(rec, pull_place(to, about, level, side)) {
+    if !take_named(rec, 3, to, about, level, side) {
         return Answer::Refused(NO_SUCH_MESSAGE);
     }
     pull(rec, to, about, level, side);
@@ -123,10 +109,7 @@ fn deliver_going(rec: &mut [u8], to: usize, about: usize, level: usize, side: us
     requires { ⌜ recordRefusal (now rec) ≡ 0 ⌝ }
     ensures { λ r. ⌜ (outcome r (now (rec .exit)) ≡ called (now (rec .entry)) (delivering (name 4 to about level side))) × Numbered r ⌝ }
 {
-    if !side_fits(to, about, level, side) {
-        return Answer::Refused(NO_SUCH_MESSAGE);
-    }
-    if !take_pending(rec, going_place(to, level, side)) {
+    if !take_named(rec, 4, to, about, level, side) {
         return Answer::Refused(NO_SUCH_MESSAGE);
     }
     going(rec, to, level, side);
@@ -137,10 +120,7 @@ fn deliver_seek(rec: &mut [u8], to: usize, about: usize, level: usize, side: usi
     requires { ⌜ recordRefusal (now rec) ≡ 0 ⌝ }
     ensures { λ r. ⌜ (outcome r (now (rec .exit)) ≡ called (now (rec .entry)) (delivering (name 5 to about level side))) × Numbered r ⌝ }
 {
-    if !pair_fits(to, about, level, side, LEVELS) {
-        return Answer::Refused(NO_SUCH_MESSAGE);
-    }
-    if !take_pending(rec, seek_place(to, about, level)) {
+    if !take_named(rec, 5, to, about, level, side) {
         return Answer::Refused(NO_SUCH_MESSAGE);
     }
     seek(rec, to, about, level);
@@ -151,10 +131,7 @@ fn deliver_found(rec: &mut [u8], to: usize, about: usize, level: usize, side: us
     requires { ⌜ recordRefusal (now rec) ≡ 0 ⌝ }
     ensures { λ r. ⌜ (outcome r (now (rec .exit)) ≡ called (now (rec .entry)) (delivering (name 6 to about level side))) × Numbered r ⌝ }
 {
-    if !pair_fits(to, about, level, side, LEVELS) {
-        return Answer::Refused(NO_SUCH_MESSAGE);
-    }
-    if !take_pending(rec, found_place(to, about, level)) {
+    if !take_named(rec, 6, to, about, level, side) {
         return Answer::Refused(NO_SUCH_MESSAGE);
     }
     lend_found(rec, to, about, level);
@@ -165,10 +142,7 @@ fn deliver_none(rec: &mut [u8], to: usize, about: usize, level: usize, side: usi
     requires { ⌜ recordRefusal (now rec) ≡ 0 ⌝ }
     ensures { λ r. ⌜ (outcome r (now (rec .exit)) ≡ called (now (rec .entry)) (delivering (name 7 to about level side))) × Numbered r ⌝ }
 {
-    if !side_fits(to, about, level, side) {
-        return Answer::Refused(NO_SUCH_MESSAGE);
-    }
-    if !take_pending(rec, none_place(to, level, side)) {
+    if !take_named(rec, 7, to, about, level, side) {
         return Answer::Refused(NO_SUCH_MESSAGE);
     }
     lend_none(rec, to, level, side);

@@ -99,21 +99,21 @@ pub fn none_place(to: usize, level: usize, side: usize) -> usize
 }
 
 // Whether the numbers fit a kind that names two lots and a level below the bound.
-pub fn pair_fits(to: usize, about: usize, level: usize, side: usize, bound: usize) -> bool
+fn pair_fits(to: usize, about: usize, level: usize, side: usize, bound: usize) -> bool
     ensures { λ r. ⌜ r ≡ eqb side 0 && (ltb to seats && (ltb about seats && ltb level bound)) ⌝ }
 {
     side == 0 && (to < SEATS && (about < SEATS && level < bound))
 }
 
 // Whether the numbers fit PULL.
-pub fn pull_fits(to: usize, about: usize, level: usize, side: usize) -> bool
+fn pull_fits(to: usize, about: usize, level: usize, side: usize) -> bool
     ensures { λ r. ⌜ r ≡ ltb about 2 && (ltb side 2 && (ltb to seats && ltb level width)) ⌝ }
 {
     about < 2 && (side < 2 && (to < SEATS && level < WIDTH))
 }
 
 // Whether the numbers fit a kind that names a lot, a level and a side.
-pub fn side_fits(to: usize, about: usize, level: usize, side: usize) -> bool
+fn side_fits(to: usize, about: usize, level: usize, side: usize) -> bool
     ensures { λ r. ⌜ r ≡ eqb about 0 && (ltb side 2 && (ltb to seats && ltb level levels)) ⌝ }
 {
     about == 0 && (side < 2 && (to < SEATS && level < LEVELS))

@@ -3,83 +3,48 @@ use mathlib.Core.Path.{_∙_}
 use native.Mathlib.Omega.{arith}
 use borrow.Author.Tests.{not-true, not-false}
 use borrow.Author.Needs.{needs}
-use Rattle.graph.specs.Vector.{width}
-use Rattle.delivery.proofs.ByKind.{probe-kind, pair-below}
-use Rattle.delivery.proofs.Steps.{sized, misfit, idle, carried-out}
+use Rattle.protocol.specs.Message.{name}
+use Rattle.delivery.proofs.ByKind.{probe-kind, probe-in}
+use Rattle.delivery.proofs.Steps.{sized, idle, fits, carried-out}
 use Rattle.delivery.proofs.deliver_probe.Statement.{statement}
 use Rattle.delivery.proofs.deliver_probe.Tie as tie
 
-pair-fits-requires : tie.Need-pair-fits-requires
-pair-fits-requires c κs = search needs
-
-returns : tie.Need-returns
-returns c =
-    let f = c .before in
-    let b = f .before .before in
-    let a = b .args in
-    misfit (a .rec .now) (b .pre) (probe-kind (a .to) (a .about) (a .level) (a .side) (f .pair-fits .ensures)) (not-true _ (c .if1 .taken))
-
-probe-place-requires : tie.Need-probe-place-requires
-probe-place-requires c κs =
-    let f = c .before .before in
-    let a = f .before .before .args in
-    pair-below (a .to) (a .about) (a .level) (a .side) width (f .pair-fits .ensures) (not-false _ (c .before .if1 .left))
-
-take-pending-requires : tie.Need-take-pending-requires
-take-pending-requires c κs =
-    let b = c .before .before .before .before .before in
-    (sized (b .args .rec .now) (b .pre), c .probe-place .ensures .1)
+take-named-requires : tie.Need-take-named-requires
+take-named-requires c κs = search needs
 
 same-length : tie.Need-same-length
 same-length c = search needs
 
-returns-2 : tie.Need-returns-2
-returns-2 c =
+returns : tie.Need-returns
+returns c =
     let t = c .before .before .before in
-    let g = t .before .before .before in
-    let f = g .before in
-    let b = f .before .before in
+    let b = t .before .before .before in
     let a = b .args in
-    idle (a .rec .now) (b .pre) (probe-kind (a .to) (a .about) (a .level) (a .side) (f .pair-fits .ensures)) (not-false _ (g .if1 .left))
-    (t .before .probe-place .ensures .0) (t .take-pending .ensures .0) (t .take-pending .ensures .1)
-    (not-true _ (c .if2 .taken))
+    idle (a .rec .now) (b .pre) (name 2 (a .to) (a .about) (a .level) (a .side)) (t .take-named .ensures) (not-true _ (c .if1 .taken))
 
 probe-requires : tie.Need-probe-requires
 probe-requires c κs =
     let t = c .before .before .before .before in
-    let g = t .before .before .before in
-    let f = g .before in
-    let b = f .before .before in
+    let b = t .before .before .before in
     let a = b .args in
-    let z = t .take-pending .kept .0 ∙ sized (a .rec .now) (b .pre) in
-    let p = pair-below (a .to) (a .about) (a .level) (a .side) width (f .pair-fits .ensures) (not-false _ (g .if1 .left)) in
+    let k = probe-kind (a .to) (a .about) (a .level) (a .side) in
+    let f = fits (a .rec .now) (b .pre) k (t .take-named .ensures) (not-false _ (c .before .if1 .left)) in
+    let p = probe-in (a .to) (a .about) (a .level) (a .side) (f .1) in
+    let z = t .take-named .kept .0 ∙ sized (a .rec .now) (b .pre) in
     (z, p .0, p .1, p .2)
 
 same-length-2 : tie.Need-same-length-2
 same-length-2 c = search needs
 
-returns-3 : tie.Need-returns-3
-returns-3 c =
+returns-2 : tie.Need-returns-2
+returns-2 c =
     let r = c .before .before in
     let t = r .before .before .before .before .before in
-    let g = t .before .before .before in
-    let f = g .before in
-    let b = f .before .before in
+    let b = t .before .before .before in
     let a = b .args in
-    carried-out (a .rec .now) (b .pre) (probe-kind (a .to) (a .about) (a .level) (a .side) (f .pair-fits .ensures)) (not-false _ (g .if1 .left))
-    (t .before .probe-place .ensures .0) (t .take-pending .ensures .0) (t .take-pending .ensures .1)
-    (λ j. omega (arith, f .before .slice-known .given j)) (not-false _ (r .before .before .if2 .left)) (r .probe .ensures)
+    let k = probe-kind (a .to) (a .about) (a .level) (a .side) in
+    carried-out (a .rec .now) (b .pre) k (t .take-named .ensures) (not-false _ (r .before .before .if1 .left))
+    (λ j. omega (arith, t .before .before .slice-known .given j)) (r .probe .ensures)
 
 pub deliver-probe-spec : {M : Type 1} → statement M
-deliver-probe-spec =
-    tie.close
-    (tie.spec
-    pair-fits-requires
-    returns
-    probe-place-requires
-    take-pending-requires
-    same-length
-    returns-2
-    probe-requires
-    same-length-2
-    returns-3)
+deliver-probe-spec = tie.close (tie.spec take-named-requires same-length returns probe-requires same-length-2 returns-2)
