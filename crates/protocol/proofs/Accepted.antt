@@ -1,4 +1,4 @@
--- What the table tells of an accepted call: no row applies, as facts. Assumes nothing.
+-- What the table tells of an accepted call: no row applies, as facts; and which numbers no call of a list meets. Assumes nothing.
 use Prim.Native.Nat.{ℕ, _≤_, _<_}
 use mathlib.Core.Path.{_≡_, refl}
 use mathlib.Core.Logic.{_≢_}
@@ -9,8 +9,9 @@ use Rattle.base.proofs.Tests.{true-T, and-T}
 use Rattle.protocol.specs.Message.{Msg, Name, named}
 use Rattle.protocol.specs.Numbering.{somePending}
 use Rattle.protocol.specs.State.{open-phase, Seats, noSeat, taken, seated, empty, leaves, isPending}
-use Rattle.protocol.specs.Calls.{join, leave, deliver, turn, rows, refusal}
-use Rattle.protocol.specs.Refusals.{noSuchSeat, seatTaken, numberInUse, noContact, inClearing, emptySeat, alreadyLeaving, noSuchMessage, messagesLeft}
+use Rattle.protocol.specs.Calls.{Call, join, leave, deliver, turn, rows, refusal}
+use Rattle.protocol.specs.Refusals.{wrongSize, unsound, noSuchLevel, noSuchSeat, seatTaken, numberInUse, noContact, inClearing, emptySeat}
+use Rattle.protocol.specs.Refusals.{alreadyLeaving, noSuchMessage, messagesLeft, appliesIn}
 use Rattle.protocol.specs.pages.Join.{nobodyToContact}
 use Rattle.protocol.proofs.Calls.{no-row}
 use Rattle.base.specs.Loops.{any}
@@ -22,6 +23,17 @@ or-false true b e = e
 or-false false b e = refl
 
 module _ (N W : ℕ) (r : Seats) (p : Msg → Bool) where
+  -- 1 and 2 are the record's, 12 is the reading's
+  abbrev pub Free : Call → ℕ → Type 0
+  Free c n = appliesIn (rows N W r p c) n ≡ false
+
+  pub rows-free : (c : Call) → Free c wrongSize × Free c unsound × Free c noSuchLevel
+  unfolding rows
+  rows-free (join s n v c) = (refl, refl, refl)
+  rows-free (leave s) = (refl, refl, refl)
+  rows-free (deliver n) = (refl, refl, refl)
+  rows-free turn = (refl, refl, refl)
+
   pub record Joins (s n c : ℕ) : Type 0 where
     pub seat : s < N
     pub opens : r .phase ≡ open-phase

@@ -7,7 +7,8 @@ use mathlib.Core.List.{List}
 use Rattle.memory.specs.Bytes.{AreBytes}
 use Rattle.graph.specs.Vector.{width}
 use Rattle.protocol.specs.Sound.{Sound}
-use Rattle.protocol.specs.Calls.{Call, join, leave, deliver, turn, rows, refusal, accept, unlessRefused}
+use Rattle.protocol.specs.Calls.{Call, rows, refusal, accept, unlessRefused}
+use Rattle.protocol.proofs.Accepted.{rows-free}
 use Rattle.record.specs.Layout.{seats}
 use Rattle.record.specs.Meaning.{meaning, bytesOf}
 use Rattle.record.specs.Reading.{recordRefusal}
@@ -25,11 +26,7 @@ pub record Accepted (l : List ℕ) (c : Call) : Type 0 where
 module _ (l : List ℕ) where
   -- no call meets 1 or 2 by its own rows
   pub call-later : (c : Call) → Later (rows seats width (meaning l .seats) (meaning l .pending) c)
-  unfolding rows
-  call-later (join s n v c) = (refl, refl)
-  call-later (leave s) = (refl, refl)
-  call-later (deliver n) = (refl, refl)
-  call-later turn = (refl, refl)
+  call-later c = let f = rows-free seats width (meaning l .seats) (meaning l .pending) c in (f .0, f .1)
 
   -- the record is refused
   pub refused-early : (c : Call) {n : ℕ} → n ≡ recordRefusal l → n ≢ 0 → n ≡ callRefusal l c

@@ -19,7 +19,7 @@ use Rattle.protocol.specs.pages.Turn.{afterTurn}
 use Rattle.protocol.specs.Calls.{Call, join, leave, deliver, turn, unlessRefused, rows, refusal, seatsAfter}
 use Rattle.protocol.specs.Run.{Past, logOf, Roster, rosterAfter, rosterOf, pendingOf, RefusedByTable}
 use Rattle.protocol.proofs.Calls.{at-other}
-use Rattle.protocol.proofs.Accepted.{join-rows, leave-rows}
+use Rattle.protocol.proofs.Accepted.{rows-free, join-rows, leave-rows}
 
 -- a refusal that is given applies
 given-applies : (ns : List ℕ) (rs : List Row) (n : ℕ) → n ≢ 0 → firstOf ns rs ≡ n → appliesIn rs n ≡ true
@@ -38,20 +38,10 @@ not-given rs n h f e = true-false (given-applies order rs n h e) f
 
 module _ (N W : ℕ) (r : Seats) (p : Msg → Bool) where
   -- no call of a list meets 1, 2 or 12
-  abbrev Free : Call → ℕ → Type 0
-  Free c n = appliesIn (rows N W r p c) n ≡ false
-
-  rows-free : (c : Call) → Free c wrongSize × Free c unsound × Free c noSuchLevel
-  unfolding rows
-  rows-free (join s n v c) = (refl, refl, refl)
-  rows-free (leave s) = (refl, refl, refl)
-  rows-free (deliver n) = (refl, refl, refl)
-  rows-free turn = (refl, refl, refl)
-
   pub refusal-other : (c : Call) → (refusal N W r p c ≢ wrongSize) × (refusal N W r p c ≢ unsound) × (refusal N W r p c ≢ noSuchLevel)
   unfolding refusal
   refusal-other c =
-      let f = rows-free c in
+      let f = rows-free N W r p c in
       let rs = rows N W r p c in
       (not-given rs wrongSize (λ e. omega arith) (f .0), not-given rs unsound (λ e. omega arith) (f .1), not-given rs noSuchLevel (λ e. omega arith) (f .2))
 
