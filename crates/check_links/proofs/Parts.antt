@@ -53,7 +53,8 @@ module _ (l : List ℕ) where
 
   -- a link with its link back
   module _ (x k d y : ℕ) (h : x < seats) (g : k < levels) (a : d < 2) (e : y ≡ getD l (linkAt x k (sideOfNumber d)) 0) where
-    pub back-none : seats ≤ y → true ≡ backOf (members oneComponent (seatsIn l)) (meaning l .link) x k (sideOfNumber d) (meaning l .link x k (sideOfNumber d))
+    pub back-none : seats ≤ y
+        → true ≡ backOf (members oneComponent (seatsIn l)) (meaning l .link) x k (sideOfNumber d) (meaning l .link x k (sideOfNumber d))
     unfolding backOf
     back-none q = rw (link-read l x k (sideOfNumber d) y h g e, linkOf-none y q)
 

@@ -83,7 +83,8 @@ calls =
     ∷ join 2 300 1 0 ∷ leave 3 ∷ deliver (name 1 0 2 1 0) ∷ deliver (name 1 0 1 0 0) ∷ deliver (name 1 0 1 0 0)
     ∷ deliver (name 8 0 1 0 0) ∷ turn ∷ leave 1 ∷ leave 1 ∷ []
 
-refused : refusals (logOf (meaningRun 3 2 calls .history)) ≡ 9 ∷ 0 ∷ 11 ∷ 10 ∷ 10 ∷ 0 ∷ 10 ∷ 3 ∷ 0 ∷ 6 ∷ 3 ∷ 3 ∷ 5 ∷ 0 ∷ 0 ∷ 6 ∷ []
+refused : refusals (logOf (meaningRun 3 2 calls .history))
+    ≡ 9 ∷ 0 ∷ 11 ∷ 10 ∷ 10 ∷ 0 ∷ 10 ∷ 3 ∷ 0 ∷ 6 ∷ 3 ∷ 3 ∷ 5 ∷ 0 ∷ 0 ∷ 6 ∷ []
 unfolding refusals calls logOf meaningRun stepsFrom step steps opened nobody call unlessRefused accept refusal rows first any isPending seatsAfter at sends
     takes isTaken pendingAfter deliverySends linksAfter deliveryLinks applied rule effect setting meeting probing pulling parting passing
     seeking toLink onSide sideOf bit equalBits shared named ifZero ifBit sameMsg among somePending messageAt split pairAt pullAt

@@ -121,11 +121,14 @@ module _ {N W : ℕ} {M : Meaning} (h : Sound N W M) (still : (m : Msg) → T (M
           by false e t = record { there = t; number = rw e }
 
       unused : (x : ℕ) (b : Bool) → leaves r x ≡ b → T (isFree (r′ .state x))
-          → (cond b 0 (r .number x) ≡ 0) × (cond b 0 (r .vector x) ≡ 0) × ((k : ℕ) (d : Side) → cond b none (unlinked (leaves r) (M .link x k d)) ≡ none)
+          → (cond b 0 (r .number x) ≡ 0)
+          × (cond b 0 (r .vector x) ≡ 0)
+          × ((k : ℕ) (d : Side) → cond b none (unlinked (leaves r) (M .link x k d)) ≡ none)
       unused x true e t = (refl, refl, λ k d. refl)
       unused x false e t = let (n, v, l) = h .unused x (rw e at t) in (n, v, λ k d. unlinked-none (leaves r) (l k d))
 
-      linked : (x k y : ℕ) (d : Side) (b : Bool) → leaves r x ≡ b → cond b none (unlinked (leaves r) (M .link x k d)) ≡ some y → Linked W r′ x k d y
+      linked : (x k y : ℕ) (d : Side) (b : Bool) → leaves r x ≡ b → cond b none (unlinked (leaves r) (M .link x k d)) ≡ some y
+          → Linked W r′ x k d y
       linked x k y d true e q = none-some refl q
       linked x k y d false e q =
           let (f, g) = unlinked-some (leaves r) (M .link x k d) y q in

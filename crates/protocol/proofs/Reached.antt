@@ -100,7 +100,8 @@ weight-less {c} {N} {W} {M} h (in-clearing L a i) m t =
     clearing-less (worldOf c W (M .seats) l) (Stayer (M .seats)) N W M (delivered W M m) (a l) (i l) (λ z. dec-T (stays (M .seats) z))
     (clearing-delivery c W M m t l (i l)) (pending-exists h m t)
 
-pub bound-less : {c : ℕ → ℕ} {N W : ℕ} {M : Meaning} → Reached c N W M → (m : Msg) → T (M .pending m) → bound N W (delivered W M m) < bound N W M
+pub bound-less : {c : ℕ → ℕ} {N W : ℕ} {M : Meaning} → Reached c N W M → (m : Msg) → T (M .pending m)
+    → bound N W (delivered W M m) < bound N W M
 unfolding bound
 bound-less r m t = weight-less (r .sound) (r .sane) m t
 

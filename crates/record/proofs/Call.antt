@@ -63,7 +63,8 @@ module _ (l : List ℕ) (z : length l ≡ size) (b : AreBytes l) (s : sound l �
   same = ap called (sym (bytes-meaning (sound-is l z b .0 s .0)))
 
   pub sound-refusal : (c : Call) → called l c .refused ≡ call seats width (meaning l) c .refused
-  sound-refusal c = ap (λ (f : Call → Outcome (List ℕ)). f c .refused) same ∙ ap (λ (o : Outcome (List ℕ)). o .refused) (call-bytes (meaning l) fine c)
+  sound-refusal c = ap (λ (f : Call → Outcome (List ℕ)). f c .refused) same
+      ∙ ap (λ (o : Outcome (List ℕ)). o .refused) (call-bytes (meaning l) fine c)
 
   after : (c : Call) → called l c .after ≡ bytesOf (call seats width (meaning l) c .after)
   after c = ap (λ (f : Call → Outcome (List ℕ)). f c .after) same ∙ ap (λ (o : Outcome (List ℕ)). o .after) (call-bytes (meaning l) fine c)

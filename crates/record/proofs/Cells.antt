@@ -111,7 +111,8 @@ abbrev pub Outside : (a n i : ℕ) → Type 0
 Outside a n i = (i < a) ⊎ (a + n ≤ i)
 
 -- another cell's bytes lie outside
-pub cell-outside : (c e : Cell) → InRecord c → InRecord e → e ≢ c → (j : ℕ) → j < cellSize e → Outside (cellFrom c) (cellSize c) (cellFrom e + j)
+pub cell-outside : (c e : Cell) → InRecord c → InRecord e → e ≢ c → (j : ℕ) → j < cellSize e
+    → Outside (cellFrom c) (cellSize c) (cellFrom e + j)
 cell-outside c e p q ne j h = let i = cellFrom e + j in ⊎-elim
     (λ a. inl a)
     (λ a. ⊎-elim

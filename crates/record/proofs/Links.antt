@@ -27,5 +27,6 @@ side-opp (suc zero) h = refl
 side-opp (suc (suc d)) h = absurd (omega arith)
 
 -- y is the byte of a link
-pub link-read : (l : List ℕ) (s k : ℕ) (d : Side) (y : ℕ) → s < seats → k < levels → y ≡ getD l (linkAt s k d) 0 → meaning l .link s k d ≡ linkOf y
+pub link-read : (l : List ℕ) (s k : ℕ) (d : Side) (y : ℕ) → s < seats → k < levels → y ≡ getD l (linkAt s k d) 0
+    → meaning l .link s k d ≡ linkOf y
 link-read l s k d y h g e = meaning-link l s k d h g ∙ ap linkOf (sym e)

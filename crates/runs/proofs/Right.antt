@@ -77,7 +77,8 @@ module _ (l : List ℕ) (e : openRefusal l ≡ 0) (cs : List Call) (t : AllTyped
     found o s x m = right-holder D run-bytes q o s x m
 
     -- no link of a staying lot reads as a leaving lot's seat
-    pub unmet : R .phase ≡ clearing → (x k y : ℕ) (d : Side) → T (stays R x) → k < levels → T (leaves R y) → readLink here x k (sideNumber d) .seat ≢ y
+    pub unmet : R .phase ≡ clearing → (x k y : ℕ) (d : Side) → T (stays R x) → k < levels → T (leaves R y)
+        → readLink here x k (sideNumber d) .seat ≢ y
     unmet c = never-met D run-bytes c q
 
     -- and the turn leaves each of its links

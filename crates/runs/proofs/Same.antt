@@ -30,7 +30,8 @@ pub record Same (s : Standing (List ℕ)) (t : Standing Meaning) : Type 0 where
   pub now : s .now ≡ bytesOf (t .now)
   pub history : meant (s .history) ≡ t .history
 
-step-same : (s : Standing (List ℕ)) (t : Standing Meaning) → Same s t → (c : Call) → InRange seats width c → Same (step called s c) (step meantCall t c)
+step-same : (s : Standing (List ℕ)) (t : Standing Meaning) → Same s t → (c : Call) → InRange seats width c
+    → Same (step called s c) (step meantCall t c)
 unfolding step meant
 step-same s t h c r = record {
   fine = call-sound seats width (t .now) (h .fine) c r;

@@ -85,11 +85,13 @@ carried s t h D = record {
     left : readCounts (s .now) .pending ≡ countsOf (t .now) .pending
     left = at (λ l. readCounts l .pending) ∙ ap (λ (a : CountAnswer). a .pending) counts
 
-    linked : NothingPending seats width (meant (s .history)) → (x k : ℕ) (d : Side) → T (member (rosterOf seats width (logOf (meant (s .history))) .seats) x)
+    linked : NothingPending seats width (meant (s .history)) → (x k : ℕ) (d : Side)
+        → T (member (rosterOf seats width (logOf (meant (s .history))) .seats) x)
         → k < levels
         → t .now .link x k d ≡ graph seats width (membersOf (rosterOf seats width (logOf (meant (s .history))))) x k d
     linked q x k d m p =
-        subst (λ (es : List (Past Meaning)). NothingPending seats width es → IsGraph seats width (membersOf (rosterOf seats width (logOf es))) (t .now .link))
+        subst (λ (es : List (Past Meaning)).
+        NothingPending seats width es → IsGraph seats width (membersOf (rosterOf seats width (logOf es))) (t .now .link))
         (sym (h .history)) (D .graph) q
         .link x k d m (omega arith)
 

@@ -80,7 +80,8 @@ pub graph-member : {N : ℕ} (W : ℕ) {G : Lots} → Laws N G → (x k y : ℕ)
 graph-member W {G} laws x k y d e = nearest-list (subst (Nearest W G k x d) e (graph-nearest laws x k d)) .member
 
 -- tests and numbers that agree have the same right answers
-pub holder-agrees : {m n : ℕ → Bool} {f g : ℕ → ℕ} {x : ℕ} {o : Option ℕ} → ((z : ℕ) → m z ≡ n z) → ((z : ℕ) → T (m z) → f z ≡ g z)
+pub holder-agrees : {m n : ℕ → Bool} {f g : ℕ → ℕ} {x : ℕ} {o : Option ℕ}
+    → ((z : ℕ) → m z ≡ n z) → ((z : ℕ) → T (m z) → f z ≡ g z)
     → RightHolder m f x o → RightHolder n g x o
 holder-agrees {m} {n} {f} {g} {x} e h (holds {h = y} r) = holds (record {
   seated = subst (λ (t : Bool). T t) (e y) (r .seated);

@@ -9,7 +9,12 @@ use Rattle.protocol.specs.Page.{Page, at}
 
 abbrev pub leavePage : (N W s : ℕ) → Page
 leavePage N W s = record {
-  rows = λ r p. row noSuchSeat (noSeat N s) ∷ row inClearing (isClearing (r .phase)) ∷ row emptySeat (empty r s) ∷ row alreadyLeaving (leaves r s) ∷ [];
+  rows = λ r p.
+      row noSuchSeat (noSeat N s)
+      ∷ row inClearing (isClearing (r .phase))
+      ∷ row emptySeat (empty r s)
+      ∷ row alreadyLeaving (leaves r s)
+      ∷ [];
   seats = λ r. record { phase = r .phase; state = at s leaving (r .state); number = r .number; vector = r .vector };
   links = λ M. M .link;
   sends = λ M. [];
