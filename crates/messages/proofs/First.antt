@@ -1,19 +1,22 @@
 -- The first place whose message is pending, at or after a place: from the first place on whose message does not come before five numbers, its
--- message is the smallest pending one at or after them. Assumes nothing.
+-- message is the smallest pending one at or after them; and from a place below which nothing is pending it is the smallest of all. Assumes
+-- nothing.
 use Prim.Native.Nat.{ℕ, _-_, _≤_, _<_}
 use mathlib.Core.Path.{_≡_, sym}
 use mathlib.Core.Option.{none, some}
-use mathlib.Core.Bool.{Bool}
+use mathlib.Core.Logic.{⊎-elim}
+use mathlib.Core.Bool.{Bool, false}
 use mathlib.Core.List.{List}
 use native.Mathlib.Omega.{arith}
 use Rattle.base.specs.Loops.{firstFrom}
+use Rattle.base.proofs.Cases.{lt-or-ge}
 use Rattle.memory.specs.Bits.{bitSet}
 use Rattle.memory.proofs.First.{IsFirst, first, first-same}
 use Rattle.graph.specs.Vector.{width}
-use Rattle.protocol.specs.Message.{Msg, Name}
+use Rattle.protocol.specs.Message.{Msg, Name, name}
 use Rattle.protocol.specs.Numbering.{messageAt}
-use Rattle.protocol.specs.Order.{smallestFrom}
-use Rattle.protocol.specs.inner.PlaceFrom.{placeFrom}
+use Rattle.protocol.specs.Order.{smallestFrom, smallest}
+use Rattle.protocol.specs.inner.PlaceFrom.{fromKind, placeFrom}
 use Rattle.protocol.proofs.Smallest.{smallest-first, none-first}
 use Rattle.record.specs.Layout.{seats, messages, pendingFrom}
 use Rattle.record.specs.Meaning.{meaning}
@@ -49,3 +52,26 @@ module _ (l : List ℕ) (n : Name) where
 
   pub none-pending-from : firstPending l from ≡ messages → smallestFrom seats width p n ≡ none
   none-pending-from e = none-first seats width p n (λ j a b. at-or-after .before j a (rw e b))
+
+-- from a place on below which nothing is pending: the smallest of all pending messages, or none
+module _ (l : List ℕ) (from : ℕ) (clear : (j : ℕ) → j < from → meaning l .pending (messageAt seats width j) ≡ false) where
+  abbrev pends : ℕ → Bool
+  pends i = meaning l .pending (messageAt seats width i)
+
+  at-first : IsFirst (messages - from) from pends (firstPending l from)
+  unfolding firstPending
+  at-first = first (messages - from) from pends
+
+  -- nothing is pending before the first
+  pub first-clear : (j : ℕ) → j < firstPending l from → meaning l .pending (messageAt seats width j) ≡ false
+  first-clear j h = ⊎-elim (λ g. clear j g) (λ g. at-first .before j g h) (lt-or-ge j from)
+
+  pub first-smallest : from ≤ messages → firstPending l from < messages
+      → smallest seats width (meaning l .pending) ≡ some (messageAt seats width (firstPending l from))
+  unfolding fromKind
+  first-smallest g h =
+      smallest-first seats width (meaning l .pending) (name 0 0 0 0 0) (firstPending l from) (omega arith) h (at-first .found (omega arith))
+      (λ j a b. first-clear j b)
+
+  pub first-none : firstPending l from ≡ messages → smallest seats width (meaning l .pending) ≡ none
+  first-none e = none-first seats width (meaning l .pending) (name 0 0 0 0 0) (λ j a b. first-clear j (rw e b))

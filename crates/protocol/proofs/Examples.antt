@@ -6,11 +6,12 @@ use mathlib.Core.Option.{Option, none, some}
 use mathlib.Core.Bool.{Bool, true, false, _&&_}
 use mathlib.Core.List.{List, [], _∷_}
 use lib.Dec.{eqb}
+use lib.ListN.{length}
 use Rattle.graph.specs.Side.{Side, left, right, onSide, sideOf}
 use Rattle.graph.specs.Vector.{bit, equalBits, shared}
-use Rattle.protocol.specs.Message.{Msg, meet, probe, name, nameOf, ifZero, ifBit, named, sameMsg, among}
+use Rattle.protocol.specs.Message.{Msg, meet, probe, Name, name, ifZero, ifBit, named, sameMsg, among}
 use Rattle.base.specs.Loops.{any}
-use Rattle.protocol.specs.Numbering.{count, pairAt, pullAt, sideAt, split, messageAt, somePending}
+use Rattle.protocol.specs.Numbering.{pairAt, pullAt, sideAt, split, messageAt, somePending}
 use Rattle.protocol.specs.Rules.{Entry, Effect, staying, keep, set, toLink, setting, meeting, probing, pulling, parting, passing, seeking, effect}
 use Rattle.protocol.specs.State.{Meaning, nobody, opened, isPending}
 use Rattle.protocol.specs.Calls.{Call, join, leave, deliver, turn, rows, refusal, seatsAfter, sends, takes, linksAfter}
@@ -20,6 +21,8 @@ use Rattle.protocol.specs.pages.Turn.{afterTurn, each, farewell, farewel
 use Rattle.protocol.specs.pages.Deliver.{rule, deliverySends, applied, deliveryLinks}
 use Rattle.protocol.specs.Freeing.{unlinked}
 use Rattle.protocol.specs.Calls.{accept, unlessRefused, call}
+use Rattle.protocol.specs.Order.{orNext, before, smaller, smallestOf, smallestFrom}
+use Rattle.protocol.specs.Bundle.{onward, bundleOf, leftBy}
 use Rattle.protocol.specs.Run.{stepsFrom, Logged, logOf, step, steps, meaningRun}
 
 -- cases (i) and (j): lots 100, 200, 300 on seats 0, 1, 2; lot 100 has no left link, and at level 0 the right link o
@@ -91,21 +94,41 @@ unfolding refusals calls logOf meaningRun stepsFrom step steps opened nobody cal
     sideAt
 refused = refl
 
--- the smallest pending message from place i on, looking at n places
-search : (ℕ → Bool) → (n i : ℕ) → ℕ
-search p zero i = i
-search p (suc n) i = elim (p i) as (λ b. ℕ) [ true ↦ i | false ↦ search p n (suc i) ]
+-- the messages that a bundle delivers, and what it leaves
+bundled : ℕ → Meaning → List Name
+bundled n M = bundleOf (call 3 2) 3 2 (λ K. K .pending) n M
 
--- deliver the smallest pending message, f times
-drain : (N W : ℕ) → ℕ → Meaning → Meaning
-drain N W zero M = M
-drain N W (suc f) M =
-    let i = search (λ j. M .pending (messageAt N W j)) (count N W) 0 in
-    drain N W f (call N W M (deliver (nameOf (messageAt N W i))) .after)
+drained : ℕ → Meaning → Meaning
+drained n M = leftBy (call 3 2) M (bundled n M)
 
 -- Q: lots 100, 200, 300 with vectors 00, 10, 01
+joined-Q : Meaning
+joined-Q = meaningRun 3 2 (join 0 100 0 255 ∷ join 1 200 2 0 ∷ join 2 300 1 0 ∷ []) .now
+
 settled-Q : Meaning
-settled-Q = drain 3 2 24 (meaningRun 3 2 (join 0 100 0 255 ∷ join 1 200 2 0 ∷ join 2 300 1 0 ∷ []) .now)
+settled-Q = drained 24 joined-Q
+
+-- a bundle of 5 delivers the smallest first, then what that sends; one of 24 delivers all 23 and stops
+five-Q : bundled 5 joined-Q ≡ name 1 0 1 0 0 ∷ name 1 0 2 0 0 ∷ name 1 1 0 0 0 ∷ name 1 0 1 0 0 ∷ name 1 1 2 0 0 ∷ []
+unfolding joined-Q drained bundled bundleOf leftBy onward smallestFrom smallestOf smaller before orNext meaningRun stepsFrom step steps opened nobody call unlessRefused accept refusal rows first any isPending seatsAfter at
+    sends takes isTaken pendingAfter deliverySends linksAfter deliveryLinks applied rule effect setting meeting probing pulling parting
+    passing seeking toLink onSide sideOf bit equalBits shared named ifZero ifBit sameMsg among somePending messageAt split pairAt
+    pullAt sideAt
+five-Q = refl
+
+none-Q : bundled 0 joined-Q ≡ []
+unfolding joined-Q drained bundled bundleOf leftBy onward smallestFrom smallestOf smaller before orNext meaningRun stepsFrom step steps opened nobody call unlessRefused accept refusal rows first any isPending seatsAfter at
+    sends takes isTaken pendingAfter deliverySends linksAfter deliveryLinks applied rule effect setting meeting probing pulling parting
+    passing seeking toLink onSide sideOf bit equalBits shared named ifZero ifBit sameMsg among somePending messageAt split pairAt
+    pullAt sideAt
+none-Q = refl
+
+all-Q : length (bundled 24 joined-Q) ≡ 23
+unfolding joined-Q drained bundled bundleOf leftBy onward smallestFrom smallestOf smaller before orNext meaningRun stepsFrom step steps opened nobody call unlessRefused accept refusal rows first any isPending seatsAfter at
+    sends takes isTaken pendingAfter deliverySends linksAfter deliveryLinks applied rule effect setting meeting probing pulling parting
+    passing seeking toLink onSide sideOf bit equalBits shared named ifZero ifBit sameMsg among somePending messageAt split pairAt
+    pullAt sideAt
+all-Q = refl
 
 links : Meaning → List (Option ℕ)
 links M =
@@ -113,14 +136,14 @@ links M =
     ∷ M .link 0 1 right ∷ M .link 2 1 left ∷ M .link 1 1 left ∷ M .link 1 1 right ∷ M .link 0 2 right ∷ []
 
 Q-settled : somePending 3 2 (settled-Q .pending) ≡ false
-unfolding settled-Q drain search meaningRun stepsFrom step steps opened nobody call unlessRefused accept refusal rows first any isPending seatsAfter at
+unfolding settled-Q joined-Q drained bundled bundleOf leftBy onward smallestFrom smallestOf smaller before orNext meaningRun stepsFrom step steps opened nobody call unlessRefused accept refusal rows first any isPending seatsAfter at
     sends takes isTaken pendingAfter deliverySends linksAfter deliveryLinks applied rule effect setting meeting probing pulling parting
     passing seeking toLink onSide sideOf bit equalBits shared named ifZero ifBit sameMsg among somePending messageAt split pairAt
     pullAt sideAt
 Q-settled = refl
 
 Q-links : links settled-Q ≡ some 1 ∷ some 0 ∷ some 2 ∷ some 1 ∷ some 2 ∷ some 0 ∷ none ∷ none ∷ none ∷ []
-unfolding links settled-Q drain search meaningRun stepsFrom step steps opened nobody call unlessRefused accept refusal rows first any isPending seatsAfter
+unfolding links settled-Q joined-Q drained bundled bundleOf leftBy onward smallestFrom smallestOf smaller before orNext meaningRun stepsFrom step steps opened nobody call unlessRefused accept refusal rows first any isPending seatsAfter
     at sends takes isTaken pendingAfter deliverySends linksAfter deliveryLinks applied rule effect setting meeting probing pulling parting
     passing seeking toLink onSide sideOf bit equalBits shared named ifZero ifBit sameMsg among somePending messageAt split pairAt
     pullAt sideAt
@@ -131,10 +154,10 @@ after : Meaning → Call → Meaning
 after M c = call 3 2 M c .after
 
 left-Q : Meaning
-left-Q = after (drain 3 2 8 (after (after settled-Q (leave 1)) turn)) turn
+left-Q = after (drained 9 (after (after settled-Q (leave 1)) turn)) turn
 
 case-k : links left-Q ≡ some 2 ∷ none ∷ none ∷ some 0 ∷ some 2 ∷ some 0 ∷ none ∷ none ∷ none ∷ []
-unfolding links left-Q after settled-Q drain search afterTurn each farewell farewells turnSends unlinked turnLinks meaningRun stepsFrom step steps
+unfolding links left-Q after settled-Q joined-Q drained bundled bundleOf leftBy onward smallestFrom smallestOf smaller before orNext afterTurn each farewell farewells turnSends unlinked turnLinks meaningRun stepsFrom step steps
     opened nobody call unlessRefused accept refusal rows first any isPending seatsAfter at sends takes isTaken pendingAfter deliverySends
     linksAfter deliveryLinks applied rule effect setting meeting probing pulling parting passing seeking toLink onSide sideOf bit equalBits
     shared named ifZero ifBit sameMsg among somePending messageAt split pairAt pullAt sideAt

@@ -56,24 +56,25 @@ module _ {N W : ℕ} {M : Meaning} (h : Sound N W M) where
   open-proper (Open.ok-probe p ne w) = p-probe (pair-two p ne) w
   open-proper (Open.ok-pull s w) = p-pull s w
 
+  -- links and messages are proper
+  pub all-proper : r .phase ≡ open-phase → Open.Proper G (stateOf M)
+  all-proper e = record {
+    link-pair = λ f. two-pair (link-linked h f .0);
+    link-side = λ f. link-linked h f .1;
+    pend-ok = λ {m = n} t. proper-open (subst (λ (p : Phase). Proper W r p n) e (pending-proper h t));
+  }
+
   open-fits : {m : Msg} → r .phase ≡ open-phase → Open.Ok G m → Fits W M open-phase m
   open-fits {m} e o = record {
-    sends = λ n i. open-proper (Open.sends-ok all o (does .mem i));
+    sends = λ n i. open-proper (Open.sends-ok (all-proper e) o (does .mem i));
     links = λ k y d f. let s = does .sets f in (pair-two (Open.sets-pair o s) (lt-ne (Open.sets-side s)), Open.sets-side s);
   }
     where
-      all : Open.Proper G (stateOf M)
-      all = record {
-        link-pair = λ f. two-pair (link-linked h f .0);
-        link-side = λ f. link-linked h f .1;
-        pend-ok = λ {m = n} t. proper-open (subst (λ (p : Phase). Proper W r p n) e (pending-proper h t));
-      }
-
       does : Open.Does G (stateOf M) m (rule W M m)
-      does = open-rule oneComponent W M m (sound-laws h) all o
+      does = open-rule oneComponent W M m (sound-laws h) (all-proper e) o
 
   -- phase clearing
-  sided : {m : Msg} → Proper W r clearing m → Sided G m
+  pub sided : {m : Msg} → Proper W r clearing m → Sided G m
   sided (p-going s w) = s-going
   sided (p-seek t s) = s-seek (two-lt h (two-sym t))
   sided (p-found t s u) = s-found (two-lt h t)

@@ -23,6 +23,8 @@ pub mod Turn
 pub mod Reached
 pub mod ReachedCalls
 pub mod ReachedTurn
+pub mod Falls
+pub mod Bundle
 pub mod Theorem
 pub mod Digits
 pub mod DigitOrder

@@ -1,5 +1,5 @@
--- What every meaning that calls reach has: it is sound, and its phase's invariant holds. It is kept by deliveries; with nothing pending
--- the links are the graph of the members; and each accepted delivery lowers the bound. Assumes nothing.
+-- What every meaning that calls reach has: it is sound, and its phase's invariant holds. It is kept by deliveries; and with nothing pending
+-- the links are the graph of the members. Assumes nothing.
 use Prim.Native.Nat.{ℕ, _^_, _<_}
 use mathlib.Core.Path.{_≡_, refl}
 use mathlib.Core.Option.{Option, none, some}
@@ -22,9 +22,6 @@ use Rattle.protocol.proofs.Invariant.{Invariant, invariant-kept, invari
 use Rattle.protocol.proofs.Clearing as Clearing
 use Rattle.protocol.proofs.ClearingEffect.{Sided, s-going, s-seek, s-found, s-none, clearing-right}
 use Rattle.protocol.proofs.SoundFacts.{stays-seated, pending-exists, seated-below, seated-differ}
-use Rattle.protocol.proofs.Measure.{weight, bound}
-use Rattle.protocol.proofs.Ends.{open-cost, open-less}
-use Rattle.protocol.proofs.ClearingEnds.{clearing-less}
 
 -- the laws of seats that a world needs
 pub record Laws (r : Seats) : Type 0 where
@@ -84,26 +81,6 @@ pub sane-deliver : {c : ℕ → ℕ} {W : ℕ} {M : Meaning} {p : Phase} → San
 sane-deliver {c} {W} {M} (in-open i) m t = in-open (λ l. invariant-kept (i l) (open-delivery c W M m t l (i l)))
 sane-deliver {c} {W} {M} (in-clearing L a i) m t =
     in-clearing L a (λ l. Clearing.clearing-kept (a l) (λ z. dec-T (stays (M .seats) z)) (i l) (clearing-delivery c W M m t l (i l)))
-
--- a delivery lowers the bound
-weight-less : {c : ℕ → ℕ} {N W : ℕ} {M : Meaning} {p : Phase} → Sound N W M → Sane c W M p → (m : Msg) → T (M .pending m)
-    → weight N W p (delivered W M m) < weight N W p M
-unfolding weight
-weight-less {c} {N} {W} {M} h (in-open i) m t =
-    let l = sound-laws h in
-    let G = worldOf c W (M .seats) l in
-    let o = i l .proper .pend-ok t in
-    open-less N W G M (delivered W M m) o (open-delivery c W M m t l (i l)) (open-cost G (stateOf M) (i l .proper) o) (pending-exists h m t)
-    (λ x k y p. (seated-below h x (p .fst), pair-level p))
-weight-less {c} {N} {W} {M} h (in-clearing L a i) m t =
-    let l = sound-laws h in
-    clearing-less (worldOf c W (M .seats) l) (Stayer (M .seats)) N W M (delivered W M m) (a l) (i l) (λ z. dec-T (stays (M .seats) z))
-    (clearing-delivery c W M m t l (i l)) (pending-exists h m t)
-
-pub bound-less : {c : ℕ → ℕ} {N W : ℕ} {M : Meaning} → Reached c N W M → (m : Msg) → T (M .pending m)
-    → bound N W (delivered W M m) < bound N W M
-unfolding bound
-bound-less r m t = weight-less (r .sound) (r .sane) m t
 
 -- who the members are
 module _ (r : Seats) (x : ℕ) where

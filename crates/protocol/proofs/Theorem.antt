@@ -4,7 +4,7 @@ use Prim.Native.Nat.{ℕ, zero, suc, _+_, _≤_}
 use mathlib.Core.Path.{_≡_, refl, sym, _∙_, ap, ap₂, subst}
 use mathlib.Core.Option.{Option, none, some}
 use mathlib.Core.Bool.{Bool, false}
-use mathlib.Core.List.{List, [], _∷_}
+use mathlib.Core.List.{List, [], _∷_, map}
 use native.Mathlib.Omega.{arith}
 use lib.Dec.{T}
 use lib.ListN.{length}
@@ -26,35 +26,17 @@ use Rattle.protocol.proofs.SoundFacts.{pending-exists}
 use Rattle.protocol.proofs.Accepted.{join-rows, leave-rows, deliver-row, turn-row}
 use Rattle.protocol.proofs.KeepSound.{opened-sound, accept-sound}
 use Rattle.protocol.proofs.Measure.{bound}
-use Rattle.protocol.proofs.Reached.{worldOf, Sane, in-open, Reached, sane-deliver, bound-less, reached-graph}
+use Rattle.protocol.proofs.Falls.{deliver-taken, deliveries-end}
+use Rattle.protocol.proofs.Bundle.{deliveries-counted}
+use Rattle.protocol.proofs.Reached.{worldOf, Sane, in-open, Reached, sane-deliver, reached-graph}
 use Rattle.protocol.proofs.ReachedCalls.{sane-join, sane-leave}
 use Rattle.protocol.proofs.ReachedTurn.{sane-turn}
-
--- the message that an accepted delivery takes
-pub record Taken (N W : ℕ) (M : Meaning) (n : Name) : Type 0 where
-  pub message : Msg
-  pub is : named n ≡ some message
-  pub was : T (M .pending message)
-
-pub deliver-taken : (N W : ℕ) (M : Meaning) (n : Name) → refusal N W (M .seats) (M .pending) (deliver n) ≡ 0 → Taken N W M n
-unfolding isPending
-deliver-taken N W M n e = by (named n) refl (deliver-row N W (M .seats) (M .pending) n e)
-  where
-    by : (o : Option Msg) → named n ≡ o → T (isPending (M .pending) o) → Taken N W M n
-    by none f t = absurd t
-    by (some m) f t = record { message = m; is = f; was = t }
 
 -- what holds of the old and of the new holds of what a call leaves
 either : {A : Type 0} (P : A → Type 0) (n : ℕ) {old new : A} → P old → P new → P (unlessRefused n old new)
 unfolding unlessRefused
 either P zero p q = q
 either P (suc n) p q = p
-
--- a list of accepted deliveries is counted whole
-pub all-counted : {A : Type 0} (make : A → Call → Outcome A) (a : A) (ns : List Name) → AllAccepted make a ns → accepted make a ns ≡ length ns
-unfolding accepted AllAccepted unlessRefused
-all-counted make a [] t = refl
-all-counted make a (n ∷ ns) t = rw (t .0, all-counted make (make a (deliver n) .after) ns (t .1)) (omega arith)
 
 module _ (N W : ℕ) where
   reached-opened : Reached oneComponent N W opened
@@ -109,24 +91,6 @@ module _ (N W : ℕ) where
       by : (n : ℕ) → refusal N W (M .seats) (M .pending) c ≡ n → Reached oneComponent N W (unlessRefused n M (accept N W M c))
       by zero e = reached-accept g c q e
       by (suc n) e = g
-
-  -- part 5: no list of deliveries has more accepted ones than the bound
-  ends-step : {M : Meaning} → Reached oneComponent N W M → (n : Name) (ns : List Name)
-      → ((K : Meaning) → Reached oneComponent N W K → accepted (call N W) K ns ≤ bound N W K) → accepted (call N W) M (n ∷ ns) ≤ bound N W M
-  unfolding accepted call unlessRefused
-  ends-step {M} g n ns ih = by (refusal N W (M .seats) (M .pending) (deliver n)) refl
-    where
-      by : (a : ℕ) → refusal N W (M .seats) (M .pending) (deliver n) ≡ a → accepted (call N W) M (n ∷ ns) ≤ bound N W M
-      by zero e =
-          let t = deliver-taken N W M n e in
-          let f = accept-deliver N W M n (t .message) (t .is) in
-          rw e (omega (arith, ih (accept N W M (deliver n)) (reached-accept g (deliver n) tt e), ap (bound N W) f, bound-less g (t .message) (t .was)))
-      by (suc a) e = rw e (omega (arith, ih M g))
-
-  ends : (ns : List Name) (M : Meaning) → Reached oneComponent N W M → accepted (call N W) M ns ≤ bound N W M
-  unfolding accepted
-  ends [] M g = omega arith
-  ends (n ∷ ns) M g = ends-step g n ns (λ K k. ends ns K k)
 
   -- the roster of a meaning: all its lots are in one component
   abbrev rosterNow : Meaning → Roster
@@ -184,7 +148,7 @@ module _ (N W : ℕ) where
     messages = λ m. ap (λ (p : Msg → Bool). p m) (t .pending);
     none-left = ((λ e m. settled (quiet-none (t .reached .sound) e) m), λ q. none-quiet (s .now) (quiet q));
     graph = λ q. subst (λ (o : Roster). IsGraph N W (membersOf o) (s .now .link)) (t .lots) (reached-graph (t .reached) (quiet q));
-    ends = λ ns. ends ns (s .now) (t .reached);
+    ends = λ ns. deliveries-end N W ns (s .now) (t .reached .sound);
   }
     where
       settled : Quiet (stateOf (s .now)) → (m : Msg) → pendingOf N W (s .history) m ≡ false
@@ -202,6 +166,6 @@ module _ (N W : ℕ) where
   every-list-sound cs a = track-run cs a .reached .sound
 
   -- and no list of accepted deliveries is longer than the bound, from demand 3 alone
-  pub never-longer : {b : Meaning → ℕ} {s : Standing Meaning} → MeaningDemand3 N W b s → (ns : List Name) → AllAccepted (call N W) (s .now) ns
-      → length ns ≤ b (s .now)
-  never-longer {s = s} d ns a = rw (← all-counted (call N W) (s .now) ns a) (d .ends ns)
+  pub never-longer : {b : Meaning → ℕ} {s : Standing Meaning} → MeaningDemand3 N W b s → (ns : List Name)
+      → AllAccepted (call N W) (s .now) (map deliver ns) → length ns ≤ b (s .now)
+  never-longer {s = s} d ns a = rw (← deliveries-counted (call N W) (s .now) ns a) (d .ends ns)

@@ -10,6 +10,7 @@ pub mod Freeing
 pub mod Sound
 pub mod pages
 pub mod Calls
+pub mod Bundle
 pub mod Local
 pub mod Run
 pub mod inner

@@ -4,7 +4,7 @@ use Prim.Native.Nat.{ℕ, _+_, _≤_}
 use mathlib.Core.Path.{_≡_}
 use mathlib.Core.Logic.{_↔_}
 use mathlib.Core.Bool.{Bool, false}
-use mathlib.Core.List.{List, [], _∷_}
+use mathlib.Core.List.{List, [], _∷_, map}
 use Rattle.graph.specs.Graph.{Lots, IsGraph}
 use Rattle.protocol.specs.Message.{Msg, Name}
 use Rattle.protocol.specs.Numbering.{somePending}
@@ -45,15 +45,15 @@ module _ {A : Type 0} (make : A → Call → Outcome A) where
   unfoldable pub stepsFrom : A → List Call → Standing A
   stepsFrom a cs = steps (record { now = a; history = [] }) cs
 
-  -- how many of a list of deliveries are accepted
-  unfoldable pub accepted : A → List Name → ℕ
+  -- how many calls of a list are accepted
+  unfoldable pub accepted : A → List Call → ℕ
   accepted a [] = 0
-  accepted a (n ∷ ns) = let o = make a (deliver n) in unlessRefused (o .refused) 0 1 + accepted (o .after) ns
+  accepted a (c ∷ cs) = let o = make a c in unlessRefused (o .refused) 0 1 + accepted (o .after) cs
 
-  -- every delivery of a list is accepted
-  unfoldable pub AllAccepted : A → List Name → Type 0
+  -- every call of a list is accepted
+  unfoldable pub AllAccepted : A → List Call → Type 0
   AllAccepted a [] = Unit {0}
-  AllAccepted a (n ∷ ns) = let o = make a (deliver n) in (o .refused ≡ 0) × AllAccepted (o .after) ns
+  AllAccepted a (c ∷ cs) = let o = make a c in (o .refused ≡ 0) × AllAccepted (o .after) cs
 
 -- document 01's roster, kept from the log: what the seats hold, and the component of each lot
 pub record Roster : Type 0 where
@@ -100,7 +100,7 @@ module _ (N W : ℕ) where
     pub messages : (m : Msg) → s .now .pending m ≡ pendingOf (s .history) m
     pub none-left : (somePending N W (s .now .pending) ≡ false) ↔ NothingPending (s .history)
     pub graph : NothingPending (s .history) → IsGraph N W (membersOf (rosterOf (logOf (s .history)))) (s .now .link)
-    pub ends : (ns : List Name) → accepted (call N W) (s .now) ns ≤ bound (s .now)
+    pub ends : (ns : List Name) → accepted (call N W) (s .now) (map deliver ns) ≤ bound (s .now)
 
   -- the arguments of every call of a list fit their types
   abbrev pub AllInRange : List Call → Type 0

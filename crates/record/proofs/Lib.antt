@@ -19,4 +19,5 @@ pub mod Reading
 pub mod SeatBytes
 pub mod Call
 pub mod Accepted
+pub mod Bundle
 pub mod Determined

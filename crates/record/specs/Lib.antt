@@ -5,6 +5,7 @@ pub mod Meaning
 pub mod Sound
 pub mod Reading
 pub mod Call
+pub mod Bundle
 pub mod Local
 pub mod Answer
 pub mod inner

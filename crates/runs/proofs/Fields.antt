@@ -17,13 +17,15 @@ use Rattle.protocol.specs.Rules.{SeatState, free, staying, leaving}
 use Rattle.protocol.specs.State.{Seats, Meaning, isFree, isSeated, seated, isPending}
 use Rattle.protocol.specs.Refusals.{wrongSize, unsound, noSuchLevel, emptySeat, noSuchMessage}
 use Rattle.protocol.specs.Calls.{deliver, refusal}
+use Rattle.protocol.specs.Bundle.{Item, spread}
 use Rattle.protocol.specs.Run.{Past, Standing, AllAccepted, pendingOf, RefusedByTable}
 use Rattle.protocol.proofs.Message.{named-name}
-use Rattle.protocol.proofs.Theorem.{all-counted}
+use Rattle.protocol.proofs.Bundle.{all-counted}
 use Rattle.record.specs.Layout.{seats}
 use Rattle.record.specs.Meaning.{meaning, stateByte}
 use Rattle.record.specs.Reading.{LotAnswer, readLot, MessageAnswer, readMessage, readCounts}
 use Rattle.record.specs.Call.{called}
+use Rattle.record.specs.Bundle.{bundleIn}
 use Rattle.runs.specs.Run.{meant, roster, lotOf, Demand3}
 use Rattle.runs.proofs.History.{refusal-other, refusal-deliver, refused-then}
 
@@ -97,7 +99,7 @@ module _ {bound : List ℕ → ℕ} {s : Standing (List ℕ)} (D : Demand3 bound
       ∙ ap (refusal seats width (roster older .seats) (pendingOf seats width (meant older))) c
       ∙ refusal-deliver seats width (roster older .seats) (pendingOf seats width (meant older)) n
 
--- `ends`: deliveries that are all accepted are no more than the bound
-pub at-most : {bound : List ℕ → ℕ} {s : Standing (List ℕ)} → Demand3 bound s → (ns : List Name) → AllAccepted called (s .now) ns
-    → length ns ≤ bound (s .now)
-at-most {s = s} D ns t = omega (arith, D .ends ns, all-counted called (s .now) ns t)
+-- `ends`: deliveries and bundles that are all accepted make no more deliveries than the bound
+pub at-most : {bound : List ℕ → ℕ} {s : Standing (List ℕ)} → Demand3 bound s → (ds : List (Item Name))
+    → let cs = spread called bundleIn deliver (s .now) ds in AllAccepted called (s .now) cs → length cs ≤ bound (s .now)
+at-most {s = s} D ds t = omega (arith, D .ends ds, all-counted called (s .now) (spread called bundleIn deliver (s .now) ds) t)

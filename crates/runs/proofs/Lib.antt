@@ -9,3 +9,4 @@ pub mod Uses
 pub mod Fields
 pub mod Unmet
 pub mod Right
+pub mod Bundles

@@ -14,14 +14,16 @@ use Rattle.graph.specs.Vector.{width}
 use Rattle.base.proofs.Tests.{T-true}
 use Rattle.protocol.specs.State.{open-phase, clearing, Seats, Meaning, nobody, seated, stays, leaves}
 use Rattle.protocol.specs.Calls.{Call, turn}
+use Rattle.protocol.specs.Bundle.{Item, spread}
 use Rattle.protocol.specs.Refusals.{first}
 use Rattle.protocol.specs.Sound.{Sound}
 use Rattle.protocol.specs.Run.{stepsFrom, steps, logOf, rosterOf, pendingOf, NothingPending}
 use Rattle.protocol.proofs.SoundFacts.{seated-below}
 use Rattle.record.specs.Layout.{seats, levels, size}
 use Rattle.record.specs.Meaning.{seatsIn, bytesOf}
-use Rattle.record.specs.Reading.{openRefusal, seatedRefusal, readLink}
+use Rattle.record.specs.Reading.{openRefusal, openBytes, seatedRefusal, readLink}
 use Rattle.record.specs.Call.{called}
+use Rattle.record.specs.Bundle.{bundleIn}
 use Rattle.record.proofs.Places.{length-bytesOf}
 use Rattle.record.proofs.Form.{meaning-seats}
 use Rattle.record.proofs.Round.{meaning-bytes, bytes-bytes}
@@ -32,7 +34,7 @@ use Rattle.find.specs.Find.{findIn}
 use Rattle.check_links.specs.Check.{checkIn}
 use Rattle.check_links.specs.Settled.{settled}
 use Rattle.runs.specs.Typed.{AllTyped}
-use Rattle.runs.specs.Run.{bytesRun, meant, roster, Demand3}
+use Rattle.runs.specs.Run.{bytesRun, listRun, meant, roster, Demand3}
 use Rattle.runs.proofs.Typed.{all-typed}
 use Rattle.runs.proofs.Same.{run-same}
 use Rattle.runs.proofs.Theorem.{bound, open-sized, every-list}
@@ -51,21 +53,23 @@ module _ (M : Meaning) (h : Sound seats width M) where
       let f : seated (M .seats) s ≡ true = T-true m in
       rw (eq-eqb (length (bytesOf M)) size (length-bytesOf M), bytes-sound h, lt-ltb s seats (seated-below h s m), seats-bytes, f, meaning-bytes h)
 
-module _ (l : List ℕ) (e : openRefusal l ≡ 0) (cs : List Call) (t : AllTyped cs) where
+module _ (l : List ℕ) (e : openRefusal l ≡ 0) (is : List (Item Call)) (t : AllTyped is) where
   -- the bytes after the list, and the roster's seats
   abbrev here : List ℕ
-  here = bytesRun l cs .now
+  here = listRun l is .now
 
   abbrev R : Seats
-  R = roster (bytesRun l cs .history) .seats
+  R = roster (listRun l is .history) .seats
 
   pub run-bytes : AreBytes here
-  run-bytes = subst AreBytes (sym (run-same l (open-sized l e) cs (all-typed cs t) .now)) (bytes-bytes _)
+  unfolding listRun
+  run-bytes = subst AreBytes (sym (run-same l (open-sized l e) (spread called bundleIn (λ c. c) (openBytes l) is) (all-typed (openBytes l) is t) .now))
+      (bytes-bytes _)
 
-  D : Demand3 bound (bytesRun l cs)
-  D = every-list l e cs t
+  D : Demand3 bound (listRun l is)
+  D = every-list l e is t
 
-  module _ (q : NothingPending seats width (meant (bytesRun l cs .history))) where
+  module _ (q : NothingPending seats width (meant (listRun l is .history))) where
     pub checked : checkIn here ≡ record { refused = 0; yes = true }
     checked = check-yes D run-bytes q
 
@@ -87,6 +91,6 @@ module _ (l : List ℕ) (e : openRefusal l ≡ 0) (cs : List Call) (t : AllTyped
     turn-links c = turn-keeps D run-bytes c q
 
 -- an instance: a record that open has just written is settled
-pub opened-settled : (l : List ℕ) → openRefusal l ≡ 0 → settled (bytesRun l [] .now) ≡ true
-unfolding bytesRun stepsFrom steps meant pendingOf rosterOf logOf nobody
+pub opened-settled : (l : List ℕ) → openRefusal l ≡ 0 → settled (listRun l [] .now) ≡ true
+unfolding listRun spread bytesRun stepsFrom steps meant pendingOf rosterOf logOf nobody
 opened-settled l e = settles l e [] tt (λ m. refl) refl

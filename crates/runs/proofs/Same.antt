@@ -1,16 +1,15 @@
 -- A list of calls on the bytes keeps step with the same list on the meaning: the bytes are those of the meaning, and the histories say
 -- the same. Assumes nothing.
-use Prim.Native.Nat.{ℕ, _+_}
+use Prim.Native.Nat.{ℕ}
 use mathlib.Core.Path.{_≡_, refl, ap, _∙_}
 use mathlib.Core.List.{List, [], _∷_}
 use lib.ListN.{length}
 use borrow.Author.Tests.{eq-eqb}
 use Rattle.graph.specs.Vector.{width}
-use Rattle.protocol.specs.Message.{Name}
 use Rattle.protocol.specs.State.{Meaning}
-use Rattle.protocol.specs.Calls.{Call, deliver, Outcome, InRange, call, unlessRefused}
+use Rattle.protocol.specs.Calls.{Call, Outcome, InRange, call}
 use Rattle.protocol.specs.Sound.{Sound}
-use Rattle.protocol.specs.Run.{Standing, step, steps, stepsFrom, accepted, meaningRun, AllInRange}
+use Rattle.protocol.specs.Run.{Standing, step, steps, stepsFrom, meaningRun, AllInRange}
 use Rattle.protocol.proofs.KeepSound.{opened-sound, call-sound}
 use Rattle.record.specs.Layout.{seats, size}
 use Rattle.record.specs.Meaning.{meaning, bytesOf}
@@ -54,11 +53,3 @@ steps-same s t h (c ∷ cs) r = steps-same (step called s c) (step meantCall t c
 pub run-same : (l : List ℕ) → length l ≡ size → (cs : List Call) → AllInRange seats width cs → Same (bytesRun l cs) (meaningRun seats width cs)
 unfolding bytesRun meaningRun stepsFrom openBytes meant
 run-same l e cs r = steps-same _ _ (record { fine = opened-sound seats width; now = rw (eq-eqb (length l) size e); history = refl }) cs r
-
--- as many accepted deliveries
-pub accepted-same : (M : Meaning) → Sound seats width M → (ns : List Name) → accepted called (bytesOf M) ns ≡ accepted meantCall M ns
-unfolding accepted
-accepted-same M h [] = refl
-accepted-same M h (n ∷ ns) =
-    ap (λ (o : Outcome (List ℕ)). unlessRefused (o .refused) 0 1 + accepted called (o .after) ns) (call-bytes M h (deliver n))
-    ∙ ap (λ (a : ℕ). unlessRefused (meantCall M (deliver n) .refused) 0 1 + a) (accepted-same _ (call-sound seats width M h (deliver n) tt) ns)

@@ -1,4 +1,4 @@
--- Demand 3 on the bytes, for every list of calls on an opened record: `demand-3`, `every-list`. The bound of its last part, "a number, fixed
+-- Demand 3 on the bytes, for every list of calls and bundles on an opened record: `demand-3`, `every-list`. The bound of its last part, "a number, fixed
 -- by the record alone", is `bound`: computed from the bytes and from nothing else, how far the links still are and a rank for each pending
 -- message, as crates/protocol/proofs/Measure.antt has it. Every accepted delivery lowers it. Assumes nothing.
 use Prim.Native.Nat.{ℕ, zero, suc, _<_}
@@ -18,20 +18,24 @@ use Rattle.graph.specs.Graph.{graph, IsGraph}
 use Rattle.protocol.specs.Message.{Msg, named}
 use Rattle.protocol.specs.State.{Seats, Meaning, seated, member, isPending}
 use Rattle.protocol.specs.Calls.{Call}
+use Rattle.protocol.specs.Bundle.{Item, spread}
 use Rattle.protocol.specs.Refusals.{first}
 use Rattle.protocol.specs.Run.{Past, Standing, logOf, meaningRun, membersOf, rosterOf, pendingOf, RefusedByTable, NothingPending, MeaningDemand3, AllInRange}
 use Rattle.protocol.proofs.SoundFacts.{seated-below}
 use Rattle.protocol.proofs.Reached.{member-seated}
+use Rattle.protocol.proofs.Bundle.{spread-delivers}
 use Rattle.protocol.proofs.Theorem as protocol-theorem
 use Rattle.protocol.proofs.Measure as measure
 use Rattle.record.specs.Layout.{seats, levels, size}
 use Rattle.record.specs.Meaning.{meaning, bytesOf, phaseByte, linkByte}
-use Rattle.record.specs.Reading.{openRefusal, readLot, readLink, readMessage, CountAnswer, readCounts}
-use Rattle.record.proofs.Round.{meaning-bytes}
+use Rattle.record.specs.Reading.{openRefusal, openBytes, readLot, readLink, readMessage, CountAnswer, readCounts}
+use Rattle.record.specs.Call.{called}
+use Rattle.record.specs.Bundle.{bundleIn}
+use Rattle.record.proofs.Bundle.{Fine, fine-bytes, deliveries-end}
 use Rattle.runs.specs.Typed.{AllTyped}
-use Rattle.runs.specs.Run.{bytesRun, meant, lotOf, Demand3, EveryList}
+use Rattle.runs.specs.Run.{bytesRun, listRun, meant, lotOf, Demand3, EveryList}
 use Rattle.runs.proofs.Typed.{all-typed}
-use Rattle.runs.proofs.Same.{Same, run-same, accepted-same}
+use Rattle.runs.proofs.Same.{Same, run-same}
 use Rattle.runs.proofs.Readings.{countsOf, read-lot, read-message, read-counts, read-link, count-none}
 
 -- the bound: a number computed from the bytes alone
@@ -67,11 +71,14 @@ carried s t h D = record {
       at (λ l. readLink l x k (sideNumber d))
       ∙ read-link M (h .fine) x k d (seated-below (h .fine) x here) p here
       ∙ ap (λ (o : Option ℕ). record { refused = 0; seat = linkByte o }) (linked q x k d m p);
-  ends = λ ns. rw (h .now, meaning-bytes (h .fine), accepted-same (t .now) (h .fine) ns) (D .ends ns);
+  ends = λ ds. let r = spread-delivers called bundleIn (s .now) ds in rw (r .1) (deliveries-end (s .now) fine (r .0));
 }
   where
     M : Meaning
     M = t .now
+
+    fine : Fine (s .now)
+    fine = subst Fine (sym (h .now)) (fine-bytes (h .fine))
 
     at : {A : Type 0} (f : List ℕ → A) → f (s .now) ≡ f (bytesOf (t .now))
     at f = ap f (h .now)
@@ -98,9 +105,10 @@ carried s t h D = record {
 in-range : (l : List ℕ) → openRefusal l ≡ 0 → (cs : List Call) → AllInRange seats width cs → Demand3 bound (bytesRun l cs)
 in-range l e cs r = carried (bytesRun l cs) (meaningRun seats width cs) (run-same l (open-sized l e) cs r) (protocol-theorem.every-list seats width cs r)
 
--- the arguments are any that the types of the code can hold
-pub every-list : (l : List ℕ) → openRefusal l ≡ 0 → (cs : List Call) → AllTyped cs → Demand3 bound (bytesRun l cs)
-every-list l e cs t = in-range l e cs (all-typed cs t)
+-- bundles stand for their deliveries, and the arguments are any that the types of the code can hold
+pub every-list : (l : List ℕ) → openRefusal l ≡ 0 → (is : List (Item Call)) → AllTyped is → Demand3 bound (listRun l is)
+unfolding listRun
+every-list l e is t = in-range l e (spread called bundleIn (λ c. c) (openBytes l) is) (all-typed (openBytes l) is t)
 
 -- THE THEOREM: one bound for all lists
 pub demand-3 : EveryList

@@ -1,13 +1,17 @@
 -- Every argument that the types of the code can hold is in the range that the pages of the calls ask for; and the largest values of the types
 -- are among them, so that neither range can narrow unseen. Assumes nothing.
-use mathlib.Core.List.{List, [], _∷_}
+use Prim.Native.Nat.{ℕ}
+use mathlib.Core.List.{List, [], _∷_, _++_, map}
 use native.Mathlib.Omega.{arith}
 use Rattle.graph.specs.Vector.{width}
-use Rattle.protocol.specs.Message.{name}
+use Rattle.protocol.specs.Message.{Name, name}
 use Rattle.protocol.specs.Calls.{Call, join, leave, deliver, turn, InRange}
+use Rattle.protocol.specs.Bundle.{Item, one, bundle, leftBy, spread}
 use Rattle.protocol.specs.Run.{AllInRange}
 use Rattle.record.specs.Layout.{seats}
-use Rattle.runs.specs.Typed.{Typed, AllTyped}
+use Rattle.record.specs.Call.{called}
+use Rattle.record.specs.Bundle.{bundleIn}
+use Rattle.runs.specs.Typed.{Typed, TypedItem, AllTyped}
 
 pub typed-fits : (c : Call) → Typed c → InRange seats width c
 typed-fits (join s n v c) (ts, tn, tv, tc) = (tn, tv)
@@ -15,9 +19,16 @@ typed-fits (leave s) t = tt
 typed-fits (deliver n) t = tt
 typed-fits turn t = tt
 
-pub all-typed : (cs : List Call) → AllTyped cs → AllInRange seats width cs
-all-typed [] t = tt
-all-typed (c ∷ cs) t = (typed-fits c (t .0), all-typed cs (t .1))
+-- deliveries are in range, whatever their numbers
+deliveries-fit : (ns : List Name) (cs : List Call) → AllInRange seats width cs → AllInRange seats width (map deliver ns ++ cs)
+deliveries-fit [] cs r = r
+deliveries-fit (n ∷ ns) cs r = (tt, deliveries-fit ns cs r)
+
+pub all-typed : (l : List ℕ) (is : List (Item Call)) → AllTyped is → AllInRange seats width (spread called bundleIn (λ c. c) l is)
+unfolding spread
+all-typed l [] t = tt
+all-typed l (one c ∷ is) t = (typed-fits c (t .0), all-typed (called l c .after) is (t .1))
+all-typed l (bundle n ∷ is) t = deliveries-fit (bundleIn l n) _ (all-typed (leftBy called l (bundleIn l n)) is (t .1))
 
 -- the largest values
 pub widest-join : Typed (join 255 18446744073709551615 255 255)
@@ -28,3 +39,6 @@ widest-leave = omega arith
 
 pub widest-deliver : Typed (deliver (name 255 255 255 255 255))
 widest-deliver = (omega arith, omega arith, omega arith, omega arith, omega arith)
+
+pub widest-bundle : TypedItem (bundle 65535)
+widest-bundle = omega arith

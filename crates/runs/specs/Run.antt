@@ -1,4 +1,4 @@
--- Lists of calls on the bytes of a record that open has just written, by the definitions that the contracts of the calls cite, and what
+-- Lists of calls and bundles on the bytes of a record that open has just written, by the definitions that the contracts of the calls cite, and what
 -- demand 3 says of the readings after every list. The roster is kept from the log alone, pending messages from the history; table,
 -- members and graph are the protocol's and the graph's. `EveryList` is demand 3 whole. Assumes nothing.
 use Prim.Native.Nat.{ℕ, _≤_, _<_}
@@ -14,17 +14,23 @@ use Rattle.graph.specs.Graph.{graph}
 use Rattle.protocol.specs.Message.{Name, named}
 use Rattle.protocol.specs.State.{Seats, Meaning, taken, seated, isPending, member}
 use Rattle.protocol.specs.Refusals.{emptySeat}
-use Rattle.protocol.specs.Calls.{Call}
+use Rattle.protocol.specs.Calls.{Call, deliver}
+use Rattle.protocol.specs.Bundle.{Item, spread}
 use Rattle.protocol.specs.Run.{Past, Standing, logOf, stepsFrom, accepted, Roster, membersOf, rosterOf, pendingOf, RefusedByTable, NothingPending}
 use Rattle.record.specs.Layout.{seats, levels}
 use Rattle.record.specs.Meaning.{meaning, phaseByte, stateByte, linkByte}
 use Rattle.record.specs.Reading.{openRefusal, openBytes, LotAnswer, readLot, readLink, readMessage, readCounts}
 use Rattle.record.specs.Call.{called}
+use Rattle.record.specs.Bundle.{bundleIn}
 use Rattle.runs.specs.Typed.{AllTyped}
 
 -- open on the bytes l, then the calls
 unfoldable pub bytesRun : List ℕ → List Call → Standing (List ℕ)
 bytesRun l cs = stepsFrom called (openBytes l) cs
+
+-- open on the bytes l, then a list of calls and bundles: the run of the list in which each bundle stands for its deliveries
+unfoldable pub listRun : List ℕ → List (Item Call) → Standing (List ℕ)
+listRun l is = bytesRun l (spread called bundleIn (λ c. c) (openBytes l) is)
 
 -- the history with the meaning of the bytes before each call: what it sends is what the rules send there
 unfoldable pub meant : List (Past (List ℕ)) → List (Past Meaning)
@@ -56,11 +62,12 @@ pub record Demand3 (bound : List ℕ → ℕ) (s : Standing (List ℕ)) : Type 0
   -- with none pending, each link of each member reads as in the graph of the members
   pub links : NothingPending seats width (meant (s .history)) → (x k : ℕ) (d : Side) → T (member (roster (s .history) .seats) x) → k < levels
       → readLink (s .now) x k (sideNumber d) ≡ record { refused = 0; seat = linkByte (graph seats width (membersOf (roster (s .history))) x k d) }
-  -- no list of deliveries from here has more accepted ones than the bound
-  pub ends : (ns : List Name) → accepted called (s .now) ns ≤ bound (s .now)
+  -- no list of deliveries and bundles from here has more accepted deliveries than the bound
+  pub ends : (ds : List (Item Name)) → accepted called (s .now) (spread called bundleIn deliver (s .now) ds) ≤ bound (s .now)
 
 -- DEMAND 3: there is a number for the bytes of a record, the same whatever list made them, and with it demand 3 holds after every list of
--- calls on a record that open has just written over any bytes that it accepts. The arguments are any that the types of the code can hold.
+-- calls and bundles on a record that open has just written over any bytes that it accepts. The arguments are any that the types of the code
+-- can hold.
 pub record EveryList : Type 0 where
   pub bound : List ℕ → ℕ
-  pub after : (l : List ℕ) → openRefusal l ≡ 0 → (cs : List Call) → AllTyped cs → Demand3 bound (bytesRun l cs)
+  pub after : (l : List ℕ) → openRefusal l ≡ 0 → (is : List (Item Call)) → AllTyped is → Demand3 bound (listRun l is)
