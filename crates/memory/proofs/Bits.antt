@@ -8,7 +8,7 @@ use native.Mathlib.Numerals.{one-add}
 use lib.Bits.{bitAnd, bitOr, and-high, or-add-and}
 use lib.Dec.{eqb, lit<}
 use lib.Pow.{shr-shr, shl-exact}
-use borrow.Author.Tests.{eq-eqb, ne-eqb}
+use borrow.Author.Tests.{eq-eqb, ne-eqb, eqb-true}
 use Rattle.base.specs.Loops.{oneIf}
 use Rattle.memory.specs.Bits.{bitOf, hasBit, withBit}
 use Rattle.base.proofs.Count.{oneIf-le}
@@ -121,3 +121,12 @@ mask-set x k = omega (arith, or-add-and x (2 ^ k), mask-bit x k, one-mul (2 ^ k)
 pub mask-clear : (x k : ℕ) → x - bitAnd x (2 ^ k) ≡ withBit x k false
 unfolding withBit
 mask-clear x k = omega (arith, mask-bit x k, zero-mul (2 ^ k))
+
+-- a set bit's power is within the number, and taken off clears the bit
+pub power-within : (x k : ℕ) → hasBit x k ≡ true → 2 ^ k ≤ x
+power-within x k h = let e : bitOf x k ≡ 1 = eqb-true (bitOf x k) 1 h in omega (arith, bitOf-le x k, ap (λ (n : ℕ). n * 2 ^ k) e, one-mul (2 ^ k))
+
+pub power-off : (x k : ℕ) → hasBit x k ≡ true → x - 2 ^ k ≡ withBit x k false
+power-off x k h =
+    let e : bitOf x k ≡ 1 = eqb-true (bitOf x k) 1 h in
+    ap (λ (n : ℕ). x - n) (sym (mask-bit x k ∙ ap (λ (n : ℕ). n * 2 ^ k) e ∙ one-mul (2 ^ k))) ∙ mask-clear x k

@@ -6,9 +6,11 @@ use mathlib.Core.Bool.{Bool, true, false, not}
 use native.Mathlib.Omega.{arith}
 use lib.Dec.{eqb}
 use borrow.Author.Tests.{eq-eqb, ne-eqb}
-use Rattle.base.specs.Loops.{all, firstFrom}
+use Rattle.base.specs.Loops.{all, any, firstFrom}
 use Rattle.base.proofs.Cases.{lt-or-ge, eq-or-ne, true-or-false}
 use Rattle.base.proofs.All.{all-from, all-fails}
+use Rattle.base.proofs.Any.{any-out}
+use Rattle.base.proofs.Tests.{true-T, false-T}
 
 -- r is the first of the n numbers from i on that passes, else i + n
 pub record IsFirst (n i : ℕ) (p : ℕ → Bool) (r : ℕ) : Type 0 where
@@ -130,3 +132,10 @@ first-all n i p =
     let t : p (i + d) ≡ true = ap p e ∙ f .found (omega (arith, f .high, ne)) in
     ne-eqb (firstFrom n i p) (i + n) ne ∙ sym (all-fails n d (λ j. not (p (i + j))) (omega (arith, f .high, ne)) (rw t)))
     (eq-or-ne (firstFrom n i p) (i + n))
+
+-- one passes: it is found
+pub first-any : (n : ℕ) (p : ℕ → Bool) → any n p ≡ true → firstFrom n 0 p < n
+first-any n p e =
+    let f = first n 0 p in
+    let r = any-out n p (true-T {b = any n p} e) in
+    ⊎-elim (λ l. l) (λ l. false-T (f .before (r .0) (omega arith) (omega (arith, r .1))) (r .2)) (lt-or-ge (firstFrom n 0 p) n)

@@ -8,5 +8,7 @@ pub mod Bitmap
 pub mod Zeros
 pub mod Fulls
 pub mod MachineCounts
+pub mod Words
+pub mod FirstSet
 pub mod Search
 pub mod Examples

@@ -1,17 +1,21 @@
 // Numbers and bits in lent bytes. A number is written highest byte first. Bit i of the bitmap at `base` is bit i % 8, the lowest is 0,
 // of byte base + i / 8. Each function asks that what it reads or writes lies within the bytes.
 ghost use mathlib.Core.Path.{_≡_};
-ghost use Prim.Native.Nat.{_+_, _-_, _*_, _/_, _%_, _≤_, _<_};
+ghost use Prim.Native.Nat.{_+_, _-_, _*_, _/_, _%_, _^_, _≤_, _<_};
 ghost use lib.ListN.{length};
 ghost use Rattle.base.specs.Loops.{firstFrom, count as countOf};
 ghost use Rattle.memory.specs.Bytes.{numberAt, putNumber, digit, nonZero, zeros, fulls};
-ghost use Rattle.memory.specs.Bits.{hasBit, packed, bitSet, setBit, clearBit};
+ghost use mathlib.Core.Bool.{true, not};
+ghost use Rattle.memory.specs.Bits.{hasBit, packed, bitSet, setBit, clearBit, wordSet};
+ghost use Rattle.memory.specs.inner.Words.{putLow};
 
 // The bits of a byte.
 const BITS: usize = 8;
 
-// The bytes of a number.
+// The bytes of a number or a word, and the bits of a word.
 const WIDTH: usize = 8;
+
+const WORD: usize = WIDTH * BITS;
 
 // The last byte of a number.
 const LAST: usize = WIDTH - 1;
@@ -91,24 +95,66 @@ pub fn test_bit(rec: &[u8], base: usize, i: usize) -> bool
     (rec[base + i / BITS] >> (i % BITS)) % 2 == 1
 }
 
-// Sets bit `i` of the bitmap at `base`.
-pub fn set_bit(rec: &mut [u8], base: usize, i: usize)
-    requires { ⌜ base + i / 8 < length (now rec) ⌝ }
-    ensures { λ _. ⌜ now (rec .exit) ≡ setBit (now (rec .entry)) base i ⌝ }
+// Byte j of a word, the lowest is 0.
+fn low_byte(n: u64, j: usize) -> u8
+    requires { ⌜ j < 8 ⌝ }
+    ensures { λ r. ⌜ r ≡ n / 2 ^ (j * 8) % 256 ⌝ }
 {
-    let at = base + i / BITS;
-    let x = rec[at];
-    rec[at] = x | (1u8 << (i % BITS));
+    ((n >> (j * BITS)) % 256) as u8
 }
 
-// Clears bit `i` of the bitmap at `base`.
+// Writes a word to the 8 bytes from `at` on, the lowest byte first.
+fn put_word(rec: &mut [u8], at: usize, n: u64)
+    requires { ⌜ at + 8 ≤ length (now rec) ⌝ }
+    ensures { λ _. ⌜ now (rec .exit) ≡ putLow (now (rec .entry)) at 8 n ⌝ }
+{
+    for i in 0..WIDTH {
+        rec[at + i] = low_byte(n, i);
+    }
+}
+
+// Sets bit `i` of the bitmap at `base`, whose words lie within the bytes. A word is read and written as one, so that it can be read again at once.
+pub fn set_bit(rec: &mut [u8], base: usize, i: usize)
+    requires { ⌜ base + i / 64 * 8 + 8 ≤ length (now rec) ⌝ }
+    ensures { λ _. ⌜ now (rec .exit) ≡ setBit (now (rec .entry)) base i ⌝ }
+{
+    let at = base + i / WORD * WIDTH;
+    let x = word(rec, at);
+    put_word(rec, at, x | (1u64 << (i % WORD)));
+}
+
+// Clears bit `i` of the bitmap at `base`, in the same way.
 pub fn clear_bit(rec: &mut [u8], base: usize, i: usize)
-    requires { ⌜ base + i / 8 < length (now rec) ⌝ }
+    requires { ⌜ base + i / 64 * 8 + 8 ≤ length (now rec) ⌝ }
     ensures { λ _. ⌜ now (rec .exit) ≡ clearBit (now (rec .entry)) base i ⌝ }
 {
-    let at = base + i / BITS;
-    let x = rec[at];
-    rec[at] = x - (x & (1u8 << (i % BITS)));
+    let at = base + i / WORD * WIDTH;
+    let x = word(rec, at);
+    put_word(rec, at, x - (x & (1u64 << (i % WORD))));
+}
+
+// A bit of a word that was cleared, and whether it was the last.
+pub struct Cleared {
+    pub bit: usize,
+    pub last: bool,
+}
+
+// Clears the first set bit of word `w` of the bitmap at `base`, of which one is set.
+pub fn clear_first(rec: &mut [u8], base: usize, w: usize) -> Cleared
+    requires { ⌜ (base + w * 8 + 8 ≤ length (now rec)) × (wordSet (now rec) base w ≡ true) ⌝ }
+    ensures bit { λ r. ⌜ r .bit ≡ firstFrom 64 0 (λ j. bitSet (now (rec .entry)) base (w * 64 + j)) ⌝ }
+    ensures cleared { λ r. ⌜ now (rec .exit) ≡ clearBit (now (rec .entry)) base (w * 64 + r .bit) ⌝ }
+    ensures last { λ r. ⌜ r .last ≡ not (wordSet (now (rec .exit)) base w) ⌝ }
+{
+    let at = base + w * WIDTH;
+    let x = word(rec, at);
+    let z = u64::trailing_zeros(x) as usize;
+    let rest = x - (1u64 << z);
+    put_word(rec, at, rest);
+    Cleared {
+        bit: z,
+        last: rest == 0,
+    }
 }
 
 // Whether the `n` bytes from `at` on are all 0, looking at each.

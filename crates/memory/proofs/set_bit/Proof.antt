@@ -1,40 +1,37 @@
 -- `memory::set_bit` meets its contract: the or with the bit's power sets the bit. Assumes nothing.
-use mathlib.Core.Path.{ap, _∙_}
-use Prim.Native.Nat.{ℕ, _+_, _/_, _%_}
 use native.Mathlib.Omega.{arith}
-use lib.Bits.{bitOr}
-use lib.ListN.{getD, set}
 use borrow.Author.Needs.{needs}
-use Rattle.memory.proofs.Bits.{one-shifted, mask-set}
+use Rattle.memory.proofs.Words.{set-word}
 use Rattle.memory.proofs.set_bit.Statement.{statement}
 use Rattle.memory.proofs.set_bit.Tie as tie
+
+mul-at : tie.Need-mul-at
+mul-at c = search needs
 
 add-at : tie.Need-add-at
 add-at c = search needs
 
-slice-read-x : tie.Need-slice-read-x
-slice-read-x c = search needs
+word-requires : tie.Need-word-requires
+word-requires c κs = search needs
 
-cast-rec : tie.Need-cast-rec
-cast-rec c = search needs
+shl-put-word : tie.Need-shl-put-word
+shl-put-word c = search needs
 
-shl-rec : tie.Need-shl-rec
-shl-rec c = search needs
-
-slice-write-rec : tie.Need-slice-write-rec
-slice-write-rec c = search needs
+put-word-requires : tie.Need-put-word-requires
+put-word-requires c κs = search needs
 
 same-length : tie.Need-same-length
 same-length c = search needs
 
 returns : tie.Need-returns
 returns c =
-    let l = c .before .args .rec .now in
-    let at = c .before .args .base + c .before .args .i / 8 in
-    let k = c .before .args .i % 8 in
-    let x = getD l at 0 in
-    ap (λ (y : ℕ). set l at y) (ap (bitOr x) (one-shifted 8 k (omega arith)) ∙ mask-set x k)
+    let p = c .before .before in
+    let w = p .before .before in
+    let b = w .before .before in
+    let a = b .before .args in
+    set-word (a .rec .now) (a .base) (a .i) (λ j. omega (arith, b .slice-known .given j)) (search needs) (w .word .ensures) (p .put-word .ensures)
 
 pub set-bit-spec : {M : Type 1} → statement M
 set-bit-spec =
-    tie.close (tie.spec add-at slice-read-x cast-rec shl-rec slice-write-rec same-length returns)
+    tie.close
+    (tie.spec mul-at add-at word-requires shl-put-word put-word-requires same-length returns)
