@@ -1,5 +1,5 @@
--- The five numbers of the message at a place, kind by kind: from the digits of the place in its block (docs/RECORD.md), and back to the
--- message. Assumes nothing.
+-- The five numbers of the message at a place, kind by kind: from the digits of the place in its block, and back to the message. Assumes
+-- nothing.
 use Prim.Native.Nat.{ℕ, _+_, _-_, _/_, _%_, _≤_, _<_}
 use mathlib.Core.Path.{_≡_, refl, sym, ap, _∙_}
 use mathlib.Core.Logic.{_≢_}
@@ -10,14 +10,16 @@ use lib.Dec.{eqb, ltb}
 use Rattle.graph.specs.Side.{sideOfNumber}
 use Rattle.graph.specs.Vector.{width}
 use Rattle.protocol.specs.Message.{Msg, meet, probe, pull, going, seek, found, none-found, name, nameOf, named}
-use Rattle.protocol.specs.Numbering.{pairs, pulls, sides, exists, place, messageAt}
+use Rattle.protocol.specs.Numbering.{exists, messageAt}
 use Rattle.protocol.proofs.Message.{some-inj, none-some, named-name}
-use Rattle.protocol.proofs.Numbering.{Exists, in-meet, in-probe, in-pull, in-going, in-seek, in-found, in-none-found, in-exists}
-use Rattle.protocol.proofs.Numbering.{bitNumber-lt, sideNumber-lt, messageAt-place}
+use Rattle.protocol.proofs.Numbering.{Exists, in-meet, in-probe, in-pull, in-going, in-seek, in-found, in-none-found}
+use Rattle.protocol.proofs.Numbering.{bitNumber-lt, sideNumber-lt}
 use Rattle.record.specs.Layout.{seats, levels, messages}
 use Rattle.record.proofs.Places.{sideNumber-side, exists-at}
 use Rattle.messages.specs.declared.Message.{Message}
 use Rattle.messages.specs.inner.Numbers.{numbers, InRange, Stands}
+use Rattle.messages.proofs.Blocks.{IsAt, at-place, probesFrom, pullsFrom, goingsFrom, seeksFrom, foundsFrom, nonesFrom}
+use Rattle.messages.proofs.Blocks.{meet-at, probe-at, pull-at, going-at, seek-at, found-at, none-at}
 use Rattle.messages.proofs.Named.{when, named-meet, named-probe, named-pull, named-going, named-seek, named-found, named-none}
 use Rattle.messages.proofs.Named.{named-rest, bitNumber-bit, two-below, three-below}
 
@@ -39,85 +41,42 @@ exists-range (in-found p q r) =
 exists-range (in-none-found {d = d} p r) =
     record { some-kind = omega arith; kind = omega arith; to = p; about = omega arith; level = r; side = sideNumber-lt d }
 
--- the numbers of a message that exists stand for its place
-pub exists-stands : {i : ℕ} {r : Message} (m : Msg) → Exists seats width m → place seats width m ≡ i → numbers r ≡ nameOf m → Stands i r
-exists-stands {i} {r} m x e n =
-    let at : messageAt seats width i ≡ m = rw (← e) (messageAt-place seats width m (in-exists seats width x)) in
-    record { is-named = n ∙ ap nameOf (sym at); in-range = rw n (exists-range x) }
-
--- where the blocks of the kinds after MEET begin
-abbrev probesFrom : ℕ
-probesFrom = pairs seats width levels
-
-abbrev pullsFrom : ℕ
-pullsFrom = probesFrom + pairs seats width width
-
-abbrev goingsFrom : ℕ
-goingsFrom = pullsFrom + pulls seats width
-
-abbrev seeksFrom : ℕ
-seeksFrom = goingsFrom + sides seats width
-
-abbrev foundsFrom : ℕ
-foundsFrom = seeksFrom + pairs seats width levels
-
-abbrev nonesFrom : ℕ
-nonesFrom = foundsFrom + pairs seats width levels
+-- the numbers of the message at a place stand for it
+placed-stands : {i : ℕ} {r : Message} {m : Msg} → IsAt i m → numbers r ≡ nameOf m → Stands i r
+placed-stands a n = record { is-named = n ∙ ap nameOf (sym (at-place a)); in-range = rw n (exists-range (a .exists)) }
 
 -- from the digits of a place in its block to the numbers
 module _ {i : ℕ} {r : Message} where
   pub meet-stands : i < probesFrom → numbers r ≡ name 1 (i / levels / seats) (i / levels % seats) (i % levels) 0 → Stands i r
-  unfolding place
-  meet-stands h n = exists-stands (meet (i / levels / seats) (i / levels % seats) (i % levels))
-      (in-meet (omega arith) (omega arith) (omega arith)) (omega arith) n
+  meet-stands h n = placed-stands (meet-at h) n
 
   pub probe-stands : probesFrom ≤ i → i < pullsFrom → let j = i - probesFrom in
       numbers r ≡ name 2 (j / width / seats) (j / width % seats) (j % width) 0 → Stands i r
-  unfolding place
-  probe-stands l h n = let j = i - probesFrom in
-      exists-stands (probe (j / width / seats) (j / width % seats) (j % width))
-      (in-probe (omega arith) (omega arith) (omega arith)) (omega arith) n
+  probe-stands l h n = placed-stands (probe-at l h) n
 
   pub pull-stands : pullsFrom ≤ i → i < goingsFrom → let j = i - pullsFrom in
       numbers r ≡ name 3 (j / 2 / width / 2) (j / 2 / width % 2) (j / 2 % width) (j % 2) → Stands i r
-  unfolding place
   pull-stands l h n =
       let j = i - pullsFrom in
       let b = bitNumber-bit (j / 2 / width % 2) (omega arith) in
       let d = sideNumber-side (j % 2) (omega arith) in
-      exists-stands (pull (j / 2 / width / 2) (eqb (j / 2 / width % 2) 1) (j / 2 % width) (sideOfNumber (j % 2)))
-      (in-pull (omega arith) (omega arith)) (omega arith) (rw (b, d) n)
+      placed-stands (pull-at l h) (rw (b, d) n)
 
   pub going-stands : goingsFrom ≤ i → i < seeksFrom → let j = i - goingsFrom in
       numbers r ≡ name 4 (j / 2 / levels) 0 (j / 2 % levels) (j % 2) → Stands i r
-  unfolding place
-  going-stands l h n =
-      let j = i - goingsFrom in
-      let d = sideNumber-side (j % 2) (omega arith) in
-      exists-stands (going (j / 2 / levels) (j / 2 % levels) (sideOfNumber (j % 2))) (in-going (omega arith) (omega arith)) (omega arith) (rw d n)
+  going-stands l h n = let d = sideNumber-side ((i - goingsFrom) % 2) (omega arith) in placed-stands (going-at l h) (rw d n)
 
   pub seek-stands : seeksFrom ≤ i → i < foundsFrom → let j = i - seeksFrom in
       numbers r ≡ name 5 (j / levels / seats) (j / levels % seats) (j % levels) 0 → Stands i r
-  unfolding place
-  seek-stands l h n = let j = i - seeksFrom in
-      exists-stands (seek (j / levels / seats) (j / levels % seats) (j % levels))
-      (in-seek (omega arith) (omega arith) (omega arith)) (omega arith) n
+  seek-stands l h n = placed-stands (seek-at l h) n
 
   pub found-stands : foundsFrom ≤ i → i < nonesFrom → let j = i - foundsFrom in
       numbers r ≡ name 6 (j / levels / seats) (j / levels % seats) (j % levels) 0 → Stands i r
-  unfolding place
-  found-stands l h n = let j = i - foundsFrom in
-      exists-stands (found (j / levels / seats) (j / levels % seats) (j % levels))
-      (in-found (omega arith) (omega arith) (omega arith)) (omega arith) n
+  found-stands l h n = placed-stands (found-at l h) n
 
   pub none-stands : nonesFrom ≤ i → i < messages → let j = i - nonesFrom in
       numbers r ≡ name 7 (j / 2 / levels) 0 (j / 2 % levels) (j % 2) → Stands i r
-  unfolding place
-  none-stands l h n =
-      let j = i - nonesFrom in
-      let d = sideNumber-side (j % 2) (omega arith) in
-      exists-stands (none-found (j / 2 / levels) (j / 2 % levels) (sideOfNumber (j % 2)))
-      (in-none-found (omega arith) (omega arith)) (omega arith) (rw d n)
+  none-stands l h n = let d = sideNumber-side ((i - nonesFrom) % 2) (omega arith) in placed-stands (none-at l h) (rw d n)
 
 -- a message found under a condition
 when-some : (b : Bool) {m n : Msg} → when b m ≡ some n → n ≡ m

@@ -73,7 +73,7 @@ module _ (l : List ℕ) where
           bits ∙ all-from messages _ (λ i h. ap not (sym (meaning-bit l i h) ∙ quiet (messageAt seats width i) (exists-at i h)))
 
   -- messages fit where none is pending, by the bits, the meaning or the count
-  clear-fit : ((i : ℕ) → i < messages → bitSet l pendingFrom i ≡ false) → messagesFit l ≡ true
+  pub clear-fit : ((i : ℕ) → i < messages → bitSet l pendingFrom i ≡ false) → messagesFit l ≡ true
   unfolding messagesFit
   clear-fit h = all-from messages (λ i. not (bitSet l pendingFrom i) || messageOk width (seatsIn l) (messageAt seats width i)) (λ i p. rw (h i p))
 
