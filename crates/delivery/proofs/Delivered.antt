@@ -36,7 +36,7 @@ use Rattle.rules.specs.inner.Done.{changed, done}
 use Rattle.messages.proofs.Named.{two-below, three-below}
 
 -- a change at a level that exists to a link that names a seat
-AtLevel : Change → Type 0
+unfoldable pub AtLevel : Change → Type 0
 AtLevel keep = Unit {0}
 AtLevel (set k d o) = (k < levels) × NamesSeat o
 
@@ -59,7 +59,7 @@ meeting-level num vec e t a l d g h (some o) = by (eqb o a) (onSide d (num o) (n
     by false false = (h, names-some g)
 
 -- the change of a rule is at the message's level
-rule-level : (M : Meaning) (m : Msg) → T (exists seats width m) → AtLevel (rule width M m .change)
+pub rule-level : (M : Meaning) (m : Msg) → T (exists seats width m) → AtLevel (rule width M m .change)
 unfolding AtLevel rule effect exists
 rule-level M (meet t a l) x = let (_, g, h) = three-below t a l _ _ _ x in meeting-level _ _ _ t a l _ g h _
 rule-level M (probe t a l) x = tt
@@ -97,7 +97,7 @@ without-sound {M} h m = record {
 }
 
 -- what a rule sends exists
-sent-exists : {M : Meaning} → Sound seats width M → (m : Msg) → T (M .pending m)
+pub sent-exists : {M : Meaning} → Sound seats width M → (m : Msg) → T (M .pending m)
     → (n : Msg) → List·Memᴰ n (rule width M m .sent) → T (exists seats width n)
 unfolding refusal rows first isPending
 sent-exists {M} h m t n q =
@@ -122,7 +122,7 @@ module _ {l : List ℕ} (f : Form l) (h : Sound seats width (meaning l)) (n : Na
       ∙ sym (bytes-withoutMessage (meaning l) m (exists-pending l m t))
 
   -- the rule does not see that the message is taken
-  same-rule : rule width (meaning (clearBit l pendingFrom (place seats width m))) m ≡ rule width (meaning l) m
+  pub same-rule : rule width (meaning (clearBit l pendingFrom (place seats width m))) m ≡ rule width (meaning l) m
   unfolding rule
   same-rule =
       ap (λ (b : List ℕ). rule width (meaning b) m) taken

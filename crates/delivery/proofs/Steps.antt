@@ -26,7 +26,8 @@ use Rattle.record.proofs.Refused.{record-passed}
 use Rattle.messages.specs.inner.Places.{placeOf, isMessage}
 use Rattle.messages.proofs.Named.{when}
 use Rattle.messages.proofs.Placed.{place-message, message-place, pending-bit, no-place}
-use Rattle.rules.specs.inner.Done.{done}
+use Rattle.rules.specs.inner.Done.{done, Indexed, indexed, carried}
+use Rattle.rules.proofs.Sends.{carried-bytes}
 use Rattle.delivery.proofs.ByKind.{Kind}
 use Rattle.delivery.proofs.Answers.{Told, refuse-message, delivered}
 use Rattle.delivery.proofs.Delivered.{deliver-bytes}
@@ -67,6 +68,12 @@ module _ (l : List ℕ) (fine : recordRefusal l ≡ 0) {n : Name} {m : Msg} (k :
       let s = sound-is l (r .sized) bs .0 (r .fine) in
       let h = is-there in
       delivered l n fine (sym (t .0) ∙ q) (ey ∙ deliver-bytes (s .0) (s .1) n m (h .1) (h .2) taken)
+
+  -- with an index beside the record
+  pub carried-noted : AreBytes l → (i : List ℕ) (t : ℕ) {y j : List ℕ} {u : ℕ} → indexed y j u ≡ carried (nameOf m .to) (rule width (meaning x) m) (indexed x i t)
+      → Told l n Done y
+  carried-noted bs i t e =
+      carried-out bs (ap (λ (b : Indexed). b .bytes) e ∙ carried-bytes (nameOf m .to) (rule width (meaning x) m) (indexed x i t))
 
 -- the same found out by the place of the numbers, i
 module _ (l : List ℕ) (n : Name) {i : ℕ} (e : i ≡ placeOf (named n)) where

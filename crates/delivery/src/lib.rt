@@ -20,14 +20,12 @@ ghost use Rattle.messages.specs.inner.Places.{placeOf};
 ghost use Rattle.rules.specs.inner.Done.{done};
 use messages::place_of;
 use record::Answer;
-use record::ENTRIES;
-use record::ENTRY;
 use record::MESSAGES;
 use record::refusals::NO_SUCH_MESSAGE;
-use rules::found;
 use rules::going;
+use rules::lend_found;
+use rules::lend_none;
 use rules::meet;
-use rules::none;
 use rules::probe;
 use rules::pull;
 use rules::seek;
@@ -50,28 +48,8 @@ fn take_named(rec: &mut [u8], kind: u8, to: usize, about: usize, level: usize, s
     true
 }
 
-// FOUND, lent the entry of `to` alone.
-fn lend_found(rec: &mut [u8], to: usize, about: usize, level: usize)
-    requires { ⌜ (length (now rec) ≡ size) × (to < seats) × (about < seats) × (level < levels) ⌝ }
-    ensures { λ _. ⌜ now (rec .exit) ≡ done to (rule width (meaning (now (rec .entry))) (foundOf to about level)) (now (rec .entry)) ⌝ }
-{
-    let number = record::number(rec, about);
-    let a = ENTRIES + ENTRY * to;
-    let e = a + ENTRY;
-    found(&mut rec[a..e], about, number, level);
-}
-
-// NONE, lent the entry of `to` alone.
-fn lend_none(rec: &mut [u8], to: usize, level: usize, side: usize)
-    requires { ⌜ (length (now rec) ≡ size) × (to < seats) × (level < levels) × (side < 2) ⌝ }
-    ensures { λ _. ⌜ now (rec .exit) ≡ done to (rule width (meaning (now (rec .entry))) (none-found to level (sideOfNumber side))) (now (rec .entry)) ⌝ }
-{
-    let a = ENTRIES + ENTRY * to;
-    let e = a + ENTRY;
-    none(&mut rec[a..e], level, side);
-}
-
-// The kinds, each on a record that is not refused: the message is taken away, and its rule is done; or it is refused.
+// The kinds, each on a record that is not refused: the message is taken away, and its rule is done; or it is refused. What a rule notes in an
+// index is not used here.
 fn deliver_meet(rec: &mut [u8], to: usize, about: usize, level: usize, side: usize) -> Answer
     requires { ⌜ recordRefusal (now rec) ≡ 0 ⌝ }
     ensures { λ r. ⌜ (outcome r (now (rec .exit)) ≡ called (now (rec .entry)) (delivering (name 1 to about level side))) × Numbered r ⌝ }
@@ -79,7 +57,8 @@ fn deliver_meet(rec: &mut [u8], to: usize, about: usize, level: usize, side: usi
     if !take_named(rec, 1, to, about, level, side) {
         return Answer::Refused(NO_SUCH_MESSAGE);
     }
-    meet(rec, to, about, level);
+    let mut index = [0u64; index::SIZE];
+    meet(rec, &mut index, 0, to, about, level);
     Answer::Done
 }
 
@@ -90,7 +69,8 @@ fn deliver_probe(rec: &mut [u8], to: usize, about: usize, level: usize, side: us
     if !take_named(rec, 2, to, about, level, side) {
         return Answer::Refused(NO_SUCH_MESSAGE);
     }
-    probe(rec, to, about, level);
+    let mut index = [0u64; index::SIZE];
+    probe(rec, &mut index, 0, to, about, level);
     Answer::Done
 }
 
@@ -101,7 +81,8 @@ fn deliver_pull(rec: &mut [u8], to: usize, about: usize, level: usize, side: usi
     if !take_named(rec, 3, to, about, level, side) {
         return Answer::Refused(NO_SUCH_MESSAGE);
     }
-    pull(rec, to, about, level, side);
+    let mut index = [0u64; index::SIZE];
+    pull(rec, &mut index, 0, to, about, level, side);
     Answer::Done
 }
 
@@ -112,7 +93,8 @@ fn deliver_going(rec: &mut [u8], to: usize, about: usize, level: usize, side: us
     if !take_named(rec, 4, to, about, level, side) {
         return Answer::Refused(NO_SUCH_MESSAGE);
     }
-    going(rec, to, level, side);
+    let mut index = [0u64; index::SIZE];
+    going(rec, &mut index, 0, to, level, side);
     Answer::Done
 }
 
@@ -123,7 +105,8 @@ fn deliver_seek(rec: &mut [u8], to: usize, about: usize, level: usize, side: usi
     if !take_named(rec, 5, to, about, level, side) {
         return Answer::Refused(NO_SUCH_MESSAGE);
     }
-    seek(rec, to, about, level);
+    let mut index = [0u64; index::SIZE];
+    seek(rec, &mut index, 0, to, about, level);
     Answer::Done
 }
 

@@ -1,8 +1,8 @@
--- `delivery::lend_found` meets its contract: a link written in the entry is that link of the record. Assumes nothing.
+-- `rules::lend_found` meets its contract: a link written in the entry is that link of the record. Assumes nothing.
 use borrow.Author.Needs.{needs}
 use Rattle.rules.proofs.Written.{found-done}
-use Rattle.delivery.proofs.lend_found.Statement.{statement}
-use Rattle.delivery.proofs.lend_found.Tie as tie
+use Rattle.rules.proofs.lend_found.Statement.{statement}
+use Rattle.rules.proofs.lend_found.Tie as tie
 
 number-requires : tie.Need-number-requires
 number-requires c κs = search needs

@@ -1,9 +1,9 @@
--- `delivery::lend_none` meets its contract: a link written in the entry is that link of the record. Assumes nothing.
+-- `rules::lend_none` meets its contract: a link written in the entry is that link of the record. Assumes nothing.
 use borrow.Author.Needs.{needs}
 use Rattle.graph.specs.Side.{sideOfNumber}
 use Rattle.rules.proofs.Written.{none-done}
-use Rattle.delivery.proofs.lend_none.Statement.{statement}
-use Rattle.delivery.proofs.lend_none.Tie as tie
+use Rattle.rules.proofs.lend_none.Statement.{statement}
+use Rattle.rules.proofs.lend_none.Tie as tie
 
 mul-a : tie.Need-mul-a
 mul-a c = search needs

@@ -4,8 +4,7 @@ use borrow.Author.Tests.{lt-ltb, le-ltb}
 use borrow.Author.Needs.{needs}
 use Rattle.protocol.specs.Rules.{effect, probing}
 use Rattle.protocol.specs.pages.Deliver.{rule}
-use Rattle.record.specs.inner.Sent.{sentBits}
-use Rattle.rules.specs.inner.Done.{changed, done}
+use Rattle.rules.specs.inner.Done.{changed, sendAll, carried}
 use Rattle.record.proofs.Links.{side-opp}
 use Rattle.rules.proofs.probe.Statement.{statement}
 use Rattle.rules.proofs.probe.Tie as tie
@@ -25,14 +24,18 @@ send-requires c κs = search needs
 same-length : tie.Need-same-length
 same-length c = search needs
 
+same-length-2 : tie.Need-same-length-2
+same-length-2 c = search needs
+
 returns : tie.Need-returns
-unfolding done sentBits changed rule effect probing
+unfolding carried sendAll changed rule effect probing
 returns c =
-    let s = c .before .before in
-    let b = s .before .before .before .before .before .before .before in
+    let s = c .before .before .before .before in
+    let h = s .before .before .before .before .before in
+    let b = h .before .before .before .before in
     rw (
-      ← s .before .before .before .before .share .ensures,
-      lt-ltb _ _ (s .before .before .before .if1 .taken),
+      ← h .share .ensures,
+      lt-ltb _ _ (s .before .before .before .before .if1 .taken),
       ← add-one (b .args .level),
       ← s .before .meet-place .ensures .0,
     ) (s .send .ensures)
@@ -49,13 +52,17 @@ link-requires c κs = search needs
 probe-link-requires : tie.Need-probe-link-requires
 probe-link-requires c κs = search needs
 
-same-length-2 : tie.Need-same-length-2
-same-length-2 c = search needs
+same-length-3 : tie.Need-same-length-3
+same-length-3 c = search needs
+
+same-length-4 : tie.Need-same-length-4
+same-length-4 c = search needs
 
 returns-2 : tie.Need-returns-2
-unfolding done sentBits changed rule effect probing
+unfolding carried sendAll changed rule effect probing
 returns-2 c =
-    let k = c .before .before .before .before in
+    let p = c .before .before .before .before in
+    let k = p .before .before .before in
     let d = k .before .before in
     rw (
       ← d .before .before .before .share .ensures,
@@ -63,21 +70,9 @@ returns-2 c =
       ← d .side-of .ensures .0,
       ← side-opp _ (d .side-of .ensures .1),
       ← k .link .ensures,
-    ) (c .before .before .probe-link .ensures)
+    ) (p .probe-link .ensures)
 
 pub probe-spec : {M : Type 1} → statement M
 probe-spec =
     tie.close
-    (tie.spec
-    share-requires
-    add-meet-place
-    meet-place-requires
-    send-requires
-    same-length
-    returns
-    side-of-requires
-    sub-link
-    link-requires
-    probe-link-requires
-    same-length-2
-    returns-2)
+    (tie.spec share-requires add-meet-place meet-place-requires send-requires same-length same-length-2 returns side-of-requires sub-link link-requires probe-link-requires same-length-3 same-length-4 returns-2)

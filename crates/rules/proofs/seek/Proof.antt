@@ -2,8 +2,7 @@
 use borrow.Author.Needs.{needs}
 use Rattle.protocol.specs.Rules.{effect, seeking, passing}
 use Rattle.protocol.specs.pages.Deliver.{rule}
-use Rattle.record.specs.inner.Sent.{sentBits}
-use Rattle.rules.specs.inner.Done.{changed, done}
+use Rattle.rules.specs.inner.Done.{changed, sendAll, carried}
 use Rattle.record.proofs.Links.{linkOf-some, linkOf-none}
 use Rattle.rules.proofs.Sides.{staying-in}
 use Rattle.rules.proofs.seek.Statement.{statement}
@@ -21,14 +20,17 @@ send-requires c κs = search needs
 same-length : tie.Need-same-length
 same-length c = search needs
 
+same-length-2 : tie.Need-same-length-2
+same-length-2 c = search needs
+
 returns : tie.Need-returns
-unfolding done sentBits changed rule effect seeking
+unfolding carried sendAll changed rule effect seeking
 returns c =
-    let s = c .before .before in
+    let s = c .before .before .before .before in
     rw (
       staying-in,
-      ← s .before .before .before .before .is-staying .ensures,
-      s .before .before .before .if1 .taken,
+      ← s .before .before .before .before .before .is-staying .ensures,
+      s .before .before .before .before .if1 .taken,
       ← s .before .found-place .ensures .0,
     ) (s .send .ensures)
 
@@ -44,14 +46,17 @@ seek-place-requires c κs = search needs
 send-requires-2 : tie.Need-send-requires-2
 send-requires-2 c κs = search needs
 
-same-length-2 : tie.Need-same-length-2
-same-length-2 c = search needs
+same-length-3 : tie.Need-same-length-3
+same-length-3 c = search needs
+
+same-length-4 : tie.Need-same-length-4
+same-length-4 c = search needs
 
 returns-2 : tie.Need-returns-2
-unfolding done sentBits changed rule effect seeking passing
+unfolding carried sendAll changed rule effect seeking passing
 returns-2 c =
-    let s = c .before .before in
-    let k = s .before .before .before .before in
+    let s = c .before .before .before .before in
+    let k = s .before .before .before .before .before in
     let d = k .before .before in
     rw (
       staying-in,
@@ -59,7 +64,7 @@ returns-2 c =
       d .before .before .if1 .left,
       ← d .side-of .ensures .0,
       ← k .link .ensures,
-      linkOf-some _ (s .before .before .before .if2 .taken),
+      linkOf-some _ (s .before .before .before .before .if2 .taken),
       ← s .before .seek-place .ensures .0,
     ) (s .send2 .ensures)
 
@@ -69,14 +74,17 @@ none-place-requires c κs = search needs
 send-requires-3 : tie.Need-send-requires-3
 send-requires-3 c κs = search needs
 
-same-length-3 : tie.Need-same-length-3
-same-length-3 c = search needs
+same-length-5 : tie.Need-same-length-5
+same-length-5 c = search needs
+
+same-length-6 : tie.Need-same-length-6
+same-length-6 c = search needs
 
 returns-3 : tie.Need-returns-3
-unfolding done sentBits changed rule effect seeking passing
+unfolding carried sendAll changed rule effect seeking passing
 returns-3 c =
-    let s = c .before .before in
-    let k = s .before .before .before .before in
+    let s = c .before .before .before .before in
+    let k = s .before .before .before .before .before in
     let d = k .before .before in
     rw (
       staying-in,
@@ -84,26 +92,11 @@ returns-3 c =
       d .before .before .if1 .left,
       ← d .side-of .ensures .0,
       ← k .link .ensures,
-      linkOf-none _ (s .before .before .before .if2 .left),
+      linkOf-none _ (s .before .before .before .before .if2 .left),
       ← s .before .none-place .ensures .0,
     ) (s .send3 .ensures)
 
 pub seek-spec : {M : Type 1} → statement M
 seek-spec =
     tie.close
-    (tie.spec
-    is-staying-requires
-    found-place-requires
-    send-requires
-    same-length
-    returns
-    side-of-requires
-    link-requires
-    seek-place-requires
-    send-requires-2
-    same-length-2
-    returns-2
-    none-place-requires
-    send-requires-3
-    same-length-3
-    returns-3)
+    (tie.spec is-staying-requires found-place-requires send-requires same-length same-length-2 returns side-of-requires link-requires seek-place-requires send-requires-2 same-length-3 same-length-4 returns-2 none-place-requires send-requires-3 same-length-5 same-length-6 returns-3)

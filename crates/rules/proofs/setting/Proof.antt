@@ -49,41 +49,29 @@ spread-requires c κs = search needs
 same-length : tie.Need-same-length
 same-length c = search needs
 
+same-length-2 : tie.Need-same-length-2
+same-length-2 c = search needs
+
 returns : tie.Need-returns
 returns c =
-    let m = c .before .before .before .before .before .before in
-    let s = m .before .before .before .before in
-    let e = s .before .before .before .before .before .before .before in
-    let b = e .before .before .before in
+    let r = c .before .before .before .before in
+    let m = r .before .before .before .before .before .before .before in
+    let s = m .before .before .before .before .before .before .before in
+    let e = s .before .before .before .before .before .before .before .before in
+    let b = e .before .before .before .before in
     let a = b .args in
-    setting-done (a .rec .now) (a .to) (a .about) (a .level) (a .d) _
-    (b .pre .1)
-    (b .pre .3)
-    (b .pre .0)
+    setting-done (a .rec .now) (a .index .now) (a .top) (a .to) (a .about) (a .level) (a .d) _
+    (b .pre .2)
     (b .pre .4)
+    (b .pre .0)
+    (b .pre .5)
     (e .meet-set .ensures)
     (s .before .meet-place .ensures .0)
     (s .send .ensures)
     (m .meet-about-link .ensures)
-    (c .before .before .spread .ensures)
+    (r .spread .ensures)
 
 pub setting-spec : {M : Type 1} → statement M
 setting-spec =
     tie.close
-    (tie.spec
-    mul-a
-    add-a
-    add-e
-    sub-meet-set
-    part-meet-set-start
-    part-meet-set-end
-    meet-set-requires
-    cast-old
-    cast-other
-    sub-away
-    meet-place-requires
-    send-requires
-    meet-about-link-requires
-    spread-requires
-    same-length
-    returns)
+    (tie.spec mul-a add-a add-e sub-meet-set part-meet-set-start part-meet-set-end meet-set-requires cast-old cast-other sub-away meet-place-requires send-requires meet-about-link-requires spread-requires same-length same-length-2 returns)

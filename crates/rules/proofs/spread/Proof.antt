@@ -1,7 +1,7 @@
 -- `rules::spread` meets its contract. Assumes nothing.
 use borrow.Author.Tests.{le-ltb}
 use borrow.Author.Needs.{needs}
-use Rattle.record.specs.inner.Sent.{sentBits}
+use Rattle.rules.specs.inner.Done.{sendAll}
 use Rattle.rules.proofs.Linked.{spread-sent}
 use Rattle.rules.proofs.spread.Statement.{statement}
 use Rattle.rules.proofs.spread.Tie as tie
@@ -24,32 +24,28 @@ pull-link-requires c κs = search needs
 same-length : tie.Need-same-length
 same-length c = search needs
 
+same-length-2 : tie.Need-same-length-2
+same-length-2 c = search needs
+
 returns : tie.Need-returns
 returns c =
-    let d = c .before .before .before in
-    let b = d .before .before .before .before .before in
-    let a = b .before .before .before .before .args in
-    spread-sent (a .rec .now) (a .to) (a .about) (a .vector) (a .other) (a .side)
-    (b .before .before .if1 .taken)
-    (b .probe-place .ensures .0)
-    (d .before .before .before .before .send .ensures)
-    (d .bit .ensures .0)
-    (d .bit .ensures .1)
-    (c .before .before .pull-link .ensures)
+    let p = c .before .before .before .before in
+    let s = p .before .before .before .before .before .before .before .before in
+    let t = s .before .before .before .before in
+    let a = t .before .before .before .args in
+    spread-sent (a .rec .now) (a .to) (a .about) (a .vector) (a .other) (a .side) (a .index .now) (a .top)
+    (t .if1 .taken)
+    (s .before .probe-place .ensures .0)
+    (s .send .ensures)
+    (p .before .bit .ensures .0)
+    (p .before .bit .ensures .1)
+    (p .pull-link .ensures)
 
 returns-2 : tie.Need-returns-2
-unfolding sentBits
+unfolding sendAll
 returns-2 c = rw (le-ltb _ _ (c .if1 .left))
 
 pub spread-spec : {M : Type 1} → statement M
 spread-spec =
     tie.close
-    (tie.spec
-    probe-place-requires
-    send-requires
-    bit-requires
-    sub-pull-link
-    pull-link-requires
-    same-length
-    returns
-    returns-2)
+    (tie.spec probe-place-requires send-requires bit-requires sub-pull-link pull-link-requires same-length same-length-2 returns returns-2)
