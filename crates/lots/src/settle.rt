@@ -1,23 +1,23 @@
-// Line A: deliveries of the smallest pending message, until none is pending.
+// Line A: bundles of deliveries, until none is pending.
+use bundle::Bundled;
+use bundle::bundle;
 use record::Answer;
 
-// Delivers the smallest pending message, if there is one.
-fn deliver_first(rec: &mut [u8]) -> bool {
-    if rec.len() != record::SIZE {
-        return false;
+// The largest limit of a bundle.
+const LIMIT: u16 = u16::MAX;
+
+// Delivers a bundle. Whether messages may be left: it was as large as its limit.
+fn deliver_bundle(rec: &mut [u8]) -> bool {
+    match bundle(rec, LIMIT) {
+        Bundled::Delivered(n) => n == LIMIT,
+        Bundled::Refused(_) => false,
     }
-    let m = messages::next::next_pending(rec, 0, 0, 0, 0, 0);
-    if m.kind == 0 {
-        return false;
-    }
-    delivery::deliver(rec, m.kind, m.to, m.about, m.level, m.side);
-    true
 }
 
-// Deliveries end (`every-list` of crate runs); the turns count down from a number that no run uses up.
+// Deliveries end (`demand-3` of crate runs); the turns count down from a number that no run uses up.
 pub fn settle(rec: &mut [u8]) -> Answer {
     let mut turns = u64::MAX;
-    while turns > 0 && deliver_first(rec) {
+    while turns > 0 && deliver_bundle(rec) {
         turns -= 1;
     }
     Answer::Done

@@ -6,6 +6,7 @@ ghost use Rattle.protocol.specs.Message.{name};
 ghost use Rattle.protocol.specs.Calls.{join as joining, leave as leaving, deliver as delivering, turn as turning};
 ghost use Rattle.record.specs.Reading.{recordRefusal, openRefusal, openBytes, readLot, readLink, readMessage, readCounts};
 ghost use Rattle.record.specs.Call.{called};
+ghost use Rattle.record.specs.Bundle.{bundled};
 ghost use Rattle.record.specs.Answer.{numberOf};
 ghost use Rattle.find.specs.Find.{findIn};
 ghost use Rattle.check_links.specs.Check.{checkIn};
@@ -13,6 +14,7 @@ ghost use Rattle.lots_library.specs.Numbers.{findNumbers, checkNumbers};
 
 pub mod next;
 
+use bundle::Bundled;
 use check_links::Verdict;
 use find::Found;
 use reading::CountsRead;
@@ -69,6 +71,24 @@ pub extern "C" fn lots_deliver(
     ensures { λ r. ⌜ record { refused = r; after = now (rec .exit) } ≡ called (now (rec .entry)) (delivering (name kind to about level side)) ⌝ }
 {
     number_of(delivery::deliver(rec, kind, to, about, level, side))
+}
+
+// Delivers the smallest pending message by its five numbers, again and again, until none is pending or the limit is reached, and says how many it
+// delivered. Refused: 1, 2.
+#[no_mangle]
+pub extern "C" fn lots_bundle(rec: &mut [u8], limit: u16, delivered: &mut u16) -> u8
+    ensures { λ r. ⌜ record { refused = r; delivered = now (delivered .exit); after = now (rec .exit) } ≡ bundled (now (rec .entry)) limit ⌝ }
+{
+    match bundle::bundle(rec, limit) {
+        Bundled::Delivered(n) => {
+            *delivered = n;
+            0
+        }
+        Bundled::Refused(n) => {
+            *delivered = 0;
+            n
+        }
+    }
 }
 
 // Goes on from open with leavers to clearing, and from clearing to open. Refused: 1, 2, 11.

@@ -14,8 +14,8 @@ abbrev μ-loop : tie.MeasureT-loop
 loop-holds : tie.Need-loop-holds Inv-loop μ-loop
 loop-holds c = refl
 
-deliver-first-requires : tie.Need-deliver-first-requires Inv-loop μ-loop
-deliver-first-requires c κs = tt
+deliver-bundle-requires : tie.Need-deliver-bundle-requires Inv-loop μ-loop
+deliver-bundle-requires c κs = tt
 
 sub-turns : tie.Need-sub-turns Inv-loop μ-loop
 sub-turns c = search needs
@@ -45,7 +45,7 @@ settle-spec =
     Inv-loop
     μ-loop
     loop-holds
-    deliver-first-requires
+    deliver-bundle-requires
     sub-turns
     loop-less
     loop-again
