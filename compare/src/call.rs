@@ -18,6 +18,9 @@ pub enum Call {
         seat: u8,
     },
     Deliver(Message),
+    Bundle {
+        limit: u16,
+    },
     Turn,
     Find {
         seat: u8,
@@ -56,11 +59,12 @@ pub const NO_VALUES: Values = [0; 5];
 const NO_SEAT: u8 = 255;
 
 /// The names of the calls, in the order of [`Call::index`].
-pub const NAMES: [&str; 13] = [
+pub const NAMES: [&str; 14] = [
     "open",
     "join",
     "leave",
     "deliver",
+    "bundle",
     "turn",
     "find",
     "check",
@@ -78,6 +82,7 @@ pub const REFUSALS: [&[u8]; NAMES.len()] = [
     &[1, 2, 3, 7, 4, 5, 6],
     &[1, 2, 3, 7, 8, 9],
     &[1, 2, 10],
+    &[1, 2],
     &[1, 2, 11],
     &[1, 2, 3, 8],
     &[1, 2],
@@ -96,15 +101,16 @@ impl Call {
             Call::Join { .. } => 1,
             Call::Leave { .. } => 2,
             Call::Deliver(_) => 3,
-            Call::Turn => 4,
-            Call::Find { .. } => 5,
-            Call::Check => 6,
-            Call::ReadLot { .. } => 7,
-            Call::ReadLink { .. } => 8,
-            Call::ReadMessage(_) => 9,
-            Call::ReadCounts => 10,
-            Call::Validate => 11,
-            Call::NextMessage(_) => 12,
+            Call::Bundle { .. } => 4,
+            Call::Turn => 5,
+            Call::Find { .. } => 6,
+            Call::Check => 7,
+            Call::ReadLot { .. } => 8,
+            Call::ReadLink { .. } => 9,
+            Call::ReadMessage(_) => 10,
+            Call::ReadCounts => 11,
+            Call::Validate => 12,
+            Call::NextMessage(_) => 13,
         }
     }
 
@@ -124,6 +130,7 @@ impl Call {
             } => done(lent::join(bytes, seat, number, vector, contact)),
             Call::Leave { seat } => done(lent::leave(bytes, seat)),
             Call::Deliver(message) => done(lent::deliver(bytes, message)),
+            Call::Bundle { limit } => one(lent::bundle(bytes, limit)),
             Call::Turn => done(lent::turn(bytes)),
             Call::Find { seat, number } => found(lent::find(bytes, seat, number)),
             Call::Check => one(lent::check(bytes)),
@@ -151,6 +158,7 @@ impl Call {
             } => done(model.join(seat, number, vector, contact)),
             Call::Leave { seat } => done(model.leave(seat)),
             Call::Deliver(message) => done(model.deliver(message)),
+            Call::Bundle { limit } => one(Ok(model.bundle(limit))),
             Call::Turn => done(model.turn()),
             Call::Find { seat, number } => found(model.find(seat, number)),
             Call::Check => one(Ok(model.check())),
