@@ -34,6 +34,7 @@ fn main() {
         time::pass_by_words()
     );
     print_one_remainder();
+    print_draining(&measured);
     print_aims(&measured);
     stack::print();
 }
@@ -48,6 +49,22 @@ fn print_one_remainder() {
             times.library,
             times.library / times.rust,
             times.library / times.pass,
+        );
+    }
+}
+
+/// How many times as long single deliveries take as bundles.
+fn print_draining(measured: &[(Row, Times)]) {
+    let mut rows = measured.iter().filter(|(row, _)| row.call == rows::DRAIN);
+    let Some((_, singly)) = rows.next() else {
+        return;
+    };
+    for (row, times) in rows {
+        println!(
+            "Single deliveries take {:.1} times as long as {}; in Rust {:.1} times.",
+            singly.library / times.library,
+            row.record,
+            singly.rust / times.rust,
         );
     }
 }

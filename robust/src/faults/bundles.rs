@@ -35,10 +35,8 @@ macro_rules! wrong {
             }
             let (difference, calls) = caught(make).expect("the fault is not caught");
             println!("{}: {calls} calls", stringify!($name));
-            let is_expected = matches!(
-                difference,
-                Difference::Answer { .. } | Difference::Byte { .. } | Difference::Changed { .. }
-            );
+            let is_expected =
+                matches!(difference, Difference::Answer { .. } | Difference::Byte { .. });
             assert!(is_expected, "{difference:?}");
         })*
     };
