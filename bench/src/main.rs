@@ -14,6 +14,9 @@ const AIM_OF_RUST: f64 = 1.1;
 /// These are to take at most so many passes on settled records.
 const AIM_OF_PASSES: f64 = 8.0;
 const PASS_CALLS: [&str; 2] = ["validate", "check"];
+/// Draining by single deliveries is to take so many times as long as by bundles,
+/// or longer.
+const AIM_OF_BUNDLES: f64 = 10.0;
 
 fn main() {
     let asked = std::env::args().nth(1);
@@ -34,8 +37,8 @@ fn main() {
         time::pass_by_words()
     );
     print_one_remainder();
-    print_draining(&measured);
     print_aims(&measured);
+    print_draining(&measured);
     stack::print();
 }
 
@@ -60,12 +63,21 @@ fn print_draining(measured: &[(Row, Times)]) {
         return;
     };
     for (row, times) in rows {
+        let factor = singly.library / times.library;
         println!(
-            "Single deliveries take {:.1} times as long as {}; in Rust {:.1} times.",
-            singly.library / times.library,
+            "Aim {}: single deliveries take {AIM_OF_BUNDLES} times as long as {}, {}, or longer; {factor:.1} times, in Rust {:.1}.",
+            met(factor >= AIM_OF_BUNDLES),
+            row.call,
             row.record,
             singly.rust / times.rust,
         );
+    }
+}
+
+fn met(is_met: bool) -> &'static str {
+    match is_met {
+        true => "met",
+        false => "NOT met",
     }
 }
 
@@ -108,9 +120,9 @@ fn print_aim<'a>(
     let Some((row, highest)) = highest else {
         return;
     };
-    let met = if above == 0 { "met" } else { "NOT met" };
     println!(
-        "Aim {met}: {aim}; {above} of {} rows above, highest {highest:.2} ({}, {}).",
+        "Aim {}: {aim}; {above} of {} rows above, highest {highest:.2} ({}, {}).",
+        met(above == 0),
         ratios.len(),
         row.call,
         row.record

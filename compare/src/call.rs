@@ -1,5 +1,5 @@
-//! A call of document 01 with its arguments, and its answer as plain numbers,
-//! so that whatever answers calls can be compared.
+//! A call of documents 01 and 02 with its arguments, and its answer as plain
+//! numbers, so that whatever answers calls can be compared.
 
 use crate::lent::{self, CountsRead, LotRead};
 use crate::model::{Message, Model, Refusal};
@@ -43,7 +43,8 @@ pub enum Call {
 
 /// The refusal's number, 0 if the call is accepted, and the values in the order
 /// in which document 01 names them; those of a refused call are 0. A holder and
-/// a link are a seat, or 255 for none; the next message is five numbers, or 0.
+/// a link are a seat, or 255 for none; the next message is five numbers, or 0; a
+/// bundle has its count.
 #[derive(Clone, Copy, PartialEq, Eq, Debug)]
 pub struct Answer {
     pub refusal: u8,

@@ -1,6 +1,7 @@
-//! The calls of document 01 on lent bytes, laid out as docs/RECORD.md says.
+//! The calls of documents 01 and 02 on lent bytes, laid out as docs/RECORD.md
+//! says.
 //!
-//! Written from the two documents, for speed and with every test of the table:
+//! Written from these documents, for speed and with every test of the table:
 //! a second witness of each byte, and what the library's time is measured
 //! against. Nothing is allocated.
 //!
