@@ -1,5 +1,5 @@
-/* Lots 100 and 200 open on two scales, the second through the first. Their messages are delivered, the smallest first, and listed after the first
- * of them; then 250 is scanned. */
+/* Lots 100 and 200 open on two scales, the second through the first. One of their messages is delivered by itself, the others are listed and
+ * delivered by the bundle, the smallest first; then 250 is scanned. */
 #include "lots.h"
 #include <inttypes.h>
 #include <stdio.h>
@@ -26,16 +26,27 @@ static uint8_t list(void)
     return refusals;
 }
 
-/* Delivers the smallest pending message, if there is one: whether there was. */
-static int deliver(uint8_t *refusals)
+/* Delivers the smallest pending message. */
+static uint8_t deliver(void)
 {
     message m = {0};
+    uint8_t refusals = next(m);
 
-    *refusals |= next(m);
-    if (m[0] == 0)
-        return 0;
-    *refusals |= lots_deliver(record, sizeof record, m[0], m[1], m[2], m[3], m[4]);
-    return 1;
+    return refusals | lots_deliver(record, sizeof record, m[0], m[1], m[2], m[3], m[4]);
+}
+
+/* Delivers all messages, a few each time the scale wakes: fewer than it may deliver are the last. */
+static uint8_t deliver_all(void)
+{
+    enum { FEW = 3 };
+    uint8_t refusals = 0;
+    uint16_t delivered;
+
+    do {
+        refusals |= lots_bundle(record, sizeof record, FEW, &delivered);
+        printf("delivered %d\n", delivered);
+    } while (delivered == FEW);
+    return refusals;
 }
 
 int main(void)
@@ -46,10 +57,9 @@ int main(void)
 
     refusals |= lots_join(record, sizeof record, 0, 100, 0x00, LOTS_NO_SEAT);
     refusals |= lots_join(record, sizeof record, 1, 200, 0x80, 0);
-    deliver(&refusals);
+    refusals |= deliver();
     refusals |= list();
-    while (deliver(&refusals))
-        ;
+    refusals |= deliver_all();
     refusals |= lots_check(record, sizeof record, &yes);
     refusals |= lots_find(record, sizeof record, 0, 250, &holder, &hops);
     printf("refused %d, one skip graph %d, 250 belongs to the lot on seat %d, hops %" PRIu64 "\n", refusals, yes, holder, hops);

@@ -70,6 +70,15 @@ uint8_t lots_leave(uint8_t *record, size_t length, uint8_t seat);
 uint8_t lots_deliver(uint8_t *record, size_t length, uint8_t kind, uint8_t to,
                      uint8_t about, uint8_t level, uint8_t side);
 
+/* Delivers the smallest pending message, by its five numbers in order (kind, to,
+ * about, level, side), again and again, those just sent included, until none is
+ * pending or `limit` of them are delivered. `delivered` says how many: fewer than
+ * `limit` only if none is left. A limit of 0 changes nothing, and nothing pending
+ * is no reason to refuse.
+ * Refusals: 1 wrong size, 2 unsound. */
+uint8_t lots_bundle(uint8_t *record, size_t length, uint16_t limit,
+                    uint16_t *delivered);
+
 /* Goes from open to clearing if a lot is leaving, when every leaver sends GOING
  * to each of its links; and from clearing to open, when the leavers' seats become
  * free. Open and without leavers, nothing changes.

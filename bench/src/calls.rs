@@ -23,7 +23,7 @@ pub fn pass_by_words(record: &[u8]) -> u64 {
 #[inline(never)]
 pub fn library(call: Call, record: &mut [u8]) -> (u8, u64) {
     let (start, length) = (record.as_mut_ptr(), record.len());
-    let (mut byte, mut other, mut word, mut long) = (0u8, 0u8, 0u32, 0u64);
+    let (mut byte, mut other, mut half, mut word, mut long) = (0u8, 0u8, 0u16, 0u32, 0u64);
     // SAFETY: the record is valid for its length, and so are the outputs.
     let refusal = unsafe {
         match call {
@@ -36,6 +36,7 @@ pub fn library(call: Call, record: &mut [u8]) -> (u8, u64) {
             } => lots_join(start, length, seat, number, vector, contact),
             Call::Leave { seat } => lots_leave(start, length, seat),
             Call::Deliver(m) => lots_deliver(start, length, m.kind, m.to, m.about, m.level, m.side),
+            Call::Bundle { limit } => lots_bundle(start, length, limit, &mut half),
             Call::Turn => lots_turn(start, length),
             Call::Find { seat, number } => {
                 lots_find(start, length, seat, number, &mut byte, &mut long)
@@ -65,7 +66,7 @@ pub fn library(call: Call, record: &mut [u8]) -> (u8, u64) {
             }
         }
     };
-    let sum = u64::from(byte) + u64::from(other) + u64::from(word);
+    let sum = u64::from(byte) + u64::from(other) + u64::from(half) + u64::from(word);
     (refusal, sum.wrapping_add(long))
 }
 
@@ -81,6 +82,7 @@ pub fn rust(call: Call, record: &mut [u8]) -> (u8, u64) {
         } => lent::join(record, seat, number, vector, contact).map(|()| 0),
         Call::Leave { seat } => lent::leave(record, seat).map(|()| 0),
         Call::Deliver(message) => lent::deliver(record, message).map(|()| 0),
+        Call::Bundle { limit } => lent::bundle(record, limit).map(u64::from),
         Call::Turn => lent::turn(record).map(|()| 0),
         Call::Find { seat, number } => lent::find(record, seat, number)
             .map(|found| u64::from(found.holder.unwrap_or(255)) + u64::from(found.hops)),

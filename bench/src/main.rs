@@ -14,6 +14,9 @@ const AIM_OF_RUST: f64 = 1.1;
 /// These are to take at most so many passes on settled records.
 const AIM_OF_PASSES: f64 = 8.0;
 const PASS_CALLS: [&str; 2] = ["validate", "check"];
+/// Draining by single deliveries is to take so many times as long as by bundles,
+/// or longer.
+const AIM_OF_BUNDLES: f64 = 10.0;
 
 fn main() {
     let asked = std::env::args().nth(1);
@@ -35,6 +38,7 @@ fn main() {
     );
     print_one_remainder();
     print_aims(&measured);
+    print_draining(&measured);
     stack::print();
 }
 
@@ -49,6 +53,31 @@ fn print_one_remainder() {
             times.library / times.rust,
             times.library / times.pass,
         );
+    }
+}
+
+/// How many times as long single deliveries take as bundles.
+fn print_draining(measured: &[(Row, Times)]) {
+    let mut rows = measured.iter().filter(|(row, _)| row.call == rows::DRAIN);
+    let Some((_, singly)) = rows.next() else {
+        return;
+    };
+    for (row, times) in rows {
+        let factor = singly.library / times.library;
+        println!(
+            "Aim {}: single deliveries take {AIM_OF_BUNDLES} times as long as {}, {}, or longer; {factor:.1} times, in Rust {:.1}.",
+            met(factor >= AIM_OF_BUNDLES),
+            row.call,
+            row.record,
+            singly.rust / times.rust,
+        );
+    }
+}
+
+fn met(is_met: bool) -> &'static str {
+    match is_met {
+        true => "met",
+        false => "NOT met",
     }
 }
 
@@ -91,9 +120,9 @@ fn print_aim<'a>(
     let Some((row, highest)) = highest else {
         return;
     };
-    let met = if above == 0 { "met" } else { "NOT met" };
     println!(
-        "Aim {met}: {aim}; {above} of {} rows above, highest {highest:.2} ({}, {}).",
+        "Aim {}: {aim}; {above} of {} rows above, highest {highest:.2} ({}, {}).",
+        met(above == 0),
         ratios.len(),
         row.call,
         row.record

@@ -14,6 +14,8 @@ pub struct Row {
     /// The record before, and the calls that are made on it one after another.
     pub start: Vec<u8>,
     pub calls: Vec<Call>,
+    /// How many calls of a settled record take about as long.
+    pub length: usize,
 }
 
 const HALF: usize = SEATS / 2;
@@ -25,13 +27,13 @@ pub fn all() -> Vec<Row> {
     for call in CHANGES.iter().chain(&READS) {
         call(&mut rows, [&empty, &half, &full]);
     }
-    rows.push(draining());
+    rows.extend(draining());
     rows
 }
 
 type Rows = fn(&mut Vec<Row>, [&[u8]; 3]);
 
-const CHANGES: [Rows; 5] = [open, join, leave, deliver, turn];
+const CHANGES: [Rows; 6] = [open, join, leave, deliver, bundle, turn];
 const READS: [Rows; 7] = [
     find,
     check,
@@ -54,6 +56,7 @@ fn row(what: &str, start: &[u8], call: Call) -> Row {
         record: format!("{what}{refused}"),
         start: start.to_vec(),
         calls: vec![call],
+        length: 1,
     }
 }
 
@@ -96,6 +99,23 @@ fn deliver(rows: &mut Vec<Row>, [empty, _, _]: [&[u8]; 3]) {
         let what = format!("{lots} lots, one message");
         rows.push(row(&what, &start, Call::Deliver(meet(seat))));
     }
+}
+
+/// With nothing pending, what the call costs alone; and all deliveries that 64
+/// joins lead to, without the joins.
+fn bundle(rows: &mut Vec<Row>, records: [&[u8]; 3]) {
+    let largest = Call::Bundle { limit: u16::MAX };
+    on_each(rows, records, largest);
+    let mut joined = settled(0);
+    for join in joins() {
+        join.on_bytes(&mut joined);
+    }
+    let [deliveries, ..] = largest.on_bytes(&mut joined.clone()).values;
+    let what = format!("64 lots, {deliveries} deliveries");
+    rows.push(Row {
+        length: SEATS,
+        ..row(&what, &joined, largest)
+    });
 }
 
 /// From open with a quarter of the lots leaving, and from clearing.
@@ -183,32 +203,62 @@ const FIRST: Message = Message {
     side: 0,
 };
 
-/// 64 joins by the first lot, then the smallest message until none is left.
-fn draining() -> Row {
-    let start = settled(0);
-    let mut model = Model::open();
-    let mut calls = Vec::new();
-    for (seat, lot) in (0..).zip(lots(SEATS)) {
-        let contact = if seat == 0 { NO_CONTACT } else { 0 };
-        let joined = model.join(seat, lot.number, lot.vector, contact);
-        joined.expect("the seat is free");
-        calls.push(Call::Join {
-            seat,
-            number: lot.number,
-            vector: lot.vector,
-            contact,
-        });
-    }
-    while let Some(&message) = model.pending().first() {
-        model.deliver(message).expect("the message is pending");
-        calls.push(Call::Deliver(message));
-    }
-    Row {
-        call: "drain",
-        record: format!("64 joins, {} deliveries", calls.len() - SEATS),
-        start,
+/// The call of the rows that seat 64 lots and deliver all their messages.
+pub const DRAIN: &str = "drain";
+
+/// 64 joins, then the smallest message until none is left: by single deliveries,
+/// which come first, and by bundles.
+fn draining() -> [Row; 3] {
+    let by_bundles = |limit| {
+        move |model: &mut Model| {
+            model.bundle(limit);
+            Call::Bundle { limit }
+        }
+    };
+    let singly = drain(|model| {
+        let smallest = *model.pending().first().expect("a message is pending");
+        model.deliver(smallest).expect("the message is pending");
+        Call::Deliver(smallest)
+    });
+    let deliveries = singly.len() - SEATS;
+    let row = |how, calls: Vec<Call>| Row {
+        call: DRAIN,
+        record: format!("64 joins, {how}"),
+        start: settled(0),
+        length: calls.len(),
         calls,
+    };
+    [
+        row(format!("{deliveries} deliveries"), singly),
+        row(format!("bundles of {FEW}"), drain(by_bundles(FEW))),
+        row(String::from("one bundle"), drain(by_bundles(u16::MAX))),
+    ]
+}
+
+/// What a scale may do while it is awake.
+const FEW: u16 = 64;
+
+/// The joins, and the calls that `next` makes until nothing is pending.
+fn drain(mut next: impl FnMut(&mut Model) -> Call) -> Vec<Call> {
+    let (mut model, mut calls) = (Model::open(), joins());
+    for join in &calls {
+        join.on_model(&mut model);
     }
+    while !model.pending().is_empty() {
+        calls.push(next(&mut model));
+    }
+    calls
+}
+
+/// 64 lots join by the first.
+fn joins() -> Vec<Call> {
+    let join = |lot: Member| Call::Join {
+        seat: lot.seat,
+        number: lot.number,
+        vector: lot.vector,
+        contact: if lot.seat == 0 { NO_CONTACT } else { 0 },
+    };
+    lots(SEATS).into_iter().map(join).collect()
 }
 
 /// Lots with any numbers and vectors, the same ones in every run.

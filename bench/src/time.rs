@@ -46,8 +46,8 @@ pub fn measure(rows: &[Row]) -> Vec<Times> {
 
 fn measure_row(row: &Row) -> Times {
     let undo = same_on_both(row);
-    let repeats = CALLS.div_ceil(row.calls.len());
-    let turns = (TURNS * CALLS / row.calls.len()).clamp(10, TURNS);
+    let repeats = CALLS.div_ceil(row.length);
+    let turns = (TURNS * CALLS / row.length).clamp(10, TURNS);
     let mut record = row.start.clone();
     let [mut by_library, mut by_rust, mut by_undo, mut by_pass] = [f64::MAX; 4];
     for _ in 0..turns {

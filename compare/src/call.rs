@@ -1,5 +1,5 @@
-//! A call of document 01 with its arguments, and its answer as plain numbers,
-//! so that whatever answers calls can be compared.
+//! A call of documents 01 and 02 with its arguments, and its answer as plain
+//! numbers, so that whatever answers calls can be compared.
 
 use crate::lent::{self, CountsRead, LotRead};
 use crate::model::{Message, Model, Refusal};
@@ -18,6 +18,9 @@ pub enum Call {
         seat: u8,
     },
     Deliver(Message),
+    Bundle {
+        limit: u16,
+    },
     Turn,
     Find {
         seat: u8,
@@ -40,7 +43,8 @@ pub enum Call {
 
 /// The refusal's number, 0 if the call is accepted, and the values in the order
 /// in which document 01 names them; those of a refused call are 0. A holder and
-/// a link are a seat, or 255 for none; the next message is five numbers, or 0.
+/// a link are a seat, or 255 for none; the next message is five numbers, or 0; a
+/// bundle has its count.
 #[derive(Clone, Copy, PartialEq, Eq, Debug)]
 pub struct Answer {
     pub refusal: u8,
@@ -56,11 +60,12 @@ pub const NO_VALUES: Values = [0; 5];
 const NO_SEAT: u8 = 255;
 
 /// The names of the calls, in the order of [`Call::index`].
-pub const NAMES: [&str; 13] = [
+pub const NAMES: [&str; 14] = [
     "open",
     "join",
     "leave",
     "deliver",
+    "bundle",
     "turn",
     "find",
     "check",
@@ -78,6 +83,7 @@ pub const REFUSALS: [&[u8]; NAMES.len()] = [
     &[1, 2, 3, 7, 4, 5, 6],
     &[1, 2, 3, 7, 8, 9],
     &[1, 2, 10],
+    &[1, 2],
     &[1, 2, 11],
     &[1, 2, 3, 8],
     &[1, 2],
@@ -96,15 +102,16 @@ impl Call {
             Call::Join { .. } => 1,
             Call::Leave { .. } => 2,
             Call::Deliver(_) => 3,
-            Call::Turn => 4,
-            Call::Find { .. } => 5,
-            Call::Check => 6,
-            Call::ReadLot { .. } => 7,
-            Call::ReadLink { .. } => 8,
-            Call::ReadMessage(_) => 9,
-            Call::ReadCounts => 10,
-            Call::Validate => 11,
-            Call::NextMessage(_) => 12,
+            Call::Bundle { .. } => 4,
+            Call::Turn => 5,
+            Call::Find { .. } => 6,
+            Call::Check => 7,
+            Call::ReadLot { .. } => 8,
+            Call::ReadLink { .. } => 9,
+            Call::ReadMessage(_) => 10,
+            Call::ReadCounts => 11,
+            Call::Validate => 12,
+            Call::NextMessage(_) => 13,
         }
     }
 
@@ -124,6 +131,7 @@ impl Call {
             } => done(lent::join(bytes, seat, number, vector, contact)),
             Call::Leave { seat } => done(lent::leave(bytes, seat)),
             Call::Deliver(message) => done(lent::deliver(bytes, message)),
+            Call::Bundle { limit } => one(lent::bundle(bytes, limit)),
             Call::Turn => done(lent::turn(bytes)),
             Call::Find { seat, number } => found(lent::find(bytes, seat, number)),
             Call::Check => one(lent::check(bytes)),
@@ -151,6 +159,7 @@ impl Call {
             } => done(model.join(seat, number, vector, contact)),
             Call::Leave { seat } => done(model.leave(seat)),
             Call::Deliver(message) => done(model.deliver(message)),
+            Call::Bundle { limit } => one(Ok(model.bundle(limit))),
             Call::Turn => done(model.turn()),
             Call::Find { seat, number } => found(model.find(seat, number)),
             Call::Check => one(Ok(model.check())),

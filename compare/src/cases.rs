@@ -1,7 +1,9 @@
 //! The example and the cases (a) to (l) of document 01, and a few more that its
-//! words settle.
+//! words and those of document 02 settle.
 
+use crate::call::{Answer, Call, NO_VALUES};
 use crate::graph::{first_bits, NO_LINKS, SEATS};
+use crate::lent::{self, place::PHASE_AT};
 use crate::model::{shared_bits, Found, Lot, Lots, Message, Model, Phase, Refusal, State};
 use crate::text;
 use std::collections::BTreeSet;
@@ -9,12 +11,18 @@ use std::collections::BTreeSet;
 const LEFT: u8 = 0;
 const RIGHT: u8 = 1;
 
-/// The settled record Q of the example.
-fn q() -> Model {
+/// The three lots of the example, nothing delivered.
+fn three_joined() -> Model {
     let mut model = Model::open();
     model.join(0, 100, 0, 255).unwrap();
     model.join(1, 200, 128, 0).unwrap();
     model.join(2, 300, 64, 0).unwrap();
+    model
+}
+
+/// The settled record Q of the example.
+fn q() -> Model {
+    let mut model = three_joined();
     model.settle();
     model
 }
@@ -179,6 +187,75 @@ fn the_first_row_that_applies_is_given() {
     assert_eq!(model.leave(64), Err(Refusal::NoSuchSeat));
     assert_eq!(model.find(9, 0), Err(Refusal::EmptySeat));
     assert_eq!(model.find(64, 0), Err(Refusal::NoSuchSeat));
+}
+
+/// Lot 100 links to 200 and tells it so; then it passes 300 on to 200. What was
+/// sent by the first stands behind the second, which is smaller.
+#[test]
+fn a_bundle_of_two() {
+    let mut model = three_joined();
+    assert_eq!(model.bundle(2), 2);
+    assert_eq!(model.link(0, 0, RIGHT), Ok(Some(1)));
+    let sent = [
+        Message::meet(1, 0, 0),
+        Message::meet(1, 2, 0),
+        Message::probe(1, 0, 0),
+    ];
+    assert_eq!(*model.pending(), BTreeSet::from(sent));
+}
+
+/// The third is one that the first has sent.
+#[test]
+fn a_bundle_delivers_what_it_sends() {
+    let mut model = three_joined();
+    assert_eq!(model.bundle(3), 3);
+    assert_eq!(model.link(1, 0, LEFT), Ok(Some(0)));
+    assert!(!model.is_pending(Message::meet(1, 0, 0)));
+}
+
+#[test]
+fn a_bundle_of_0_changes_nothing() {
+    let mut model = three_joined();
+    assert_eq!(model.bundle(0), 0);
+    assert_eq!(model, three_joined());
+}
+
+#[test]
+fn a_large_bundle_is_all_deliveries() {
+    let mut model = three_joined();
+    let deliveries = three_joined().settle();
+    assert_eq!(u64::from(model.bundle(u16::MAX)), deliveries);
+    assert_eq!(model, q());
+    for limit in [deliveries as u16, deliveries as u16 + 1] {
+        let mut model = three_joined();
+        assert_eq!(u64::from(model.bundle(limit)), deliveries);
+        assert_eq!(model, q());
+    }
+}
+
+/// Neither 10 nor 11: nothing pending is no fault, in both phases.
+#[test]
+fn a_bundle_of_nothing_is_accepted() {
+    let mut model = q();
+    assert_eq!(model.bundle(u16::MAX), 0);
+    assert_eq!(model, q());
+    model.leave(1).unwrap();
+    model.turn().unwrap();
+    assert!(model.bundle(u16::MAX) > 0);
+    assert_eq!(model.phase(), Phase::Clearing);
+    assert_eq!(model.bundle(1), 0);
+}
+
+#[test]
+fn a_bundle_meets_1_and_2_alone() {
+    let bundle = Call::Bundle { limit: 1 };
+    let mut bytes = lent::to_bytes(&three_joined());
+    bytes[PHASE_AT] = 2;
+    assert_eq!(bundle.on_bytes(&mut bytes), Answer::refused(2));
+    bytes.push(0);
+    assert_eq!(bundle.on_bytes(&mut bytes), Answer::refused(1));
+    let mut empty = lent::to_bytes(&Model::open());
+    assert_eq!(bundle.on_bytes(&mut empty), Answer::accepted(NO_VALUES));
 }
 
 #[test]

@@ -1,7 +1,8 @@
-//! Each fault of document 01's "Faults that pass a first trial", put into the
-//! model, is caught by a self check on some script.
+//! Each fault of document 01's "Faults that pass a first trial", and each bundle
+//! that is not #101's, put into the model, is caught by a self check on some
+//! script.
 
-use crate::model::{Fault, Model};
+use crate::model::{Fault, Model, WrongBundle};
 use crate::script;
 use crate::selfcheck::{run_on, Failure};
 
@@ -58,4 +59,48 @@ fn bits_from_the_low_end() {
 fn probe_at_level_8() {
     let what = caught_as(Fault::ProbeAtLevel8);
     assert_eq!(what, "the record is not sound");
+}
+
+#[test]
+fn a_bundle_stops_one_short() {
+    let what = caught_as(Fault::Bundle(WrongBundle::StopsOneShort));
+    assert_eq!(what, "a bundle stopped before its limit with messages left");
+}
+
+#[test]
+fn a_bundle_delivers_the_largest() {
+    let what = caught_as(Fault::Bundle(WrongBundle::DeliversTheLargest));
+    assert_eq!(what, "a bundle is not deliveries of the smallest");
+}
+
+#[test]
+fn a_bundle_delivers_the_first_sent() {
+    let what = caught_as(Fault::Bundle(WrongBundle::DeliversTheFirstSent));
+    let ways = [
+        "a bundle is not deliveries of the smallest",
+        "a bundle is not one of a part of its limit and then one of the rest",
+    ];
+    assert!(ways.contains(&what), "{what}");
+}
+
+#[test]
+fn a_bundle_counts_one_too_many() {
+    let what = caught_as(Fault::Bundle(WrongBundle::CountsOneTooMany));
+    let ways = [
+        "a bundle counts more than its limit",
+        "a bundle does not count its deliveries",
+    ];
+    assert!(ways.contains(&what), "{what}");
+}
+
+#[test]
+fn a_bundle_delivers_at_limit_0() {
+    let what = caught_as(Fault::Bundle(WrongBundle::DeliversAtLimit0));
+    assert_eq!(what, "a bundle is not deliveries of the smallest");
+}
+
+#[test]
+fn a_bundle_counts_the_limit_where_nothing_is_left() {
+    let what = caught_as(Fault::Bundle(WrongBundle::CountsTheLimit));
+    assert_eq!(what, "a bundle does not count its deliveries");
 }

@@ -1,16 +1,19 @@
-//! The calls of document 01 on lent bytes, laid out as docs/RECORD.md says.
+//! The calls of documents 01 and 02 on lent bytes, laid out as docs/RECORD.md
+//! says.
 //!
-//! Written from the two documents, for speed and with every test of the table:
+//! Written from these documents, for speed and with every test of the table:
 //! a second witness of each byte, and what the library's time is measured
 //! against. Nothing is allocated.
 //!
 //! Each call answers `Err` with the first row of the table that applies, and
 //! then changes no byte. Rows 1 and 2 come first in every call.
 
+mod bundle;
 mod bytes;
 mod check;
 mod layout;
 mod next;
+mod pending;
 mod record;
 mod sound;
 
@@ -18,8 +21,10 @@ use crate::graph::{Side, LEVELS, SEATS};
 use crate::model::{Message, Phase, Refusal, State, NO_CONTACT};
 use crate::rules::Rules;
 use crate::search::{Found, Search};
+use bundle::Bundle;
 use layout::*;
-use record::{entries_mut, entry_mut, number_of, send, take_away, Record};
+use pending::{Index, Pending};
+use record::{entries_mut, entry_mut, number_of, parts_mut, send, take_away, Record};
 use sound::{seats, Sound};
 
 pub use bytes::{from_bytes, messages, to_bytes};
@@ -131,6 +136,17 @@ pub fn deliver(bytes: &mut [u8], message: Message) -> Result<(), Refusal> {
         send(bytes, message);
     }
     Ok(())
+}
+
+/// Delivers the smallest pending message, by its five numbers in order, again
+/// and again until none is pending or the limit is reached; the count.
+/// Refusals: 1, 2.
+pub fn bundle(bytes: &mut [u8], limit: u16) -> Result<u16, Refusal> {
+    let mut index = Index::new();
+    sound::test_and_see(bytes, &mut |word| index.note(word))?;
+    let (entries, bits) = parts_mut(of_size(bytes)?);
+    let pending = Pending::new(bits, index);
+    Ok(Bundle { entries, pending }.deliver(limit))
 }
 
 /// Goes from open with leavers to clearing, and from clearing to open.

@@ -2,11 +2,12 @@
 //! byte, on the records of scripts and on records that no calls lead to.
 
 use crate::call::{Answer, Call, NAMES};
+use crate::graph::SEATS;
 use crate::inputs::{self, Style};
 use crate::lent::{self, from_bytes, to_bytes};
-use crate::model::{Model, Refusal};
+use crate::model::{Model, Refusal, NO_CONTACT};
 use crate::random::Random;
-use crate::script;
+use crate::script::{self, Numbers, Pools, Vectors};
 use crate::text::{self, Command};
 
 /// Makes a call on both and compares; the answer.
@@ -55,6 +56,14 @@ fn calls(command: Command, model: &Model) -> Vec<Call> {
     }
 }
 
+/// Bundles of limits that go up, the last two of them the largest.
+fn settle_by_bundles(mut model: Model, mut bytes: Vec<u8>) {
+    for limit in [0, 1, 2, 3, 10, 100, 1_000, u16::MAX, u16::MAX] {
+        both(Call::Bundle { limit }, &mut model, &mut bytes);
+    }
+    assert!(model.pending().is_empty());
+}
+
 #[test]
 fn on_scripts() {
     let mut random = Random::new(1);
@@ -64,6 +73,9 @@ fn on_scripts() {
         let pools = inputs::pools(&mut random);
         for line in text::lines(&script::generate(3, index, 60).concat()) {
             let command = text::parse(line);
+            if command == Some(Command::Settle) {
+                settle_by_bundles(model.clone(), bytes.clone());
+            }
             for call in command.map_or(Vec::new(), |command| calls(command, &model)) {
                 both(call, &mut model, &mut bytes);
             }
@@ -94,6 +106,51 @@ fn on_records_that_no_calls_lead_to() {
     assert!(accepted.iter().all(|&count| count > 5), "{accepted:?}");
 }
 
+/// A full record, then half of it cleared, each settled by bundles of any size.
+#[test]
+fn bundles_on_full_records() {
+    let mut random = Random::new(5);
+    for vectors in [
+        Vectors::Any,
+        Vectors::Few,
+        Vectors::Equal,
+        Vectors::LastBits,
+        Vectors::OneBit,
+    ] {
+        let pools = Pools::new(SEATS, Numbers::Spread, vectors, &mut random);
+        let mut model = Model::open();
+        let mut bytes = to_bytes(&model);
+        for (lots, &seat) in pools.seats.iter().enumerate() {
+            let contact = match lots {
+                0 => NO_CONTACT,
+                _ => random.pick(&pools.seats[..lots]),
+            };
+            let join = Call::Join {
+                seat,
+                number: pools.numbers[lots],
+                vector: random.pick(&pools.vectors),
+                contact,
+            };
+            assert_eq!(both(join, &mut model, &mut bytes).refusal, 0);
+        }
+        settle_by_any_bundles(&mut model, &mut bytes, &mut random);
+        for &seat in &pools.seats[SEATS / 2..] {
+            both(Call::Leave { seat }, &mut model, &mut bytes);
+        }
+        both(Call::Turn, &mut model, &mut bytes);
+        settle_by_any_bundles(&mut model, &mut bytes, &mut random);
+        assert!(model.check());
+    }
+}
+
+fn settle_by_any_bundles(model: &mut Model, bytes: &mut [u8], random: &mut Random) {
+    assert!(!model.pending().is_empty());
+    while !model.pending().is_empty() {
+        let limit = random.pick(&[0, 1, 2, 3, 10, 64, 500]);
+        both(Call::Bundle { limit }, model, bytes);
+    }
+}
+
 #[test]
 fn soundness_of_damaged_bytes() {
     let mut random = Random::new(3);
@@ -118,7 +175,7 @@ fn soundness_of_damaged_bytes() {
 #[test]
 fn soundness_of_each_bit() {
     let mut random = Random::new(4);
-    let pools = script::Pools::new(5, script::Numbers::Close, script::Vectors::Few, &mut random);
+    let pools = Pools::new(5, Numbers::Close, Vectors::Few, &mut random);
     for _ in 0..2 {
         let mut bytes = inputs::sound_record(&pools, &mut random);
         for place in (0..bytes.len() * 8).filter(|place| place % 37 == 0 || *place < 15_000) {

@@ -1,4 +1,5 @@
-//! A second program written from document 01 alone, to compare with `lots`.
+//! A second program written from documents 01 and 02 alone, to compare with
+//! `lots`.
 //!
 //! - [`model`] is the record: lots, links, pending messages and the calls.
 //! - [`graph`] is what the links must come to: the lists of the members, and

@@ -9,6 +9,8 @@ mod fault;
 mod message;
 mod refusal;
 mod sound;
+#[cfg(test)]
+mod wrong_bundle;
 
 use crate::graph::{Held, Links, Member, Side, LEVELS, NO_LINKS, SEATS, SIDES};
 use crate::rules::{Entries, Rules};
@@ -21,6 +23,8 @@ pub use refusal::Refusal;
 pub use crate::rules::{shared_bits, Effect};
 pub use crate::search::Found;
 pub(crate) use fault::Fault;
+#[cfg(test)]
+pub(crate) use wrong_bundle::WrongBundle;
 
 /// The contact of the first lot.
 pub const NO_CONTACT: u8 = 255;
@@ -175,6 +179,20 @@ impl Model {
         }
         self.pending.extend(effect.sends);
         Ok(())
+    }
+
+    /// Delivers the smallest pending message, then the smallest of what is
+    /// pending then, until none is or the limit is reached; the count.
+    pub fn bundle(&mut self, limit: u16) -> u16 {
+        #[cfg(test)]
+        if let Some(delivered) = self.wrong_bundle(limit) {
+            return delivered;
+        }
+        let mut delivered = 0;
+        while delivered < limit && self.deliver_smallest() {
+            delivered += 1;
+        }
+        delivered
     }
 
     /// Delivers the smallest pending message until none is left; the count.

@@ -16,8 +16,11 @@ pub const LENGTHS: [usize; 17] = [
     33, 34, 35, 62, 63, 64, 65, 66, 127, 128, 4094, 4095, 4096, 4097, 8191, 8192, 8193,
 ];
 
-/// Deliveries of one `A`: the most of each size that is looked for.
-const SETTLED: [u64; 6] = [0, 1, 100, 1_000, 10_000, 20_000];
+/// Deliveries of one `A`: the most of each size that is looked for. The last is
+/// more than one bundle can make.
+const SETTLED: [u64; 7] = [0, 1, 100, 1_000, 10_000, 20_000, 65_800];
+/// What the largest bundle makes, and one more.
+const BUNDLES: [u64; 2] = [u16::MAX as u64, u16::MAX as u64 + 1];
 const PENDING: [usize; 4] = [0, 1, 10, 100];
 const HOPS: [u32; 5] = [0, 1, 2, 10, 63];
 const CLEARINGS: [usize; 3] = [1, 2, 10];
@@ -55,6 +58,8 @@ pub enum Mark {
     Delivered(u8, u8, u8),
     /// At least that many deliveries in one `A`.
     Settled(u64),
+    /// Exactly that many.
+    SettledExactly(u64),
     AllSeated,
     /// All 64 lots leave in one clearing.
     AllLeave,
@@ -131,6 +136,7 @@ pub fn all() -> BTreeSet<Mark> {
     all.extend((0..=u8::MAX).map(Vector));
     all.extend(delivered());
     all.extend(SETTLED.map(Settled));
+    all.extend(BUNDLES.map(SettledExactly));
     all.extend(CLEARINGS.map(Clearings));
     all.extend(HOPS.map(Hops));
     all.extend(COUNTED.map(CountedLots));
@@ -291,7 +297,11 @@ impl Reach {
             }
             Command::Deliver(message) => self.delivery(message, before, after),
             Command::Turn => self.turn(before, after),
-            Command::Settle => self.note_sizes(&SETTLED, deliveries, Mark::Settled),
+            Command::Settle => {
+                self.note_sizes(&SETTLED, deliveries, Mark::Settled);
+                let exactly = Mark::SettledExactly(deliveries);
+                self.note_if(BUNDLES.contains(&deliveries), exactly);
+            }
             Command::Find { start, number } => self.search(start, number, answer, before),
             Command::Print => self.print(answer),
         }

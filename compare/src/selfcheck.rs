@@ -1,5 +1,8 @@
 //! Runs a script on the model and checks the model as it goes: against the
-//! roster and the table after every line, and against the graph of the members.
+//! roster and the table after every line, and against the graph of the members;
+//! and bundles against single deliveries.
+
+mod bundles;
 
 use crate::graph::{self, Links, Member};
 use crate::model::{Found, Message, Model, Phase};
@@ -9,7 +12,7 @@ use crate::text::{self, Answer, Command};
 use std::collections::BTreeSet;
 
 /// More deliveries than this in a row count as a run without end. The longest
-/// that a script has met is about 21,000, on a full record.
+/// that a script has met is about 66,000, on a full record.
 pub const MOST_DELIVERIES: u64 = 1_000_000;
 
 /// A check that failed.
@@ -51,6 +54,10 @@ pub(crate) fn run_on(model: Model, input: &[u8]) -> Result<Run, Failure> {
         let deliveries = checked.count_deliveries(command).map_err(failure)?;
         let before = checked.model.clone();
         let answer = checked.line(command, &before).map_err(failure)?;
+        if checked.model != before {
+            let limits = bundles::limits(run.lines);
+            bundles::check(&checked.model, limits).map_err(failure)?;
+        }
         reach.line(line, &answer, &before, &checked.model, deliveries);
         answer.print(&mut run.output);
         run.deliveries += deliveries;
@@ -75,13 +82,17 @@ fn holds(condition: bool, what: &'static str) -> Check {
 }
 
 impl Checked {
-    /// The deliveries that a line will make; fails when they do not end.
+    /// The deliveries that a line will make; fails when they do not end, or when
+    /// bundles make others.
     fn count_deliveries(&self, command: Option<Command>) -> Result<u64, &'static str> {
         match command {
             Some(Command::Deliver(message)) => Ok(self.model.is_pending(message).into()),
             Some(Command::Settle) => {
-                let settled = self.model.clone().settle_within(MOST_DELIVERIES);
-                settled.ok_or("deliveries do not end")
+                let mut settled = self.model.clone();
+                let deliveries = settled.settle_within(MOST_DELIVERIES);
+                let deliveries = deliveries.ok_or("deliveries do not end")?;
+                bundles::check_settling(&self.model, &settled, deliveries)?;
+                Ok(deliveries)
             }
             _ => Ok(0),
         }

@@ -175,6 +175,41 @@ impl<B: AsMut<[u8]>> Record<B> {
         accepted(unsafe { sys::lots_deliver(record, length, kind, to, about, level, side) })
     }
 
+    /// Delivers the smallest pending message, by its five numbers in order, again
+    /// and again, those just sent included, until none is pending or `limit` of
+    /// them are delivered; answers how many.
+    ///
+    /// They are fewer than `limit` only if none is left. A limit of 0 changes
+    /// nothing, and nothing pending is no reason to refuse.
+    ///
+    /// Refusals: 1 wrong size, 2 unsound.
+    ///
+    /// ```
+    /// use lots_record::{Record, RIGHT};
+    ///
+    /// let mut record = Record::new();
+    /// record.join(0, 100, 0, None)?;
+    /// record.join(1, 200, 128, Some(0))?;
+    /// assert_eq!(record.bundle(1)?, 1);
+    /// assert_eq!(record.link(0, 0, RIGHT)?, Some(1));
+    ///
+    /// // Lot 100 has sent lot 200 a MEET and a PROBE, and gets both from it.
+    /// assert_eq!(record.bundle(50)?, 4);
+    /// assert_eq!(record.counts()?.pending, 0);
+    /// assert!(record.check()?);
+    /// assert_eq!(record.bundle(50)?, 0);
+    /// # Ok::<(), lots_record::Refusal>(())
+    /// ```
+    #[doc(alias = "lots_bundle")]
+    pub fn bundle(&mut self, limit: u16) -> Result<u16, Refusal> {
+        let bytes = self.bytes.as_mut();
+        let (record, length) = (bytes.as_mut_ptr(), bytes.len());
+        let mut delivered = 0;
+        // SAFETY: the slice is ours to write for its length; the output is local.
+        accepted(unsafe { sys::lots_bundle(record, length, limit, &mut delivered) })?;
+        Ok(delivered)
+    }
+
     /// Goes from open to clearing if a lot is leaving, and from clearing to open,
     /// when the leavers' seats become free. Open and without leavers, nothing
     /// changes.

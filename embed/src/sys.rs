@@ -28,6 +28,8 @@ extern "C" {
         side: u8,
     ) -> u8;
 
+    pub fn lots_bundle(record: *mut u8, length: usize, limit: u16, delivered: *mut u16) -> u8;
+
     pub fn lots_turn(record: *mut u8, length: usize) -> u8;
 
     pub fn lots_find(
@@ -135,16 +137,31 @@ mod tests {
         assert_eq!((yes, pending, counts, next), (0, 0, (0, 0, 0), [0; 5]));
     }
 
+    fn output_of_a_bundle_is_0(record: &mut [u8], refusal: u8) {
+        let mut delivered = 9;
+        // SAFETY: the slice is valid for its length, and the output is local.
+        let answer = unsafe { lots_bundle(record.as_mut_ptr(), record.len(), 9, &mut delivered) };
+        assert_eq!((answer, delivered), (refusal, 0));
+    }
+
     #[test]
     fn outputs_of_a_wrong_size_are_0() {
         outputs_of_a_seat_are_0(&[0], 1);
         outputs_of_the_whole_are_0(&[0], 1);
+        output_of_a_bundle_is_0(&mut [0], 1);
     }
 
     #[test]
     fn outputs_of_an_unsound_record_are_0() {
         outputs_of_a_seat_are_0(&[0; SIZE], 2);
         outputs_of_the_whole_are_0(&[0; SIZE], 2);
+        output_of_a_bundle_is_0(&mut [0; SIZE], 2);
+    }
+
+    /// It is written where nothing is pending too.
+    #[test]
+    fn output_of_a_bundle_of_nothing_is_0() {
+        output_of_a_bundle_is_0(&mut Record::new().into_inner(), 0);
     }
 
     #[test]

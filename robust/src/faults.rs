@@ -3,6 +3,7 @@
 
 mod behaviour;
 mod blind;
+mod bundles;
 
 use crate::judge::{Difference, Judge, Memory};
 use crate::report::shrunk;

@@ -84,6 +84,10 @@ pub fn make(memory: &mut [u8], record: Range<usize>, call: Call, fill: u64) -> O
             }
             Call::Leave { seat } => (lots_leave(start, length, seat), NO_OUTPUT),
             Call::Deliver(m) => (deliver(start, length, m), NO_OUTPUT),
+            Call::Bundle { limit } => {
+                let refusal = lots_bundle(start, length, limit, out.at(0));
+                (refusal, [2, 0, 0, 0, 0])
+            }
             Call::Turn => (lots_turn(start, length), NO_OUTPUT),
             Call::Find { seat, number } => {
                 let refusal = lots_find(start, length, seat, number, out.at(0), out.at(1));

@@ -6,7 +6,7 @@ use std::fmt;
 const ANSWERS: usize = 13;
 
 /// Accepted calls told apart by more than their name.
-const CASES: [&str; 15] = [
+const CASES: [&str; 20] = [
     "MEET",
     "PROBE",
     "PULL",
@@ -22,7 +22,15 @@ const CASES: [&str; 15] = [
     "not pending",
     "next",
     "no next",
+    "limit 0",
+    "limit reached",
+    "fewer than the limit",
+    "nothing to deliver",
+    "bundle of 100",
 ];
+
+/// So many deliveries make a long bundle.
+const LONG: u64 = 100;
 
 #[derive(Clone, PartialEq, Eq, Debug, Default)]
 pub struct Tally {
@@ -45,6 +53,7 @@ impl Tally {
             Call::Check => 9 + usize::from(value == 0),
             Call::ReadMessage(_) => 11 + usize::from(value == 0),
             Call::NextMessage(_) => 13 + usize::from(value == 0),
+            Call::Bundle { limit } => 15 + bundle_case(limit, value),
             _ => return,
         };
         self.cases[case] += 1;
@@ -74,6 +83,17 @@ impl Tally {
             .filter(|(_, count)| *count == 0);
         gaps.extend(never.map(|(case, _)| format!("{case} never met")));
         gaps
+    }
+}
+
+/// Which of the cases of an accepted bundle it is.
+fn bundle_case(limit: u16, delivered: u64) -> usize {
+    match delivered {
+        0 if limit == 0 => 0,
+        0 => 3,
+        LONG.. => 4,
+        _ if delivered == u64::from(limit) => 1,
+        _ => 2,
     }
 }
 

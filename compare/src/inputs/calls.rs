@@ -28,6 +28,7 @@ enum Name {
     Join,
     Leave,
     Deliver,
+    Bundle,
     Turn,
     Find,
     Check,
@@ -37,18 +38,19 @@ enum Name {
 impl Style {
     pub const ALL: [Style; 4] = [Style::Busy, Style::Draining, Style::Turning, Style::Asking];
 
-    fn weights(self) -> [(Name, usize); 8] {
-        let [open, join, leave, deliver, turn, find, check, read] = match self {
-            Style::Busy => [1, 120, 40, 150, 10, 20, 10, 30],
-            Style::Draining => [0, 4, 2, 400, 10, 10, 10, 20],
-            Style::Turning => [1, 20, 40, 200, 90, 10, 20, 20],
-            Style::Asking => [1, 10, 5, 50, 10, 100, 80, 150],
+    fn weights(self) -> [(Name, usize); 9] {
+        let [open, join, leave, deliver, bundle, turn, find, check, read] = match self {
+            Style::Busy => [1, 120, 40, 150, 15, 10, 20, 10, 30],
+            Style::Draining => [0, 4, 2, 400, 20, 10, 10, 10, 20],
+            Style::Turning => [1, 20, 40, 200, 40, 90, 10, 20, 20],
+            Style::Asking => [1, 10, 5, 50, 5, 10, 100, 80, 150],
         };
         [
             (Name::Open, open),
             (Name::Join, join),
             (Name::Leave, leave),
             (Name::Deliver, deliver),
+            (Name::Bundle, bundle),
             (Name::Turn, turn),
             (Name::Find, find),
             (Name::Check, check),
@@ -72,6 +74,9 @@ pub fn call(bytes: &[u8], style: Style, pools: &Pools, random: &mut Random) -> C
             seat: chooser.seat(),
         },
         Name::Deliver => Call::Deliver(chooser.message()),
+        Name::Bundle => Call::Bundle {
+            limit: chooser.limit(),
+        },
         Name::Turn => Call::Turn,
         Name::Find => Call::Find {
             seat: chooser.seat(),
@@ -235,6 +240,18 @@ impl Chooser<'_> {
     fn altered(&mut self, message: Message) -> Message {
         let any = self.any_message();
         message.with_number_of(any, self.random.below(5))
+    }
+
+    /// Mostly of a bundle that leaves messages pending, sometimes of one that
+    /// leaves none.
+    fn limit(&mut self) -> u16 {
+        match self.random.below(16) {
+            few @ 0..6 => few as u16 / 2,
+            6..12 => 3 + self.random.below(18) as u16,
+            12..14 => self.random.below(500) as u16,
+            14 => self.random.next() as u16,
+            _ => u16::MAX,
+        }
     }
 
     fn level(&mut self) -> u8 {

@@ -38,6 +38,12 @@ pub const FREE: Entry = {
 /// The bytes of the pending bits.
 pub const PENDING: usize = PLACES / 8;
 
+/// The bits of a word; the pending bits are whole words.
+pub const WORD: usize = 64;
+/// The words of the pending bits.
+pub const WORDS: usize = PLACES / WORD;
+const _: () = assert!(PLACES.is_multiple_of(WORD));
+
 const SIDE_COUNT: usize = 2;
 /// The first place of each kind; a kind's places end where the next begin.
 pub const MEET: usize = 0;
@@ -62,8 +68,7 @@ pub fn place_of(m: Message) -> Option<usize> {
         Kind::Meet => Some(MEET + pair(m, LEVELS)?),
         Kind::Probe => Some(PROBE + pair(m, BITS)?),
         Kind::Pull => {
-            let to = field(m.to, SEATS)?;
-            let bit = to * 2 + field(m.about, 2)?;
+            let bit = bit_place(field(m.to, SEATS)?, field(m.about, 2)?);
             Some(PULL + level_and_side(bit, m, BITS)?)
         }
         Kind::Going => Some(GOING + sided(m)?),
@@ -81,9 +86,9 @@ fn field(value: u8, count: usize) -> Option<usize> {
 /// Of a kind with two lots, a level and side 0.
 #[inline]
 fn pair(m: Message, levels: usize) -> Option<usize> {
-    let lots = field(m.to, SEATS)? * SEATS + field(m.about, SEATS)?;
+    let (to, about) = (field(m.to, SEATS)?, field(m.about, SEATS)?);
     field(m.side, 1)?;
-    Some(lots * levels + field(m.level, levels)?)
+    Some(pair_place(to, about, field(m.level, levels)?, levels))
 }
 
 /// Of a kind with a lot, a level and a side.
@@ -95,26 +100,46 @@ fn sided(m: Message) -> Option<usize> {
 
 #[inline]
 fn level_and_side(before: usize, m: Message, levels: usize) -> Option<usize> {
-    let level = before * levels + field(m.level, levels)?;
-    Some(level * SIDE_COUNT + field(m.side, SIDE_COUNT)?)
+    let (level, side) = (field(m.level, levels)?, field(m.side, SIDE_COUNT)?);
+    Some(sided_place(before, level, side, levels))
+}
+
+/// Where a message stands among those of a kind with two lots and a level.
+#[inline]
+pub fn pair_place(to: usize, about: usize, level: usize, levels: usize) -> usize {
+    (to * SEATS + about) * levels + level
+}
+
+/// Where a message stands among those of a kind with a side; `before` is the
+/// lot, of a PULL its [`bit_place`].
+#[inline]
+pub fn sided_place(before: usize, level: usize, side: usize, levels: usize) -> usize {
+    (before * levels + level) * SIDE_COUNT + side
+}
+
+/// The lot and the wanted bit of a PULL.
+#[inline]
+pub fn bit_place(to: usize, bit: usize) -> usize {
+    to * 2 + bit
 }
 
 /// The message at a place below [`PLACES`].
 #[inline]
 pub fn message_at(place: usize) -> Message {
     match place {
-        ..PROBE => pair_at(Kind::Meet, place - MEET, LEVELS),
-        PROBE..PULL => pair_at(Kind::Probe, place - PROBE, BITS),
+        ..PROBE => pair_message(Kind::Meet, place - MEET, LEVELS),
+        PROBE..PULL => pair_message(Kind::Probe, place - PROBE, BITS),
         PULL..GOING => {
-            let (bit, level, side) = sided_at(place - PULL, BITS);
-            message(Kind::Pull, bit / 2, bit % 2, level, side)
+            let (before, level, side) = sided_at(place - PULL, BITS);
+            let (to, bit) = bit_at(before);
+            message(Kind::Pull, to, bit, level, side)
         }
         GOING..SEEK => {
             let (to, level, side) = sided_at(place - GOING, LEVELS);
             message(Kind::Going, to, 0, level, side)
         }
-        SEEK..FOUND => pair_at(Kind::Seek, place - SEEK, LEVELS),
-        FOUND..NONE => pair_at(Kind::Found, place - FOUND, LEVELS),
+        SEEK..FOUND => pair_message(Kind::Seek, place - SEEK, LEVELS),
+        FOUND..NONE => pair_message(Kind::Found, place - FOUND, LEVELS),
         NONE.. => {
             let (to, level, side) = sided_at(place - NONE, LEVELS);
             message(Kind::None, to, 0, level, side)
@@ -123,15 +148,29 @@ pub fn message_at(place: usize) -> Message {
 }
 
 #[inline]
-fn pair_at(kind: Kind, place: usize, levels: usize) -> Message {
-    let lots = place / levels;
-    message(kind, lots / SEATS, lots % SEATS, place % levels, 0)
+fn pair_message(kind: Kind, place: usize, levels: usize) -> Message {
+    let (to, about, level) = pair_at(place, levels);
+    message(kind, to, about, level, 0)
 }
 
+/// The two lots and the level of [`pair_place`].
 #[inline]
-fn sided_at(place: usize, levels: usize) -> (usize, usize, usize) {
+pub fn pair_at(place: usize, levels: usize) -> (usize, usize, usize) {
+    let lots = place / levels;
+    (lots / SEATS, lots % SEATS, place % levels)
+}
+
+/// What is before, the level and the side of [`sided_place`].
+#[inline]
+pub fn sided_at(place: usize, levels: usize) -> (usize, usize, usize) {
     let (level, side) = (place / SIDE_COUNT, place % SIDE_COUNT);
     (level / levels, level % levels, side)
+}
+
+/// The lot and the wanted bit of [`bit_place`].
+#[inline]
+pub fn bit_at(place: usize) -> (usize, usize) {
+    (place / 2, place % 2)
 }
 
 #[inline]

@@ -1,7 +1,7 @@
 //! The pending messages one after the other: the smallest by the five numbers,
 //! at or after given ones.
 
-use super::layout::{message_at, Bytes, PENDING_AT, PLACES};
+use super::layout::{message_at, Bytes, PENDING_AT, PLACES, WORD};
 use super::sound::BLOCK;
 use crate::model::Message;
 
@@ -31,10 +31,6 @@ fn first_set(words: &[[u8; 8]]) -> Option<usize> {
     let bit = u64::from_le_bytes(words[index]).trailing_zeros() as usize;
     Some(index * WORD + bit)
 }
-
-/// The bits of a word; the pending bits are whole words.
-const WORD: usize = 64;
-const _: () = assert!(PLACES.is_multiple_of(WORD));
 
 /// The first place whose message is not below `from`, found by halving.
 fn first_place(from: Message) -> usize {

@@ -1,6 +1,7 @@
 //! Fields of a record of the right size, read and written where they lie.
 
 use super::layout::*;
+use super::pending::Bits;
 use crate::graph::{Side, SEATS};
 use crate::model::{Message, State};
 use crate::rules::Entries;
@@ -70,6 +71,16 @@ impl Entries for Record<'_> {
 pub fn entries_mut(bytes: &mut Bytes) -> &mut [Entry; SEATS] {
     let (entries, _) = bytes[ENTRIES_AT..PENDING_AT].as_chunks_mut();
     entries.try_into().expect("an entry for each seat")
+}
+
+/// The entries and the pending bits.
+#[inline]
+pub fn parts_mut(bytes: &mut Bytes) -> (&mut [Entry; SEATS], &mut Bits) {
+    let (entries, bits) = bytes[ENTRIES_AT..].split_at_mut(PENDING_AT - ENTRIES_AT);
+    let (entries, _) = entries.as_chunks_mut();
+    let (bits, _) = bits.as_chunks_mut();
+    let entries = entries.try_into().expect("an entry for each seat");
+    (entries, bits.try_into().expect("whole words"))
 }
 
 #[inline]

@@ -33,11 +33,21 @@ impl Order {
 /// Refusals: 1, 2.
 #[inline]
 pub fn test(bytes: &[u8]) -> Result<Sound<'_>, Refusal> {
-    let bytes: &Bytes = bytes.try_into().map_err(|_| Refusal::WrongSize)?;
-    sound(Record(bytes)).ok_or(Refusal::Unsound)
+    test_and_see(bytes, &mut |_| ())
 }
 
-fn sound(record: Record) -> Option<Sound> {
+/// As [`test`], and gives `see` the index of each word of pending bits that is
+/// not 0. Refusals: 1, 2.
+#[inline]
+pub fn test_and_see<'a>(
+    bytes: &'a [u8],
+    see: &mut impl FnMut(usize),
+) -> Result<Sound<'a>, Refusal> {
+    let bytes: &Bytes = bytes.try_into().map_err(|_| Refusal::WrongSize)?;
+    sound(Record(bytes), see).ok_or(Refusal::Unsound)
+}
+
+fn sound<'a>(record: Record<'a>, see: &mut impl FnMut(usize)) -> Option<Sound<'a>> {
     let phase = match record.0[PHASE_AT] {
         0 => Phase::Open,
         1 => Phase::Clearing,
@@ -47,7 +57,7 @@ fn sound(record: Record) -> Option<Sound> {
     let mut order = Order::new();
     lots.sort_into(&mut order)?;
     lots.links_are_sound(record, &order).then_some(())?;
-    let pending = lots.sound_pending(record, phase)?;
+    let pending = lots.sound_pending(record, phase, see)?;
     Some(Sound {
         record,
         seated: lots.seated,
@@ -132,7 +142,12 @@ impl Lots {
     }
 
     /// The count of pending messages; none if one is not sound.
-    fn sound_pending(&self, record: Record, phase: Phase) -> Option<u32> {
+    fn sound_pending(
+        &self,
+        record: Record,
+        phase: Phase,
+        see: &mut impl FnMut(usize),
+    ) -> Option<u32> {
         let (words, _) = record.0[PENDING_AT..].as_chunks();
         let mut count = 0;
         for (index, block) in words.chunks(BLOCK).enumerate() {
@@ -141,19 +156,28 @@ impl Lots {
                 .fold(0, |all, &word| all | u64::from_le_bytes(word))
                 != 0
             {
-                count += self.sound_block(block, index * BLOCK, phase)?;
+                count += self.sound_block(block, index * BLOCK, phase, see)?;
             }
         }
         Some(count)
     }
 
-    fn sound_block(&self, block: &[[u8; 8]], first: usize, phase: Phase) -> Option<u32> {
+    fn sound_block(
+        &self,
+        block: &[[u8; 8]],
+        first: usize,
+        phase: Phase,
+        see: &mut impl FnMut(usize),
+    ) -> Option<u32> {
         let mut count = 0;
         for (index, &word) in (first..).zip(block) {
             let mut bits = u64::from_le_bytes(word);
+            if bits != 0 {
+                see(index);
+            }
             count += bits.count_ones();
             while bits != 0 {
-                let place = index * 64 + bits.trailing_zeros() as usize;
+                let place = index * WORD + bits.trailing_zeros() as usize;
                 self.fits(message_at(place), phase).then_some(())?;
                 bits &= bits - 1;
             }

@@ -1,6 +1,9 @@
-//! The faults of document 01's "Faults that pass a first trial". Only a test
-//! can switch one on, to see that the self checks catch it.
+//! The faults of document 01's "Faults that pass a first trial", and bundles
+//! that are not #101's. Only a test can switch one on, to see that the self
+//! checks catch it.
 
+#[cfg(test)]
+use super::wrong_bundle::WrongBundle;
 use super::Model;
 
 #[derive(Clone, Copy, PartialEq, Eq, Debug)]
@@ -10,6 +13,8 @@ pub(crate) enum Fault {
     LeaverAltersItsLinks,
     BitsFromTheLowEnd,
     ProbeAtLevel8,
+    #[cfg(test)]
+    Bundle(WrongBundle),
 }
 
 impl Model {

@@ -2,7 +2,7 @@
 //! generated ones reach rarely or never. Together they reach every mark.
 
 use super::Script;
-use crate::graph::SEATS;
+use crate::graph::{BITS, SEATS};
 use crate::model::{Message, Model, Phase, State, NO_CONTACT};
 use crate::reach::{LENGTHS, PIECE};
 use crate::text;
@@ -22,6 +22,9 @@ pub fn scripts() -> Vec<(String, Script)> {
         named("one equal vector, descending", one_list(&descending())),
         named("one equal vector, alternating", one_list(&alternating())),
         named("pairs with the widest numbers", pairs()),
+        named("more deliveries than a bundle", long_settling(LONGEST)),
+        named("as many deliveries as a bundle", long_settling(BUNDLE)),
+        named("one delivery more than a bundle", long_settling(BUNDLE + 1)),
         named(
             "largest first",
             drained(|model| model.pending().last().copied()),
@@ -310,6 +313,33 @@ fn one_list(numbers: &[u64]) -> Script {
     lines.script
 }
 
+/// The most deliveries that one bundle makes.
+const BUNDLE: u64 = u16::MAX as u64;
+/// The deliveries that settle the record of [`long_settling`].
+const LONGEST: u64 = 65_821;
+
+/// Seat 0 has the largest number, and the eight smallest numbers have one bit set
+/// each: many a PULL travels through all other lots. Messages are delivered one by one
+/// until `A` has so many deliveries left.
+fn long_settling(left: u64) -> Script {
+    let mut lines = Lines::new();
+    lines.join(0, SEATS as u64, 0, NO_CONTACT);
+    for seat in 1..SEATS {
+        let vector = match seat {
+            1..=BITS => 1 << (BITS - seat),
+            _ => 0,
+        };
+        lines.join(seat, seat as u64, vector, 0);
+    }
+    for _ in left..LONGEST {
+        let smallest = lines.model.pending().first().copied();
+        lines.deliver(smallest.expect("so many deliveries are left"));
+    }
+    lines.say_all(&["P", "A", "P", "A", "P"]);
+    lines.search_from_all(SEATS as u64);
+    lines.script
+}
+
 /// 32 pairs, each with bits of its own from level 5 on, and numbers of twenty
 /// digits: the longest answer.
 fn pairs() -> Script {
@@ -443,6 +473,16 @@ mod tests {
         }
         let left: Vec<_> = reach::all().difference(&marks).copied().collect();
         assert!(left.is_empty(), "not reached: {left:?}");
+    }
+
+    #[test]
+    fn so_many_deliveries_are_left() {
+        for left in [LONGEST, BUNDLE, BUNDLE + 1] {
+            let run = selfcheck::run(&long_settling(left).concat()).unwrap();
+            assert_eq!(run.deliveries, LONGEST);
+            let exactly = run.marks.contains(&reach::Mark::SettledExactly(left));
+            assert_eq!(exactly, left != LONGEST);
+        }
     }
 
     #[test]

@@ -1,5 +1,6 @@
 //! The calls of a record against document 01.
 
+mod bundle;
 mod cases;
 mod common;
 mod limits;

@@ -9,10 +9,11 @@ type Call = fn(&mut Record<&mut [u8]>) -> Result<(), Refusal>;
 
 /// Every call but open, with arguments that Q accepts, or else refuses with 8 or
 /// 10: a later row than 1 and 2.
-const CALLS: [Call; 13] = [
+const CALLS: [Call; 14] = [
     |record| record.join(3, 400, 0, Some(0)),
     |record| record.leave(9),
     |record| record.deliver(NO_MESSAGE),
+    |record| record.bundle(1).map(drop),
     |record| record.turn(),
     |record| record.find(9, 250).map(drop),
     |record| record.check().map(drop),

@@ -203,6 +203,20 @@ wrong! {
             }
             outcome
         };
+    bundle_of_nothing_refused shows Difference::Answer { .. } =>
+        |_, _, _, call, _, outcome| match call {
+            Call::Bundle { limit: 1.. } if outcome.answer == Answer::accepted(NO_VALUES) => {
+                refused(10)
+            }
+            _ => outcome,
+        };
+    bundle_count_not_written_when_refused shows Difference::Answer { .. } =>
+        |_, _, _, call, fill, mut outcome| {
+            if matches!(call, Call::Bundle { .. }) && outcome.answer.refusal == 2 {
+                outcome.answer.values[0] = fill & 0xFFFF;
+            }
+            outcome
+        };
     pending_count_too_narrow shows Difference::Answer { .. } =>
         |_, _, _, call, _, mut outcome| {
             if call == Call::ReadCounts {
