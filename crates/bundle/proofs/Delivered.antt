@@ -2,7 +2,6 @@
 -- nothing.
 use Prim.Native.Nat.{ℕ, _+_, _*_, _/_, _<_}
 use mathlib.Core.Path.{_≡_, refl, sym, ap, _∙_, subst}
-use mathlib.Core.Option.{some}
 use mathlib.Core.Bool.{Bool, true, not}
 use mathlib.Core.List.{List, List·Memᴰ}
 use native.Mathlib.Omega.{arith}
@@ -15,9 +14,9 @@ use Rattle.memory.specs.Bytes.{AreBytes}
 use Rattle.memory.specs.Bits.{bitSet, clearBit, wordSet}
 use Rattle.memory.proofs.Bitmap.{bitSet-set-other, length-putBit}
 use Rattle.graph.specs.Vector.{width}
-use Rattle.protocol.specs.Message.{Msg, nameOf, named}
+use Rattle.protocol.specs.Message.{Msg, nameOf}
 use Rattle.protocol.specs.Numbering.{exists, place, messageAt}
-use Rattle.protocol.specs.Rules.{Change, keep, set, Effect}
+use Rattle.protocol.specs.Rules.{Change, keep, set}
 use Rattle.protocol.specs.State.{isPending}
 use Rattle.protocol.specs.Sound.{Sound}
 use Rattle.protocol.specs.Calls.{Outcome, deliver}
@@ -28,17 +27,15 @@ use Rattle.record.specs.Layout.{seats, messages, pendingFrom, size}
 use Rattle.record.specs.Meaning.{meaning}
 use Rattle.record.specs.Reading.{recordRefusal}
 use Rattle.record.specs.Call.{called}
-use Rattle.record.specs.Answer.{outcome}
 use Rattle.record.proofs.Places.{exists-at, place-at}
 use Rattle.record.proofs.Form.{Form, meaning-bit}
 use Rattle.record.proofs.Sound.{sound-is}
 use Rattle.record.proofs.Refused.{Passed, record-passed}
-use Rattle.rules.specs.inner.Done.{changed, Indexed, indexed, sendAll, carried}
+use Rattle.rules.specs.inner.Done.{changed, Indexed, indexed, carried}
 use Rattle.rules.proofs.Sends.{carried-bytes}
 use Rattle.delivery.proofs.Delivered.{AtLevel, rule-level, to-seat, sent-exists, same-rule, deliver-bytes}
 use Rattle.delivery.proofs.Answers.{delivered}
-use Rattle.index.specs.Index.{words, Exact}
-use Rattle.bundle.specs.inner.Steps.{firstWord, firstNoted, Tracks, IsReady, IsStruck, IsDelivered}
+use Rattle.bundle.specs.inner.Steps.{firstNoted, Tracks, IsReady, IsStruck, IsDelivered}
 use Rattle.bundle.proofs.Tracks.{tracks-same, tracks-taken, tracks-sends}
 use Rattle.bundle.proofs.Ready.{firstPlace, bit-below, place-set, place-below, least}
 

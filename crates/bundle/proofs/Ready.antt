@@ -1,6 +1,6 @@
 -- The first word that has a pending message: by the words noted below the reach, or beyond it; and the smallest message by it. Assumes nothing.
 use Prim.Native.Nat.{ℕ, _+_, _-_, _*_, _/_, _%_, _≤_, _<_}
-use mathlib.Core.Path.{_≡_, refl, sym, ap, _∙_}
+use mathlib.Core.Path.{_≡_, sym, _∙_}
 use mathlib.Core.Logic.{⊎-elim}
 use mathlib.Core.Option.{none, some}
 use mathlib.Core.Bool.{Bool, true, false}
@@ -26,7 +26,7 @@ use Rattle.record.proofs.Form.{meaning-bit}
 use Rattle.messages.specs.inner.Numbers.{firstPending}
 use Rattle.messages.proofs.First.{first-pending-bit, first-smallest, first-none}
 use Rattle.index.specs.Index.{words, parts, isNoted, noting, isSome, Exact}
-use Rattle.index.proofs.Index.{noted-some, noted-same, noted-other, note-exact, none-noted, exact-none}
+use Rattle.index.proofs.Index.{noted-same, noted-other, note-exact, none-noted, exact-none}
 use Rattle.bundle.specs.inner.Steps.{firstWord, firstNoted, Tracks, IsReady, IsBeyond}
 
 -- a test that does not pass

@@ -1,5 +1,5 @@
 -- What the index says of the words, after a message is taken, a link is written and messages are sent. Assumes nothing.
-use Prim.Native.Nat.{ℕ, _+_, _/_, _≤_, _<_}
+use Prim.Native.Nat.{ℕ, _/_, _<_}
 use mathlib.Core.Path.{_≡_, refl, sym, _∙_}
 use mathlib.Core.Logic.{⊎-elim}
 use mathlib.Core.Bool.{Bool, true, false, not}
@@ -18,7 +18,7 @@ use Rattle.record.specs.Layout.{seats, messages, pendingFrom, size}
 use Rattle.record.proofs.Places.{place-within}
 use Rattle.index.specs.Index.{words, isNoted, noting, isSome, Exact}
 use Rattle.index.proofs.Index.{noted-same, noted-other, noting-exact, note-exact}
-use Rattle.rules.specs.inner.Done.{Indexed, indexed, sendAt, sendAll}
+use Rattle.rules.specs.inner.Done.{indexed, sendAll}
 use Rattle.bundle.specs.inner.Steps.{Tracks, IsStruck}
 
 -- word w is struck out, or it stays

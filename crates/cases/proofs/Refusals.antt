@@ -25,6 +25,7 @@ use Rattle.record.specs.Sound.{sound}
 use Rattle.record.specs.Reading.{seatRow, levelRow, openRefusal, lotRefusal, seatedRefusal, linkRefusal, recordRefusal}
 use Rattle.record.specs.Reading.{LotAnswer, LinkAnswer, MessageAnswer, CountAnswer, readLot, readLink, readMessage, readCounts}
 use Rattle.record.specs.Call.{callRefusal, called}
+use Rattle.record.specs.Bundle.{bundled}
 use Rattle.record.proofs.Places.{length-bytesOf}
 use Rattle.record.proofs.Form.{meaning-seats, meaning-pending}
 use Rattle.record.proofs.Round.{read-message}
@@ -192,7 +193,7 @@ unfolding every
 phase-2-unsound = record-examples .clauses-all (set (threeIn clearing) phaseAt 2) ∙ ap every (record-examples .phase .2)
 
 pub bytes-examples : BytesExamples
-unfolding called readLot readLink findIn readMessage readCounts checkIn heldFit first fieldIn at
+unfolding called readLot readLink findIn readMessage readCounts checkIn bundled heldFit first fieldIn at
 bytes-examples = record {
   carried = λ l. (
     λ c. refl,
@@ -202,6 +203,7 @@ bytes-examples = record {
     λ n. carry (λ (a : MessageAnswer). a .refused) _ (λ k. record { refused = k; pending = 0 }) (recordRefusal l) refl (λ k. refl),
     carry (λ (a : CountAnswer). a .refused) _ (λ k. record { refused = k; lots = 0; phase = 0; pending = 0 }) (recordRefusal l) refl (λ k. refl),
     carry (λ (a : CheckAnswer). a .refused) _ (λ k. record { refused = k; yes = false }) (recordRefusal l) refl (λ k. refl),
+    λ n. refl,
   );
   on-bytes = λ c. (
     call-refused open-phase three tt (record-examples .phase .0) c,

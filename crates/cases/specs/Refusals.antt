@@ -18,6 +18,7 @@ use Rattle.record.specs.Meaning.{meaning}
 use Rattle.record.specs.Sound.{sound}
 use Rattle.record.specs.Reading.{openRefusal, lotRefusal, seatedRefusal, linkRefusal, recordRefusal, readLot, readLink, readMessage, readCounts}
 use Rattle.record.specs.Call.{callRefusal, called}
+use Rattle.record.specs.Bundle.{bundled}
 use Rattle.find.specs.Find.{findIn}
 use Rattle.check_links.specs.Check.{checkIn}
 use Rattle.cases.specs.Small.{holds, seatsOf, smallBytes, three, last, twins}
@@ -154,6 +155,7 @@ pub record BytesExamples : Type 0 where
       × ((n : Name) → readMessage l n .refused ≡ recordRefusal l)
       × (readCounts l .refused ≡ recordRefusal l)
       × (checkIn l .refused ≡ recordRefusal l)
+      × ((limit : ℕ) → bundled l limit .refused ≡ recordRefusal l)
   -- the calls on the bytes of the small records are refused as on their seats
   pub on-bytes : (c : Call) → (callRefusal (threeIn open-phase) c ≡ refused openThree c)
       × (callRefusal (threeIn clearing) c ≡ refused clearingThree c)

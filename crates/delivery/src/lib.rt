@@ -2,22 +2,16 @@
 // specs/Call.antt.
 ghost use mathlib.Core.Path.{_≡_};
 ghost use mathlib.Core.Bool.{cond};
-ghost use Prim.Native.Nat.{_<_};
-ghost use lib.ListN.{length};
 ghost use Rattle.memory.specs.Bits.{clearBit};
-ghost use Rattle.graph.specs.Side.{sideOfNumber};
-ghost use Rattle.graph.specs.Vector.{width};
-ghost use Rattle.protocol.specs.Message.{name, named, found as foundOf, none-found};
+ghost use Rattle.protocol.specs.Message.{name, named};
 ghost use Rattle.protocol.specs.State.{isPending};
-ghost use Rattle.protocol.specs.pages.Deliver.{rule};
 ghost use Rattle.protocol.specs.Calls.{deliver as delivering};
-ghost use Rattle.record.specs.Layout.{seats, levels, pendingFrom, size};
+ghost use Rattle.record.specs.Layout.{pendingFrom};
 ghost use Rattle.record.specs.Meaning.{meaning};
 ghost use Rattle.record.specs.Reading.{recordRefusal};
 ghost use Rattle.record.specs.Call.{called};
 ghost use Rattle.record.specs.Answer.{Numbered, outcome};
 ghost use Rattle.messages.specs.inner.Places.{placeOf};
-ghost use Rattle.rules.specs.inner.Done.{done};
 use messages::place_of;
 use record::Answer;
 use record::MESSAGES;

@@ -1,12 +1,12 @@
 -- The first noted word, by the first number that is not 0 and its first set bit. Assumes nothing.
 use Prim.Native.Nat.{ℕ, _+_, _-_, _*_, _/_, _%_, _≤_, _<_}
-use mathlib.Core.Path.{_≡_, sym, ap, _∙_}
+use mathlib.Core.Path.{_≡_, sym, _∙_}
 use mathlib.Core.Logic.{⊎-elim}
 use mathlib.Core.Bool.{true, false}
 use mathlib.Core.List.{List}
 use native.Mathlib.Omega.{arith}
 use lib.ListN.{getD}
-use Rattle.base.specs.Loops.{firstFrom, any}
+use Rattle.base.specs.Loops.{firstFrom}
 use Rattle.base.proofs.Any.{any-none}
 use Rattle.base.proofs.Cases.{lt-or-ge}
 use Rattle.base.proofs.Tests.{not-T-false}

@@ -13,7 +13,7 @@ use Rattle.protocol.specs.Message.{Msg, nameOf}
 use Rattle.protocol.specs.State.{Phase, open-phase, clearing, Seats, Meaning, isClearing, seated, stays, member, members}
 use Rattle.protocol.specs.pages.Deliver.{rule}
 use Rattle.protocol.specs.Sound.{numberBits, Sound}
-use Rattle.protocol.proofs.World.{World, Quiet, Pair, pair-level}
+use Rattle.protocol.proofs.World.{World, Quiet, Pair}
 use Rattle.protocol.proofs.Delivery.{stateOf, delivered, delivers}
 use Rattle.protocol.proofs.Open as Open
 use Rattle.protocol.proofs.OpenEffect.{open-right}
@@ -21,7 +21,7 @@ use Rattle.protocol.proofs.Exact.{Exact}
 use Rattle.protocol.proofs.Invariant.{Invariant, invariant-kept, invariant-quiet}
 use Rattle.protocol.proofs.Clearing as Clearing
 use Rattle.protocol.proofs.ClearingEffect.{Sided, s-going, s-seek, s-found, s-none, clearing-right}
-use Rattle.protocol.proofs.SoundFacts.{stays-seated, pending-exists, seated-below, seated-differ}
+use Rattle.protocol.proofs.SoundFacts.{stays-seated, seated-below, seated-differ}
 
 -- the laws of seats that a world needs
 pub record Laws (r : Seats) : Type 0 where

@@ -1,29 +1,27 @@
 -- Demand 3 on the meaning: one theorem about every list of calls, refused ones included, for any seat count and width; and soundness
 -- after every list. Assumes nothing but that the arguments fit their types.
-use Prim.Native.Nat.{ℕ, zero, suc, _+_, _≤_}
+use Prim.Native.Nat.{ℕ, zero, suc, _≤_}
 use mathlib.Core.Path.{_≡_, refl, sym, _∙_, ap, ap₂, subst}
-use mathlib.Core.Option.{Option, none, some}
 use mathlib.Core.Bool.{Bool, false}
 use mathlib.Core.List.{List, [], _∷_, map}
-use native.Mathlib.Omega.{arith}
 use lib.Dec.{T}
 use lib.ListN.{length}
 use Rattle.graph.specs.Graph.{IsGraph}
 use Rattle.base.proofs.Tests.{false-T, not-T-false}
-use Rattle.protocol.specs.Message.{Msg, Name, named}
+use Rattle.protocol.specs.Message.{Msg, Name}
 use Rattle.protocol.specs.Numbering.{somePending}
-use Rattle.protocol.specs.State.{Meaning, oneComponent, nobody, opened, isPending}
-use Rattle.protocol.specs.Calls.{Call, join, leave, deliver, turn, Outcome, refusal, seatsAfter, sends, takes, accept, unlessRefused, call, InRange}
+use Rattle.protocol.specs.State.{Meaning, oneComponent, nobody, opened}
+use Rattle.protocol.specs.Calls.{Call, join, leave, deliver, turn, refusal, seatsAfter, sends, takes, accept, unlessRefused, call, InRange}
 use Rattle.protocol.specs.Page.{pendingAfter}
 use Rattle.protocol.specs.Sound.{Sound}
-use Rattle.protocol.specs.Run.{Logged, Past, Standing, logOf, step, steps, stepsFrom, accepted, AllAccepted, Roster, membersOf, meaningRun, rosterAfter}
+use Rattle.protocol.specs.Run.{Logged, Past, Standing, logOf, step, steps, stepsFrom, AllAccepted, Roster, membersOf, meaningRun, rosterAfter}
 use Rattle.protocol.specs.Run.{rosterOf, pendingOf, RefusedByTable, NothingPending, MeaningDemand3, AllInRange}
 use Rattle.protocol.proofs.Numbering.{none-pending, pending-none}
 use Rattle.protocol.proofs.Delivery.{stateOf, accept-deliver}
 use Rattle.protocol.proofs.World.{Quiet}
 use Rattle.protocol.proofs.Invariant.{invariant-first}
 use Rattle.protocol.proofs.SoundFacts.{pending-exists}
-use Rattle.protocol.proofs.Accepted.{join-rows, leave-rows, deliver-row, turn-row}
+use Rattle.protocol.proofs.Accepted.{join-rows, leave-rows, turn-row}
 use Rattle.protocol.proofs.KeepSound.{opened-sound, accept-sound}
 use Rattle.protocol.proofs.Measure.{bound}
 use Rattle.protocol.proofs.Falls.{deliver-taken, deliveries-end}

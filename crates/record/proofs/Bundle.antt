@@ -10,7 +10,7 @@ use native.Mathlib.Omega.{arith}
 use lib.ListN.{length, length-append}
 use Rattle.memory.specs.Bytes.{AreBytes}
 use Rattle.graph.specs.Vector.{width}
-use Rattle.protocol.specs.Message.{Msg, Name, nameOf, named}
+use Rattle.protocol.specs.Message.{Msg, Name, nameOf}
 use Rattle.protocol.specs.Order.{smallest}
 use Rattle.protocol.specs.State.{Meaning, isPending}
 use Rattle.protocol.specs.Refusals.{first}
@@ -20,7 +20,7 @@ use Rattle.protocol.specs.Run.{accepted, AllAccepted}
 use Rattle.protocol.specs.Bundle.{bundleOf, leftBy}
 use Rattle.protocol.proofs.Message.{named-name}
 use Rattle.protocol.proofs.Numbering.{pending-none}
-use Rattle.protocol.proofs.Smallest.{SmallestOfAll, smallest-all, none-all}
+use Rattle.protocol.proofs.Smallest.{smallest-all, none-all}
 use Rattle.protocol.proofs.KeepSound.{call-sound}
 use Rattle.protocol.proofs.Measure as measure
 use Rattle.protocol.proofs.Falls as falls
@@ -29,9 +29,9 @@ use Rattle.record.specs.Layout.{seats}
 use Rattle.record.specs.Meaning.{meaning, bytesOf}
 use Rattle.record.specs.Reading.{CountAnswer, recordRefusal, readCounts}
 use Rattle.record.specs.Call.{called}
-use Rattle.record.specs.Bundle.{BundleOutcome, bundleIn, bundled}
+use Rattle.record.specs.Bundle.{bundleIn, bundled}
 use Rattle.record.proofs.Places.{length-bytesOf}
-use Rattle.record.proofs.Round.{bytes-meaning, meaning-bytes, bytes-bytes}
+use Rattle.record.proofs.Round.{bytes-meaning, bytes-bytes}
 use Rattle.record.proofs.Sound.{sound-is, bytes-sound}
 use Rattle.record.proofs.Refused.{Passed, record-passed}
 use Rattle.record.proofs.Reading.{pendingCount-zero, record-accepted, counts-read}

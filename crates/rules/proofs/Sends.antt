@@ -1,8 +1,7 @@
 -- Messages sent one after the other: a list and another after it, one to a link by its byte, and the bytes and the index that are left. Assumes
 -- nothing.
-use Prim.Native.Nat.{ℕ, _/_, _≤_, _<_}
+use Prim.Native.Nat.{ℕ, _≤_, _<_}
 use mathlib.Core.Path.{_≡_, refl}
-use mathlib.Core.Bool.{true}
 use mathlib.Core.List.{List, [], _∷_, _++_}
 use Rattle.graph.specs.Vector.{width}
 use Rattle.protocol.specs.Message.{Msg}
@@ -12,7 +11,6 @@ use Rattle.record.specs.Layout.{seats}
 use Rattle.record.specs.Meaning.{linkOf}
 use Rattle.record.specs.inner.Sent.{sentBits}
 use Rattle.record.proofs.Links.{linkOf-some, linkOf-none}
-use Rattle.index.specs.Index.{noting}
 use Rattle.rules.specs.inner.Done.{changed, done, Indexed, indexed, sendAt, sendAll, carried}
 
 pub send-more : (m : Msg) (ms : List Msg) (b : Indexed) → sendAll (m ∷ ms) b ≡ sendAll ms (sendAt (place seats width m) b)

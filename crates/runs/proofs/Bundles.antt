@@ -2,16 +2,15 @@
 -- as its deliveries; and from demand 3 alone, of any standing, one larger than the bound leaves nothing pending. Assumes only that the bytes
 -- are bytes.
 use Prim.Native.Nat.{ℕ, _<_}
-use mathlib.Core.Path.{_≡_, refl, sym, ap, _∙_, subst}
+use mathlib.Core.Path.{_≡_, ap, _∙_}
 use mathlib.Core.List.{List, [], _∷_, _++_, map, append-nil}
 use native.Mathlib.Omega.{arith}
 use Rattle.memory.specs.Bytes.{AreBytes}
-use Rattle.protocol.specs.Message.{Name}
 use Rattle.protocol.specs.Calls.{Call, deliver}
-use Rattle.protocol.specs.Bundle.{Item, one, bundle, leftBy, spread}
+use Rattle.protocol.specs.Bundle.{Item, one, bundle, spread}
 use Rattle.protocol.specs.Run.{Standing, step, steps, stepsFrom, accepted}
 use Rattle.protocol.proofs.Bundle.{steps-left, run-append}
-use Rattle.record.specs.Reading.{recordRefusal, readCounts, openBytes}
+use Rattle.record.specs.Reading.{recordRefusal, readCounts}
 use Rattle.record.specs.Call.{called}
 use Rattle.record.specs.Bundle.{bundleIn, bundled}
 use Rattle.record.proofs.Reading.{record-accepted}

@@ -1,5 +1,4 @@
 -- `bundle::is_beyond` meets its contract. Assumes nothing.
-use native.Mathlib.Omega.{arith}
 use borrow.Author.Needs.{needs}
 use Rattle.bundle.proofs.Ready.{beyond-none, beyond-first}
 use Rattle.bundle.proofs.is_beyond.Statement.{statement}

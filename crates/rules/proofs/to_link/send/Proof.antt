@@ -1,7 +1,5 @@
 -- `rules::to_link::send` meets its contract. Assumes nothing.
-use Prim.Native.Nat.{_/_}
 use borrow.Author.Needs.{needs}
-use Rattle.rules.specs.inner.Done.{indexed}
 use Rattle.rules.proofs.to_link.send.Statement.{statement}
 use Rattle.rules.proofs.to_link.send.Tie as tie
 
