@@ -50,4 +50,13 @@ returns-2 c =
     (λ j. omega (arith, t .before .before .slice-known .given j)) _ 0 (r .going .ensures)
 
 pub deliver-going-spec : {M : Type 1} → statement M
-deliver-going-spec = tie.close (tie.spec take-named-requires same-length returns slice-aggregate-going going-requires same-length-2 returns-2)
+deliver-going-spec =
+    tie.close
+    (tie.spec
+    take-named-requires
+    same-length
+    returns
+    slice-aggregate-going
+    going-requires
+    same-length-2
+    returns-2)

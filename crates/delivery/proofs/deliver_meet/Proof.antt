@@ -50,4 +50,13 @@ returns-2 c =
     (λ j. omega (arith, t .before .before .slice-known .given j)) _ 0 (r .meet .ensures)
 
 pub deliver-meet-spec : {M : Type 1} → statement M
-deliver-meet-spec = tie.close (tie.spec take-named-requires same-length returns slice-aggregate-meet meet-requires same-length-2 returns-2)
+deliver-meet-spec =
+    tie.close
+    (tie.spec
+    take-named-requires
+    same-length
+    returns
+    slice-aggregate-meet
+    meet-requires
+    same-length-2
+    returns-2)

@@ -50,4 +50,13 @@ returns-2 c =
     (λ j. omega (arith, t .before .before .slice-known .given j)) _ 0 (r .probe .ensures)
 
 pub deliver-probe-spec : {M : Type 1} → statement M
-deliver-probe-spec = tie.close (tie.spec take-named-requires same-length returns slice-aggregate-probe probe-requires same-length-2 returns-2)
+deliver-probe-spec =
+    tie.close
+    (tie.spec
+    take-named-requires
+    same-length
+    returns
+    slice-aggregate-probe
+    probe-requires
+    same-length-2
+    returns-2)

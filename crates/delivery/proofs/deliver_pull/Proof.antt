@@ -50,4 +50,13 @@ returns-2 c =
     (λ j. omega (arith, t .before .before .slice-known .given j)) _ 0 (r .pull .ensures)
 
 pub deliver-pull-spec : {M : Type 1} → statement M
-deliver-pull-spec = tie.close (tie.spec take-named-requires same-length returns slice-aggregate-pull pull-requires same-length-2 returns-2)
+deliver-pull-spec =
+    tie.close
+    (tie.spec
+    take-named-requires
+    same-length
+    returns
+    slice-aggregate-pull
+    pull-requires
+    same-length-2
+    returns-2)

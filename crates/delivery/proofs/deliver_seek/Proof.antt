@@ -50,4 +50,13 @@ returns-2 c =
     (λ j. omega (arith, t .before .before .slice-known .given j)) _ 0 (r .seek .ensures)
 
 pub deliver-seek-spec : {M : Type 1} → statement M
-deliver-seek-spec = tie.close (tie.spec take-named-requires same-length returns slice-aggregate-seek seek-requires same-length-2 returns-2)
+deliver-seek-spec =
+    tie.close
+    (tie.spec
+    take-named-requires
+    same-length
+    returns
+    slice-aggregate-seek
+    seek-requires
+    same-length-2
+    returns-2)

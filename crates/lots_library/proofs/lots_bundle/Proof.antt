@@ -34,4 +34,11 @@ returns-2 c =
 pub lots-bundle-spec : {M : Type 1} → statement M
 lots-bundle-spec =
     tie.close
-    (tie.spec bundle-requires enum-known-n enum-known-n-2 same-length returns same-length-2 returns-2)
+    (tie.spec
+    bundle-requires
+    enum-known-n
+    enum-known-n-2
+    same-length
+    returns
+    same-length-2
+    returns-2)

@@ -43,4 +43,12 @@ returns-2 c = rw (staying-in, ← c .before .is-staying .ensures, c .if1 .left)
 pub going-spec : {M : Type 1} → statement M
 going-spec =
     tie.close
-    (tie.spec is-staying-requires link-requires seek-link-requires same-length same-length-2 returns same-length-3 returns-2)
+    (tie.spec
+    is-staying-requires
+    link-requires
+    seek-link-requires
+    same-length
+    same-length-2
+    returns
+    same-length-3
+    returns-2)

@@ -38,4 +38,14 @@ returns c =
 
 pub lend-none-spec : {M : Type 1} → statement M
 lend-none-spec =
-    tie.close (tie.spec mul-a add-a add-e sub-none part-none-start part-none-end none-requires same-length returns)
+    tie.close
+    (tie.spec
+    mul-a
+    add-a
+    add-e
+    sub-none
+    part-none-start
+    part-none-end
+    none-requires
+    same-length
+    returns)

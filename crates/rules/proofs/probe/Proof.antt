@@ -75,4 +75,18 @@ returns-2 c =
 pub probe-spec : {M : Type 1} → statement M
 probe-spec =
     tie.close
-    (tie.spec share-requires add-meet-place meet-place-requires send-requires same-length same-length-2 returns side-of-requires sub-link link-requires probe-link-requires same-length-3 same-length-4 returns-2)
+    (tie.spec
+    share-requires
+    add-meet-place
+    meet-place-requires
+    send-requires
+    same-length
+    same-length-2
+    returns
+    side-of-requires
+    sub-link
+    link-requires
+    probe-link-requires
+    same-length-3
+    same-length-4
+    returns-2)

@@ -79,4 +79,17 @@ returns-2 c =
 pub pull-spec : {M : Type 1} → statement M
 pull-spec =
     tie.close
-    (tie.spec vector-requires bit-requires sub-link link-requires probe-link-requires same-length same-length-2 returns link-requires-2 pull-link-requires same-length-3 same-length-4 returns-2)
+    (tie.spec
+    vector-requires
+    bit-requires
+    sub-link
+    link-requires
+    probe-link-requires
+    same-length
+    same-length-2
+    returns
+    link-requires-2
+    pull-link-requires
+    same-length-3
+    same-length-4
+    returns-2)

@@ -99,4 +99,22 @@ returns-3 c =
 pub seek-spec : {M : Type 1} → statement M
 seek-spec =
     tie.close
-    (tie.spec is-staying-requires found-place-requires send-requires same-length same-length-2 returns side-of-requires link-requires seek-place-requires send-requires-2 same-length-3 same-length-4 returns-2 none-place-requires send-requires-3 same-length-5 same-length-6 returns-3)
+    (tie.spec
+    is-staying-requires
+    found-place-requires
+    send-requires
+    same-length
+    same-length-2
+    returns
+    side-of-requires
+    link-requires
+    seek-place-requires
+    send-requires-2
+    same-length-3
+    same-length-4
+    returns-2
+    none-place-requires
+    send-requires-3
+    same-length-5
+    same-length-6
+    returns-3)

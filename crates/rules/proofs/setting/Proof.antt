@@ -74,4 +74,21 @@ returns c =
 pub setting-spec : {M : Type 1} → statement M
 setting-spec =
     tie.close
-    (tie.spec mul-a add-a add-e sub-meet-set part-meet-set-start part-meet-set-end meet-set-requires cast-old cast-other sub-away meet-place-requires send-requires meet-about-link-requires spread-requires same-length same-length-2 returns)
+    (tie.spec
+    mul-a
+    add-a
+    add-e
+    sub-meet-set
+    part-meet-set-start
+    part-meet-set-end
+    meet-set-requires
+    cast-old
+    cast-other
+    sub-away
+    meet-place-requires
+    send-requires
+    meet-about-link-requires
+    spread-requires
+    same-length
+    same-length-2
+    returns)

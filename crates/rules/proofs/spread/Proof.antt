@@ -48,4 +48,13 @@ returns-2 c = rw (le-ltb _ _ (c .if1 .left))
 pub spread-spec : {M : Type 1} → statement M
 spread-spec =
     tie.close
-    (tie.spec probe-place-requires send-requires bit-requires sub-pull-link pull-link-requires same-length same-length-2 returns returns-2)
+    (tie.spec
+    probe-place-requires
+    send-requires
+    bit-requires
+    sub-pull-link
+    pull-link-requires
+    same-length
+    same-length-2
+    returns
+    returns-2)

@@ -28,4 +28,11 @@ returns-2 c = rw (send-no-link _ _ _ (c .if1 .left))
 
 pub meet-about-link-spec : {M : Type 1} → statement M
 meet-about-link-spec =
-    tie.close (tie.spec meet-place-requires send-requires same-length same-length-2 returns returns-2)
+    tie.close
+    (tie.spec
+    meet-place-requires
+    send-requires
+    same-length
+    same-length-2
+    returns
+    returns-2)
