@@ -45,7 +45,8 @@ unfolding changed
 changed-length t keep l = refl
 changed-length t (set k d o) l = length-set l _ _
 
-changed-words : (t : ℕ) (c : Change) (l : List ℕ) → t < seats → AtLevel c → (w : ℕ) → wordSet (changed t c l) pendingFrom w ≡ wordSet l pendingFrom w
+changed-words : (t : ℕ) (c : Change) (l : List ℕ) → t < seats → AtLevel c
+    → (w : ℕ) → wordSet (changed t c l) pendingFrom w ≡ wordSet l pendingFrom w
 unfolding changed AtLevel
 changed-words t keep l h a w = refl
 changed-words t (set k d o) l h a w =
@@ -87,7 +88,8 @@ module _ (l x : List ℕ) (t : ℕ) (fine : recordRefusal l ≡ 0) (b : AreBytes
     place-within = rw at-place (place-below l (r .word))
 
     -- the steps: the message there is taken, which leaves y; the word is struck out if that was its last; and the rule is done
-    module _ {y z y′ z′ : List ℕ} {u u′ : ℕ} {last : Bool} (ey : y ≡ clearBit l pendingFrom (w * 64 + k)) (el : last ≡ not (wordSet y pendingFrom w))
+    module _ {y z y′ z′ : List ℕ} {u u′ : ℕ} {last : Bool}
+        (ey : y ≡ clearBit l pendingFrom (w * 64 + k)) (el : last ≡ not (wordSet y pendingFrom w))
         (s : IsStruck x w last z u)
         (out : let n = messageAt seats width (w * 64 + k) in indexed y′ z′ u′ ≡ carried (nameOf n .to) (rule width (meaning y) n) (indexed y z u)) where
       y-taken : y ≡ clearBit l pendingFrom i
@@ -124,8 +126,9 @@ module _ (l x : List ℕ) (t : ℕ) (fine : recordRefusal l ≡ 0) (b : AreBytes
           let word-of : w ≡ i / 64 = omega (arith, ew ∙ r .first, bit-below l (r .word)) in
           let struck : IsStruck x w (not (wordSet (clearBit l pendingFrom i) pendingFrom w)) z u = rw (← y-taken, ← el) s in
           let t₁ : Tracks y z u reach = rw y-taken (tracks-taken h w i word-of struck) in
-          let t₂ = tracks-same t₁ (λ v p. changed-words (nameOf m .to) (rule width (meaning y) m .change) y (to-seat m is-message) (rule-level (meaning y) m is-message) v) in
-          subst (λ (o : Indexed). Tracks (o .bytes) (o .index) (o .top) reach) (sym out-here) (tracks-sends (rule width (meaning y) m .sent) sent-here sized t₂)
+          let e = rule width (meaning y) m in
+          let t₂ = tracks-same t₁ (λ v p. changed-words (nameOf m .to) (e .change) y (to-seat m is-message) (rule-level (meaning y) m is-message) v) in
+          subst (λ (o : Indexed). Tracks (o .bytes) (o .index) (o .top) reach) (sym out-here) (tracks-sends (e .sent) sent-here sized t₂)
 
       pub is-delivered : IsDelivered l x t y′ z′ u′
       is-delivered = record { message = m; least = least l (r .word); bytes = left; goes-on = goes-on }

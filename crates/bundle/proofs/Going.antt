@@ -40,16 +40,17 @@ unfolding bundled
 refused-number l limit = refl
 
 -- no delivery yet
-pub going-first : (l : List ℕ) (limit : ℕ) {x : List ℕ} {from : ℕ} → recordRefusal l ≡ 0 → AreBytes l → ((i : ℕ) → getD x i 0 ≡ 0) → length x ≡ parts
-    → from ≤ firstWord l → Going l limit l x 0 from 0
+pub going-first : (l : List ℕ) (limit : ℕ) {x : List ℕ} {from : ℕ} → recordRefusal l ≡ 0 → AreBytes l
+    → ((i : ℕ) → getD x i 0 ≡ 0) → length x ≡ parts → from ≤ firstWord l → Going l limit l x 0 from 0
 going-first l limit {x} {from} e b z p h = record {
   fine = record { passed = e; bytes = b };
   count = omega arith;
   tracks = started l x from z p h;
   rest =
       let z : limit - 0 ≡ limit = omega arith in
-      rw (z, zero-add (bundled l limit .delivered)) (ap (λ (r : ℕ). record { refused = r; delivered = bundled l limit .delivered; after = bundled l limit .after })
-      (refused-number l limit ∙ e));
+      let o = bundled l limit in
+      rw (z, zero-add (o .delivered))
+      (ap (λ (r : ℕ). record { refused = r; delivered = o .delivered; after = o .after }) (refused-number l limit ∙ e));
 }
 
 -- the index before a delivery: a noted word is below the reach, or one beyond it is found and noted
@@ -63,11 +64,13 @@ module _ {l x : List ℕ} {t reach : ℕ} {r : Bool} (k : Tracks l x t reach) (b
 
 module _ {l₀ : List ℕ} {limit : ℕ} {l x : List ℕ} {t reach n : ℕ} (g : Going l₀ limit l x t reach n) where
   -- by what is still to be done
-  rest-is : {o : BundleOutcome} → bundled l (limit - n) ≡ o → bundled l₀ limit ≡ record { refused = 0; delivered = n + o .delivered; after = o .after }
+  rest-is : {o : BundleOutcome} → bundled l (limit - n) ≡ o
+      → bundled l₀ limit ≡ record { refused = 0; delivered = n + o .delivered; after = o .after }
   rest-is q = g .rest ∙ ap (λ (o : BundleOutcome). record { refused = 0; delivered = n + o .delivered; after = o .after }) q
 
   -- nothing is
-  ends : {r : ℕ} → bundled l (limit - n) ≡ record { refused = r; delivered = 0; after = l } → record { refused = 0; delivered = n; after = l } ≡ bundled l₀ limit
+  ends : {r : ℕ} → bundled l (limit - n) ≡ record { refused = r; delivered = 0; after = l }
+      → record { refused = 0; delivered = n; after = l } ≡ bundled l₀ limit
   ends q = sym (rest-is q ∙ rw (add-zero n))
 
   -- nothing is pending: it ends
@@ -79,8 +82,8 @@ module _ {l₀ : List ℕ} {limit : ℕ} {l x : List ℕ} {t reach n : ℕ} (g :
   going-limit h = let z : limit - n ≡ 0 = omega arith in ends (ap (bundled l) z ∙ bundle-zero l)
 
   -- the smallest message is delivered
-  pub going-on : {x₁ : List ℕ} {t₁ reach₁ : ℕ} {y z : List ℕ} {u : ℕ} → n < limit → Tracks l x₁ t₁ reach₁ → IsDelivered l x₁ t₁ y z u
-      → Going l₀ limit y z u reach₁ (n + 1)
+  pub going-on : {x₁ : List ℕ} {t₁ reach₁ : ℕ} {y z : List ℕ} {u : ℕ} → n < limit → Tracks l x₁ t₁ reach₁
+      → IsDelivered l x₁ t₁ y z u → Going l₀ limit y z u reach₁ (n + 1)
   going-on {reach₁ = reach₁} {y = y} h k d = record {
     fine = subst Fine (sym (d .bytes)) (delivery-fine l (g .fine) (nameOf (d .message)));
     count = omega arith;
@@ -95,6 +98,7 @@ module _ {l₀ : List ℕ} {limit : ℕ} {l x : List ℕ} {t reach n : ℕ} (g :
       next = let z : limit - n ≡ suc (limit - (n + 1)) = omega arith in rw z (bundle-step l (g .fine) (limit - (n + 1)) (d .message) (d .least))
 
 -- the record is refused
-pub refuse-bundle : (l : List ℕ) (limit k : ℕ) → k ≡ recordRefusal l → k ≢ 0 → (record { refused = k; delivered = 0; after = l } ≡ bundled l limit) × (0 < k)
+pub refuse-bundle : (l : List ℕ) (limit k : ℕ) → k ≡ recordRefusal l → k ≢ 0
+    → (record { refused = k; delivered = 0; after = l } ≡ bundled l limit) × (0 < k)
 refuse-bundle l limit zero e h = absurd (h refl)
 refuse-bundle l limit (suc k) e h = (sym (bundle-same l limit k (refused-number l limit ∙ sym e)), omega arith)

@@ -98,7 +98,9 @@ module _ {l x : List ℕ} {t reach i : ℕ} (k : Tracks l x t reach) (none-below
     extended = record {
       exact = note-exact (i / 64) (omega arith) (k .exact);
       within = omega arith;
-      has = λ w p n. ⊎-elim (λ q. has-own w q) (λ ne. k .has w p (sym (noted-other x (i / 64) true (k .exact .long) (omega arith) w ne) ∙ n)) (eq-or-ne w (i / 64));
+      has = λ w p n.
+          ⊎-elim (λ q. has-own w q) (λ ne. k .has w p (sym (noted-other x (i / 64) true (k .exact .long) (omega arith) w ne) ∙ n))
+          (eq-or-ne w (i / 64));
       all = λ w p s. ⊎-elim (λ q. rw q own) (λ ne. true-false s (before w (omega (arith, ne)))) (eq-or-ne w (i / 64));
     }
       where
@@ -194,7 +196,8 @@ module _ (l : List ℕ) (h : firstWord l < words) where
       rw (← e) (first-smallest l 0 (λ j p. absurd (omega arith)) (omega arith) (rw e place-below))
 
 -- the word that an index which is ready gives
-pub ready-word : {l x : List ℕ} {t w : ℕ} → IsReady l x t → w ≡ firstNoted x → (w < words) × (wordSet l pendingFrom w ≡ true) × (isNoted x w ≡ true)
+pub ready-word : {l x : List ℕ} {t w : ℕ} → IsReady l x t → w ≡ firstNoted x
+    → (w < words) × (wordSet l pendingFrom w ≡ true) × (isNoted x w ≡ true)
 ready-word {l} {x} {w = w} r e =
     let q = e ∙ r .first in
     (rw q (r .word), rw q (word-some l (r .word)), rw e (first (parts * 64) 0 (isNoted x) .found (omega (arith, r .first, r .word))))

@@ -23,7 +23,8 @@ use Rattle.bundle.specs.inner.Steps.{Tracks, IsStruck}
 
 -- word w is struck out, or it stays
 module _ {x : List ℕ} {t w : ℕ} {last : Bool} (e : Exact x t) (h : w < words) where
-  pub struck-out : {y : List ℕ} {u : ℕ} → last ≡ true → (y ≡ noting x w false) × (u ≡ withBit t (w / 64) (isSome y (w / 64))) → IsStruck x w last y u
+  pub struck-out : {y : List ℕ} {u : ℕ} → last ≡ true
+      → (y ≡ noting x w false) × (u ≡ withBit t (w / 64) (isSome y (w / 64))) → IsStruck x w last y u
   struck-out q (ey, eu) = record {
     exact = rw (eu, ey) (noting-exact x w false (e .long) h e);
     own = rw (ey, q) (noted-same x w false (e .long) h);
@@ -45,7 +46,8 @@ module _ {l x : List ℕ} {t reach : ℕ} (k : Tracks l x t reach) where
 
   -- word w has another test than before, and is noted as it says; the others are as before
   own-word : {y z : List ℕ} {u : ℕ} (w : ℕ) → Exact z u → isNoted z w ≡ wordSet y pendingFrom w
-      → ((v : ℕ) → (v ≡ w → ⊥) → isNoted z v ≡ isNoted x v) → ((v : ℕ) → (v ≡ w → ⊥) → wordSet y pendingFrom v ≡ wordSet l pendingFrom v)
+      → ((v : ℕ) → (v ≡ w → ⊥) → isNoted z v ≡ isNoted x v)
+      → ((v : ℕ) → (v ≡ w → ⊥) → wordSet y pendingFrom v ≡ wordSet l pendingFrom v)
       → Tracks y z u reach
   own-word {y} {z} w e o notes sets = record {
     exact = e;
@@ -78,7 +80,8 @@ module _ {l x : List ℕ} {t reach : ℕ} (k : Tracks l x t reach) where
       (λ v ne. word-other l pendingFrom i true v ne)
 
 -- messages that exist are sent
-pub tracks-sends : (ms : List Msg) → ((m : Msg) → List·Memᴰ m ms → T (exists seats width m)) → {l x : List ℕ} {t reach : ℕ} → length l ≡ size → Tracks l x t reach
+pub tracks-sends : (ms : List Msg) → ((m : Msg) → List·Memᴰ m ms → T (exists seats width m))
+    → {l x : List ℕ} {t reach : ℕ} → length l ≡ size → Tracks l x t reach
     → let b = sendAll ms (indexed l x t) in Tracks (b .bytes) (b .index) (b .top) reach
 unfolding sendAll
 tracks-sends [] h z k = k

@@ -70,8 +70,8 @@ module _ (l : List ℕ) (fine : recordRefusal l ≡ 0) {n : Name} {m : Msg} (k :
       delivered l n fine (sym (t .0) ∙ q) (ey ∙ deliver-bytes (s .0) (s .1) n m (h .1) (h .2) taken)
 
   -- with an index beside the record
-  pub carried-noted : AreBytes l → (i : List ℕ) (t : ℕ) {y j : List ℕ} {u : ℕ} → indexed y j u ≡ carried (nameOf m .to) (rule width (meaning x) m) (indexed x i t)
-      → Told l n Done y
+  pub carried-noted : AreBytes l → (i : List ℕ) (t : ℕ) {y j : List ℕ} {u : ℕ}
+      → indexed y j u ≡ carried (nameOf m .to) (rule width (meaning x) m) (indexed x i t) → Told l n Done y
   carried-noted bs i t e =
       carried-out bs (ap (λ (b : Indexed). b .bytes) e ∙ carried-bytes (nameOf m .to) (rule width (meaning x) m) (indexed x i t))
 

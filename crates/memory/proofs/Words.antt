@@ -101,7 +101,8 @@ putBit-word l base i v =
     rw (d, m)
 
 -- the word x with one bit set or cleared by a mask, and written back as y
-module _ (l : List ℕ) (base i : ℕ) (b : AreBytes l) (f : base + i / 64 * 8 + 8 ≤ length l) {x : ℕ} (e : x ≡ packed 64 (bitSet l (base + i / 64 * 8))) where
+module _ (l : List ℕ) (base i : ℕ) (b : AreBytes l) (f : base + i / 64 * 8 + 8 ≤ length l)
+    {x : ℕ} (e : x ≡ packed 64 (bitSet l (base + i / 64 * 8))) where
   pub put-bit : (v : Bool) {n : ℕ} {y : List ℕ} → n ≡ withBit x (i % 64) v → y ≡ putLow l (base + i / 64 * 8) 8 n → y ≡ putBit l base i v
   put-bit v en ey =
       ey

@@ -61,7 +61,8 @@ module _ {A : Type 0} (make : A → Call → Outcome A) where
 
     -- what holds of every bundle: limit 0, nothing pending, or the smallest and then the bundle of one less
     module _ (P : ℕ → A → List Name → Type 0) (stop : (a : A) → P 0 a []) (empty : (n : ℕ) (a : A) → first a ≡ none → P n a [])
-        (more : (n : ℕ) (a : A) (m : Msg) → first a ≡ some m → P n (past a m) (bundled n (past a m)) → P (suc n) a (nameOf m ∷ bundled n (past a m))) where
+        (more : (n : ℕ) (a : A) (m : Msg) → first a ≡ some m → P n (past a m) (bundled n (past a m))
+        → P (suc n) a (nameOf m ∷ bundled n (past a m))) where
       pub bundle-by : (n : ℕ) (a : A) → P n a (bundled n a)
       unfolding bundleOf
       bundle-by zero a = stop a

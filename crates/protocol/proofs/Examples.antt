@@ -110,24 +110,24 @@ settled-Q = drained 24 joined-Q
 
 -- a bundle of 5 delivers the smallest first, then what that sends; one of 24 delivers all 23 and stops
 five-Q : bundled 5 joined-Q ≡ name 1 0 1 0 0 ∷ name 1 0 2 0 0 ∷ name 1 1 0 0 0 ∷ name 1 0 1 0 0 ∷ name 1 1 2 0 0 ∷ []
-unfolding joined-Q drained bundled bundleOf leftBy onward smallestFrom smallestOf smaller before orNext meaningRun stepsFrom step steps opened nobody call unlessRefused accept refusal rows first any isPending seatsAfter at
-    sends takes isTaken pendingAfter deliverySends linksAfter deliveryLinks applied rule effect setting meeting probing pulling parting
-    passing seeking toLink onSide sideOf bit equalBits shared named ifZero ifBit sameMsg among somePending messageAt split pairAt
-    pullAt sideAt
+unfolding joined-Q drained bundled bundleOf leftBy onward smallestFrom smallestOf smaller before orNext meaningRun stepsFrom step steps
+    opened nobody call unlessRefused accept refusal rows first any isPending seatsAfter at sends takes isTaken pendingAfter
+    deliverySends linksAfter deliveryLinks applied rule effect setting meeting probing pulling parting passing seeking toLink onSide
+    sideOf bit equalBits shared named ifZero ifBit sameMsg among somePending messageAt split pairAt pullAt sideAt
 five-Q = refl
 
 none-Q : bundled 0 joined-Q ≡ []
-unfolding joined-Q drained bundled bundleOf leftBy onward smallestFrom smallestOf smaller before orNext meaningRun stepsFrom step steps opened nobody call unlessRefused accept refusal rows first any isPending seatsAfter at
-    sends takes isTaken pendingAfter deliverySends linksAfter deliveryLinks applied rule effect setting meeting probing pulling parting
-    passing seeking toLink onSide sideOf bit equalBits shared named ifZero ifBit sameMsg among somePending messageAt split pairAt
-    pullAt sideAt
+unfolding joined-Q drained bundled bundleOf leftBy onward smallestFrom smallestOf smaller before orNext meaningRun stepsFrom step steps
+    opened nobody call unlessRefused accept refusal rows first any isPending seatsAfter at sends takes isTaken pendingAfter
+    deliverySends linksAfter deliveryLinks applied rule effect setting meeting probing pulling parting passing seeking toLink onSide
+    sideOf bit equalBits shared named ifZero ifBit sameMsg among somePending messageAt split pairAt pullAt sideAt
 none-Q = refl
 
 all-Q : length (bundled 24 joined-Q) ≡ 23
-unfolding joined-Q drained bundled bundleOf leftBy onward smallestFrom smallestOf smaller before orNext meaningRun stepsFrom step steps opened nobody call unlessRefused accept refusal rows first any isPending seatsAfter at
-    sends takes isTaken pendingAfter deliverySends linksAfter deliveryLinks applied rule effect setting meeting probing pulling parting
-    passing seeking toLink onSide sideOf bit equalBits shared named ifZero ifBit sameMsg among somePending messageAt split pairAt
-    pullAt sideAt
+unfolding joined-Q drained bundled bundleOf leftBy onward smallestFrom smallestOf smaller before orNext meaningRun stepsFrom step steps
+    opened nobody call unlessRefused accept refusal rows first any isPending seatsAfter at sends takes isTaken pendingAfter
+    deliverySends linksAfter deliveryLinks applied rule effect setting meeting probing pulling parting passing seeking toLink onSide
+    sideOf bit equalBits shared named ifZero ifBit sameMsg among somePending messageAt split pairAt pullAt sideAt
 all-Q = refl
 
 links : Meaning → List (Option ℕ)
@@ -136,17 +136,17 @@ links M =
     ∷ M .link 0 1 right ∷ M .link 2 1 left ∷ M .link 1 1 left ∷ M .link 1 1 right ∷ M .link 0 2 right ∷ []
 
 Q-settled : somePending 3 2 (settled-Q .pending) ≡ false
-unfolding settled-Q joined-Q drained bundled bundleOf leftBy onward smallestFrom smallestOf smaller before orNext meaningRun stepsFrom step steps opened nobody call unlessRefused accept refusal rows first any isPending seatsAfter at
-    sends takes isTaken pendingAfter deliverySends linksAfter deliveryLinks applied rule effect setting meeting probing pulling parting
-    passing seeking toLink onSide sideOf bit equalBits shared named ifZero ifBit sameMsg among somePending messageAt split pairAt
-    pullAt sideAt
+unfolding settled-Q joined-Q drained bundled bundleOf leftBy onward smallestFrom smallestOf smaller before orNext meaningRun stepsFrom
+    step steps opened nobody call unlessRefused accept refusal rows first any isPending seatsAfter at sends takes isTaken pendingAfter
+    deliverySends linksAfter deliveryLinks applied rule effect setting meeting probing pulling parting passing seeking toLink onSide
+    sideOf bit equalBits shared named ifZero ifBit sameMsg among somePending messageAt split pairAt pullAt sideAt
 Q-settled = refl
 
 Q-links : links settled-Q ≡ some 1 ∷ some 0 ∷ some 2 ∷ some 1 ∷ some 2 ∷ some 0 ∷ none ∷ none ∷ none ∷ []
-unfolding links settled-Q joined-Q drained bundled bundleOf leftBy onward smallestFrom smallestOf smaller before orNext meaningRun stepsFrom step steps opened nobody call unlessRefused accept refusal rows first any isPending seatsAfter
-    at sends takes isTaken pendingAfter deliverySends linksAfter deliveryLinks applied rule effect setting meeting probing pulling parting
-    passing seeking toLink onSide sideOf bit equalBits shared named ifZero ifBit sameMsg among somePending messageAt split pairAt
-    pullAt sideAt
+unfolding links settled-Q joined-Q drained bundled bundleOf leftBy onward smallestFrom smallestOf smaller before orNext meaningRun
+    stepsFrom step steps opened nobody call unlessRefused accept refusal rows first any isPending seatsAfter at sends takes isTaken
+    pendingAfter deliverySends linksAfter deliveryLinks applied rule effect setting meeting probing pulling parting passing seeking
+    toLink onSide sideOf bit equalBits shared named ifZero ifBit sameMsg among somePending messageAt split pairAt pullAt sideAt
 Q-links = refl
 
 -- (k) leave 1, turn, deliver all, turn: 100 and 300 are linked at levels 0 and 1, and seat 1 is as opened
@@ -157,8 +157,9 @@ left-Q : Meaning
 left-Q = after (drained 9 (after (after settled-Q (leave 1)) turn)) turn
 
 case-k : links left-Q ≡ some 2 ∷ none ∷ none ∷ some 0 ∷ some 2 ∷ some 0 ∷ none ∷ none ∷ none ∷ []
-unfolding links left-Q after settled-Q joined-Q drained bundled bundleOf leftBy onward smallestFrom smallestOf smaller before orNext afterTurn each farewell farewells turnSends unlinked turnLinks meaningRun stepsFrom step steps
-    opened nobody call unlessRefused accept refusal rows first any isPending seatsAfter at sends takes isTaken pendingAfter deliverySends
-    linksAfter deliveryLinks applied rule effect setting meeting probing pulling parting passing seeking toLink onSide sideOf bit equalBits
-    shared named ifZero ifBit sameMsg among somePending messageAt split pairAt pullAt sideAt
+unfolding links left-Q after settled-Q joined-Q drained bundled bundleOf leftBy onward smallestFrom smallestOf smaller before orNext
+    afterTurn each farewell farewells turnSends unlinked turnLinks meaningRun stepsFrom step steps opened nobody call unlessRefused
+    accept refusal rows first any isPending seatsAfter at sends takes isTaken pendingAfter deliverySends linksAfter deliveryLinks
+    applied rule effect setting meeting probing pulling parting passing seeking toLink onSide sideOf bit equalBits shared named ifZero
+    ifBit sameMsg among somePending messageAt split pairAt pullAt sideAt
 case-k = refl

@@ -56,12 +56,14 @@ module _ (l : List ℕ) (f : Fine l) where
   same = sym (bytes-meaning (sound-is l (is-passed .sized) (f .bytes) .0 (is-passed .fine) .0))
 
   -- a call on it is the protocol's on its meaning
-  call-here : (c : Call) → called l c ≡ record { refused = call seats width (meaning l) c .refused; after = bytesOf (call seats width (meaning l) c .after) }
+  call-here : (c : Call)
+      → called l c ≡ record { refused = call seats width (meaning l) c .refused; after = bytesOf (call seats width (meaning l) c .after) }
   call-here c = ap (λ (k : List ℕ). called k c) same ∙ call-bytes (meaning l) is-sound c
 
   pub delivery-fine : (n : Name) → Fine (called l (deliver n) .after)
   delivery-fine n =
-      subst Fine (sym (ap (λ (o : Outcome (List ℕ)). o .after) (call-here (deliver n)))) (fine-bytes (call-sound seats width (meaning l) is-sound (deliver n) tt))
+      subst Fine (sym (ap (λ (o : Outcome (List ℕ)). o .after) (call-here (deliver n))))
+      (fine-bytes (call-sound seats width (meaning l) is-sound (deliver n) tt))
 
   -- the delivery of the smallest message is accepted
   pub smallest-accepted : (m : Msg) → smallest seats width (meaning l .pending) ≡ some m → called l (deliver (nameOf m)) .refused ≡ 0
@@ -120,7 +122,8 @@ unfolding bundled leftBy
 bundle-done l n e q = rw (bundle-fine l n e, theory.bundle-none called seats width pendingIn n l q, e)
 
 pub bundle-step : (l : List ℕ) → Fine l → (n : ℕ) (m : Msg) → smallest seats width (meaning l .pending) ≡ some m
-    → let y = bundled (called l (deliver (nameOf m)) .after) n in bundled l (suc n) ≡ record { refused = 0; delivered = suc (y .delivered); after = y .after }
+    → let y = bundled (called l (deliver (nameOf m)) .after) n in
+    bundled l (suc n) ≡ record { refused = 0; delivered = suc (y .delivered); after = y .after }
 unfolding bundled leftBy
 bundle-step l f n m q =
     rw (

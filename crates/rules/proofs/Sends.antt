@@ -42,6 +42,7 @@ unfolding carried done
 carried-bytes t e b = send-bytes (e .sent) (indexed (changed t (e .change) (b .bytes)) (b .index) (b .top))
 
 -- a rule that sends nothing leaves the index
-pub carried-silent : (t : ℕ) (e : Effect) (l x : List ℕ) (u : ℕ) {y : List ℕ} → e .sent ≡ [] → y ≡ done t e l → indexed y x u ≡ carried t e (indexed l x u)
+pub carried-silent : (t : ℕ) (e : Effect) (l x : List ℕ) (u : ℕ) {y : List ℕ} → e .sent ≡ [] → y ≡ done t e l
+    → indexed y x u ≡ carried t e (indexed l x u)
 unfolding carried done sendAll sentBits
 carried-silent t e l x u s d = rw (d, s)

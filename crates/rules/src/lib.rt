@@ -205,7 +205,8 @@ pub fn pull(
     side: usize,
 ) -> u64
     requires { ⌜ (length (now rec) ≡ size) × (length (now index) ≡ parts) × (to < seats) × (want < 2) × (level < width) × (side < 2) ⌝ }
-    ensures { λ r. ⌜ indexed (now (rec .exit)) (now (index .exit)) r ≡ carried to (rule width (meaning (now (rec .entry))) (pullOf to (eqb want 1) level (sideOfNumber side)))
+    ensures { λ r. ⌜ indexed (now (rec .exit)) (now (index .exit)) r ≡ carried to
+        (rule width (meaning (now (rec .entry))) (pullOf to (eqb want 1) level (sideOfNumber side)))
         (indexed (now (rec .entry)) (now (index .entry)) top) ⌝ }
 {
     let own = bit(record::vector(rec, to), level);
@@ -227,7 +228,8 @@ pub fn going(
     side: usize,
 ) -> u64
     requires { ⌜ (length (now rec) ≡ size) × (length (now index) ≡ parts) × (to < seats) × (level < levels) × (side < 2) ⌝ }
-    ensures { λ r. ⌜ indexed (now (rec .exit)) (now (index .exit)) r ≡ carried to (rule width (meaning (now (rec .entry))) (goingOf to level (sideOfNumber side)))
+    ensures { λ r. ⌜ indexed (now (rec .exit)) (now (index .exit)) r ≡ carried to
+        (rule width (meaning (now (rec .entry))) (goingOf to level (sideOfNumber side)))
         (indexed (now (rec .entry)) (now (index .entry)) top) ⌝ }
 {
     if is_staying(rec, to) {

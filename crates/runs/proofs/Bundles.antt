@@ -31,7 +31,9 @@ module _ (l : List ℕ) (is : List (Item Call)) where
   -- a bundle stands for its deliveries
   pub run-bundle : (n : ℕ) → listRun l (is ++ bundle n ∷ []) ≡ steps called (listRun l is) (map deliver (bundleIn (listRun l is .now) n))
   unfolding listRun bytesRun stepsFrom spread
-  run-bundle n = run-append called bundleIn (λ c. c) _ is (bundle n ∷ []) ∙ ap (steps called (listRun l is)) (append-nil (map deliver (bundleIn (listRun l is .now) n)))
+  run-bundle n =
+      run-append called bundleIn (λ c. c) _ is (bundle n ∷ [])
+      ∙ ap (steps called (listRun l is)) (append-nil (map deliver (bundleIn (listRun l is .now) n)))
 
   -- and leaves the bytes that its contract says
   pub run-bundle-bytes : (n : ℕ) → listRun l (is ++ bundle n ∷ []) .now ≡ bundled (listRun l is .now) n .after

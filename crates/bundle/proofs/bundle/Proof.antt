@@ -41,13 +41,15 @@ returns-3 c =
     let f = r .before .before in
     let b = f .before .before .before .before in
     let l = b .args .rec .now in
-    (sym (bundle-done l (b .args .limit) (sym (r .sized-refusal .ensures) ∙ c .before .if2 .left) (quiet-none l (f .first-pending .ensures .0) (eqb-true _ _ (c .if3 .taken)))), tt)
+    let q = quiet-none l (f .first-pending .ensures .0) (eqb-true _ _ (c .if3 .taken)) in
+    (sym (bundle-done l (b .args .limit) (sym (r .sized-refusal .ensures) ∙ c .before .if2 .left) q), tt)
 
 deliver-smallest-requires : tie.Need-deliver-smallest-requires
 deliver-smallest-requires c κs =
     let r = c .before .before .before in
     let f = r .before .before in
-    (sym (r .sized-refusal .ensures) ∙ c .before .before .if2 .left, first-place (f .before .before .before .before .args .rec .now) (f .first-pending .ensures .0))
+    let b = f .before .before .before .before in
+    (sym (r .sized-refusal .ensures) ∙ c .before .before .if2 .left, first-place (b .args .rec .now) (f .first-pending .ensures .0))
 
 same-length-3 : tie.Need-same-length-3
 same-length-3 c = search needs

@@ -106,7 +106,8 @@ unfolding rule effect
 returns-7 c =
     let s = c .before .before in
     let h = s .before .before in
-    rw (at-place (none-at (h .if6 .left) (h .before .before .before .before .before .before .before .before .pre .2))) (carried-silent _ _ _ _ _ refl (s .lend-none .ensures))
+    let b = h .before .before .before .before .before .before .before .before in
+    rw (at-place (none-at (h .if6 .left) (b .pre .2))) (carried-silent _ _ _ _ _ refl (s .lend-none .ensures))
 
 pub carry-out-spec : {M : Type 1} → statement M
 carry-out-spec =

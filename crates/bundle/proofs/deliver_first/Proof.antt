@@ -28,13 +28,14 @@ strike-last-requires c κs =
     (b .pre .1, w .0, w .2)
 
 -- the place of the message taken
-within : (c : tie.After-struct-known) → c .before .before .before .before .before .before .before .before .before .before .before .first .result * 64 + c .before .before .before .before .before .before .before .before .before .clear-first .result .bit < messages
+within : (c : tie.After-struct-known) → let k = c .before .before .before .before .before .before .before .before .before in
+    k .before .before .first .result * 64 + k .clear-first .result .bit < messages
 within c =
     let k = c .before .before .before .before .before .before .before .before .before in
     let f = k .before .before in
     let b = f .before .before .before .before in
-    place-within (b .args .rec .now) (b .args .index .now) (b .args .top) (b .pre .0) (λ j. omega (arith, f .before .before .before .slice-known .given j)) (b .pre .2) (f .first .ensures .0)
-    (k .clear-first .ensures .0)
+    place-within (b .args .rec .now) (b .args .index .now) (b .args .top) (b .pre .0)
+    (λ j. omega (arith, f .before .before .before .slice-known .given j)) (b .pre .2) (f .first .ensures .0) (k .clear-first .ensures .0)
 
 mul-carry-out : tie.Need-mul-carry-out
 mul-carry-out c = search needs
@@ -61,8 +62,9 @@ returns c =
     let k = t .before .before .before .before in
     let f = k .before .before in
     let b = f .before .before .before .before in
-    is-delivered (b .args .rec .now) (b .args .index .now) (b .args .top) (b .pre .0) (λ j. omega (arith, f .before .before .before .slice-known .given j)) (b .pre .2) (f .first .ensures .0)
-    (k .clear-first .ensures .0) (k .clear-first .ensures .1 .0) (k .clear-first .ensures .1 .1) (t .strike-last .ensures) (o .carry-out .ensures)
+    is-delivered (b .args .rec .now) (b .args .index .now) (b .args .top) (b .pre .0)
+    (λ j. omega (arith, f .before .before .before .slice-known .given j)) (b .pre .2) (f .first .ensures .0) (k .clear-first .ensures .0)
+    (k .clear-first .ensures .1 .0) (k .clear-first .ensures .1 .1) (t .strike-last .ensures) (o .carry-out .ensures)
 
 pub deliver-first-spec : {M : Type 1} → statement M
 deliver-first-spec =

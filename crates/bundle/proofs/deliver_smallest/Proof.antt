@@ -35,7 +35,9 @@ mul-first-pending : tie.Need-mul-first-pending Inv-loop μ-loop
 mul-first-pending c = omega (arith, c .before .before .before .before .before .loop .inv .tracks .within)
 
 first-pending-requires : tie.Need-first-pending-requires Inv-loop μ-loop
-first-pending-requires c κs = let l = c .before .before .before .before .before in (sized (l .loop .rec) (l .loop .inv .fine .passed), omega (arith, l .loop .inv .tracks .within))
+first-pending-requires c κs =
+    let l = c .before .before .before .before .before in
+    (sized (l .loop .rec) (l .loop .inv .fine .passed), omega (arith, l .loop .inv .tracks .within))
 
 same-length : tie.Need-same-length Inv-loop μ-loop
 same-length c =
@@ -47,7 +49,8 @@ returns c =
     let f = c .before in
     let t = f .before .before in
     let l = t .before .before .before .before in
-    going-none (l .loop .inv) (none-left (l .loop .inv .tracks) (t .before .is-beyond .ensures .none (t .if1 .taken)) (f .first-pending .ensures .0) (c .if2 .taken))
+    let g = l .loop .inv in
+    going-none g (none-left (g .tracks) (t .before .is-beyond .ensures .none (t .if1 .taken)) (f .first-pending .ensures .0) (c .if2 .taken))
 
 slice-aggregate-note : tie.Need-slice-aggregate-note Inv-loop μ-loop
 slice-aggregate-note c = search needs
@@ -55,7 +58,8 @@ slice-aggregate-note c = search needs
 note-requires : tie.Need-note-requires Inv-loop μ-loop
 note-requires c κs =
     let f = c .before .before in
-    (c .before .before .before .before .before .before .before .before .loop .inv .tracks .exact .long, omega (arith, f .first-pending .ensures .1, c .before .if2 .left))
+    let l = f .before .before .before .before .before .before in
+    (l .loop .inv .tracks .exact .long, omega (arith, f .first-pending .ensures .1, c .before .if2 .left))
 
 add-reach : tie.Need-add-reach Inv-loop μ-loop
 add-reach c = search needs
@@ -88,7 +92,11 @@ loop-less : tie.Need-loop-less Inv-loop μ-loop
 loop-less c = search needs
 
 loop-again : tie.Need-loop-again Inv-loop μ-loop
-loop-again c = going-on (c .before .before .before .before .before .before .before .before .before .before .loop .inv) (search needs) (stands (c .before .before .before .before .before .before) .0) (c .before .before .before .deliver-first .ensures)
+loop-again c =
+    let d = c .before .before .before in
+    let j = d .before .before .before in
+    let l = j .before .before .before .before in
+    going-on (l .loop .inv) (search needs) (stands j .0) (d .deliver-first .ensures)
 
 same-length-2 : tie.Need-same-length-2 Inv-loop μ-loop
 same-length-2 c =
