@@ -2,6 +2,7 @@
 //! what it prints.
 
 mod calls;
+mod once;
 mod rows;
 mod stack;
 mod time;
@@ -19,9 +20,14 @@ const PASS_CALLS: [&str; 2] = ["validate", "check"];
 const AIM_OF_BUNDLES: f64 = 10.0;
 
 fn main() {
-    let asked = std::env::args().nth(1);
-    let is_asked = |row: &Row| asked.as_ref().is_none_or(|name| name == row.call);
-    let rows: Vec<Row> = rows::all().into_iter().filter(is_asked).collect();
+    let arguments: Vec<String> = std::env::args().skip(1).collect();
+    let rows = rows::all();
+    if once::asked(&arguments, &rows).is_some() {
+        return;
+    }
+    let asked = arguments.first();
+    let is_asked = |row: &Row| asked.is_none_or(|name| name == row.call);
+    let rows: Vec<Row> = rows.into_iter().filter(is_asked).collect();
     let times = time::measure(&rows);
     let measured: Vec<(Row, Times)> = rows.into_iter().zip(times).collect();
     println!(

@@ -68,8 +68,10 @@ fn on_each(rows: &mut Vec<Row>, records: [&[u8]; 3], call: Call) {
     }
 }
 
-fn open(rows: &mut Vec<Row>, records: [&[u8]; 3]) {
-    on_each(rows, records, Call::Open);
+/// It does the same whatever the bytes are: on an empty record nothing has to be
+/// put back between two of them.
+fn open(rows: &mut Vec<Row>, [empty, _, _]: [&[u8]; 3]) {
+    rows.push(row("any", empty, Call::Open));
 }
 
 fn join(rows: &mut Vec<Row>, [empty, half, _]: [&[u8]; 3]) {
