@@ -11,7 +11,8 @@ use Rattle.base.specs.Loops.{firstFrom}
 use Rattle.base.proofs.Any.{any-same}
 use Rattle.base.proofs.Tests.{true-T}
 use Rattle.memory.specs.Bytes.{AreBytes}
-use Rattle.memory.specs.Bits.{bitSet, clearBit, wordSet}
+use Rattle.memory.specs.Bits.{bitSet, clearBit}
+use Rattle.memory.specs.inner.Words.{wordSet}
 use Rattle.memory.proofs.Bitmap.{bitSet-set-other, length-putBit}
 use Rattle.graph.specs.Vector.{width}
 use Rattle.protocol.specs.Message.{Msg, nameOf}

@@ -22,7 +22,7 @@ use Rattle.record.specs.Call.{called}
 use Rattle.record.specs.Bundle.{BundleOutcome, bundled}
 use Rattle.record.proofs.Bundle.{Fine, delivery-fine, bundle-done, bundle-step, bundle-same, bundle-zero}
 use Rattle.messages.specs.inner.Numbers.{firstPending}
-use Rattle.index.specs.Index.{parts, noting}
+use Rattle.index.specs.inner.Index.{parts, noting}
 use Rattle.bundle.specs.inner.Steps.{firstWord, Tracks, IsBeyond, IsReady, IsDelivered}
 use Rattle.bundle.proofs.Ready.{ready, extended, extended-first, started}
 

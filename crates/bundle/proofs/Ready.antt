@@ -13,7 +13,8 @@ use Rattle.base.specs.Loops.{firstFrom}
 use Rattle.base.proofs.Any.{any-none}
 use Rattle.base.proofs.Cases.{lt-or-ge, eq-or-ne}
 use Rattle.base.proofs.Tests.{T-true, true-false, not-T-false}
-use Rattle.memory.specs.Bits.{hasBit, bitSet, withBit, wordSet}
+use Rattle.memory.specs.Bits.{hasBit, bitSet, withBit}
+use Rattle.memory.specs.inner.Words.{wordSet}
 use Rattle.memory.proofs.Bits.{hasBit-none}
 use Rattle.memory.proofs.First.{IsFirst, first, first-is, first-any}
 use Rattle.memory.proofs.Words.{bit-word, word-clear, clear-word-bits}
@@ -25,7 +26,7 @@ use Rattle.record.specs.Meaning.{meaning}
 use Rattle.record.proofs.Form.{meaning-bit}
 use Rattle.messages.specs.inner.Numbers.{firstPending}
 use Rattle.messages.proofs.First.{first-pending-bit, first-smallest, first-none}
-use Rattle.index.specs.Index.{words, parts, isNoted, noting, isSome, Exact}
+use Rattle.index.specs.inner.Index.{words, parts, isNoted, noting, isSome, Exact}
 use Rattle.index.proofs.Index.{noted-same, noted-other, note-exact, none-noted, exact-none}
 use Rattle.bundle.specs.inner.Steps.{firstWord, firstNoted, Tracks, IsReady, IsBeyond}
 

@@ -8,7 +8,8 @@ use native.Mathlib.Omega.{arith}
 use lib.Dec.{T}
 use lib.ListN.{length}
 use Rattle.base.proofs.Cases.{eq-or-ne, not-not}
-use Rattle.memory.specs.Bits.{withBit, clearBit, setBit, wordSet}
+use Rattle.memory.specs.Bits.{withBit, clearBit, setBit}
+use Rattle.memory.specs.inner.Words.{wordSet}
 use Rattle.memory.proofs.Bitmap.{length-putBit}
 use Rattle.memory.proofs.Words.{word-other, word-set}
 use Rattle.graph.specs.Vector.{width}
@@ -16,7 +17,7 @@ use Rattle.protocol.specs.Message.{Msg}
 use Rattle.protocol.specs.Numbering.{exists, place}
 use Rattle.record.specs.Layout.{seats, messages, pendingFrom, size}
 use Rattle.record.proofs.Places.{place-within}
-use Rattle.index.specs.Index.{words, isNoted, noting, isSome, Exact}
+use Rattle.index.specs.inner.Index.{words, isNoted, noting, isSome, Exact}
 use Rattle.index.proofs.Index.{noted-same, noted-other, noting-exact, note-exact}
 use Rattle.rules.specs.inner.Done.{indexed, sendAll}
 use Rattle.bundle.specs.inner.Steps.{Tracks, IsStruck}

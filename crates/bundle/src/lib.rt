@@ -13,7 +13,7 @@ ghost use Rattle.record.specs.Layout.{seats, messages, size};
 ghost use Rattle.record.specs.Meaning.{meaning};
 ghost use Rattle.record.specs.Reading.{recordRefusal};
 ghost use Rattle.record.specs.Bundle.{bundled};
-ghost use Rattle.index.specs.Index.{words, parts, isNoted, Exact};
+ghost use Rattle.index.specs.inner.Index.{words, parts, isNoted, Exact};
 ghost use Rattle.rules.specs.inner.Done.{indexed, carried};
 ghost use Rattle.bundle.specs.Answer.{bundleOutcome, BundleNumbered};
 ghost use Rattle.bundle.specs.inner.Steps.{firstWord, IsStruck, IsReady, IsDelivered, IsBeyond};

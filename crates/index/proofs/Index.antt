@@ -15,7 +15,7 @@ use Rattle.base.proofs.Tests.{false-T, true-false}
 use Rattle.memory.specs.Bits.{hasBit, withBit}
 use Rattle.memory.proofs.Bits.{hasBit-none, hasBit-withBit, hasBit-withBit-other, withBit-hasBit, one-shifted, power-within, power-off}
 use Rattle.memory.proofs.FirstSet.{none-set}
-use Rattle.index.specs.Index.{words, parts, isNoted, noting, isSome, Exact}
+use Rattle.index.specs.inner.Index.{words, parts, isNoted, noting, isSome, Exact}
 
 -- a number of 64 bits that is not 0 has a set bit, and 0 has none
 pub some-set : (n : ℕ) → n < 2 ^ 64 → (n ≡ 0 → ⊥) → any 64 (hasBit n) ≡ true

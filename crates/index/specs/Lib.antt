@@ -1,2 +1,2 @@
 -- The index of the words that have a set bit.
-pub mod Index
+pub mod inner

@@ -8,7 +8,7 @@ ghost use lib.ListN.{length};
 ghost use Rattle.base.specs.Loops.{firstFrom, any};
 ghost use Rattle.memory.specs.Bits.{hasBit, withBit};
 ghost use Rattle.record.specs.Layout.{messages};
-ghost use Rattle.index.specs.Index.{words, parts, isSome, isNoted, noting, Exact};
+ghost use Rattle.index.specs.inner.Index.{words, parts, isSome, isNoted, noting, Exact};
 use record::MESSAGES;
 
 // The bits of a word and of a number of the index.

@@ -14,8 +14,8 @@ use Rattle.base.proofs.Any.{any-same, any-none, none-any}
 use Rattle.base.proofs.Cases.{eq-or-ne, same-test}
 use Rattle.base.proofs.Tests.{false-T, not-T-false}
 use Rattle.memory.specs.Bytes.{AreBytes}
-use Rattle.memory.specs.Bits.{hasBit, withBit, packed, bitSet, clearBit, wordSet}
-use Rattle.memory.specs.inner.Words.{putLow}
+use Rattle.memory.specs.Bits.{hasBit, withBit, packed, bitSet, clearBit}
+use Rattle.memory.specs.inner.Words.{putLow, wordSet}
 use Rattle.memory.proofs.First.{first, first-same, first-any}
 use Rattle.memory.proofs.Bits.{one-shifted, power-within, power-off, hasBit-none, hasBit-withBit, hasBit-withBit-other, withBit-lt}
 use Rattle.memory.proofs.Packed.{packed-lt, packed-bits, bits-same}

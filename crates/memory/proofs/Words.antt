@@ -14,8 +14,8 @@ use Rattle.base.proofs.Any.{any-here, any-same, none-any}
 use Rattle.base.proofs.Cases.{lt-or-ge, eq-or-ne}
 use Rattle.base.proofs.Tests.{T-true, true-false, false-T, not-T-false}
 use Rattle.memory.specs.Bytes.{AreBytes}
-use Rattle.memory.specs.Bits.{withBit, packed, bitSet, putBit, wordSet}
-use Rattle.memory.specs.inner.Words.{putLow}
+use Rattle.memory.specs.Bits.{withBit, packed, bitSet, putBit}
+use Rattle.memory.specs.inner.Words.{putLow, wordSet}
 use Rattle.memory.proofs.Bits.{hasBit-withBit, hasBit-withBit-other, withBit-lt, one-shifted, mask-set, mask-clear}
 use Rattle.memory.proofs.Packed.{packed-lt, packed-bits, packed-is, packed-append, packed-shr}
 use Rattle.memory.proofs.Bitmap.{byte-packed, length-putBit, getD-putBit-other, bytes-putBit, bitSet-putBit, bitSet-putBit-other}

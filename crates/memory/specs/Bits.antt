@@ -4,7 +4,7 @@ use mathlib.Core.Bool.{Bool, true, false}
 use mathlib.Core.List.{List}
 use lib.Dec.{eqb}
 use lib.ListN.{getD, set}
-use Rattle.base.specs.Loops.{oneIf, any}
+use Rattle.base.specs.Loops.{oneIf}
 
 -- bit k of x: 0 or 1
 unfoldable pub bitOf : (x k : ℕ) → ℕ
@@ -38,7 +38,3 @@ setBit l base i = putBit l base i true
 -- l with bit i of the bitmap at base clear
 abbrev pub clearBit : (l : List ℕ) (base i : ℕ) → List ℕ
 clearBit l base i = putBit l base i false
-
--- a bit of word w of the bitmap at base, which is bits w * 64 up to w * 64 + 64, is 1
-abbrev pub wordSet : (l : List ℕ) (base w : ℕ) → Bool
-wordSet l base w = any 64 (λ j. bitSet l base (w * 64 + j))

@@ -6,8 +6,8 @@ ghost use lib.ListN.{length};
 ghost use Rattle.base.specs.Loops.{firstFrom, count as countOf};
 ghost use Rattle.memory.specs.Bytes.{numberAt, putNumber, digit, nonZero, zeros, fulls};
 ghost use mathlib.Core.Bool.{true, not};
-ghost use Rattle.memory.specs.Bits.{hasBit, packed, bitSet, setBit, clearBit, wordSet};
-ghost use Rattle.memory.specs.inner.Words.{putLow};
+ghost use Rattle.memory.specs.Bits.{hasBit, packed, bitSet, setBit, clearBit};
+ghost use Rattle.memory.specs.inner.Words.{putLow, wordSet};
 
 // The bits of a byte.
 const BITS: usize = 8;

@@ -26,7 +26,7 @@ ghost use Rattle.record.specs.Layout.{seats, levels, noLink, numberSize, number
 ghost use Rattle.record.specs.Meaning.{meaning, linkOf};
 ghost use Rattle.graph.specs.Side.{sideOf, sideOfNumber};
 ghost use Rattle.record.specs.inner.Entry.{linkIn};
-ghost use Rattle.index.specs.Index.{parts};
+ghost use Rattle.index.specs.inner.Index.{parts};
 ghost use Rattle.rules.specs.inner.Done.{done, indexed, sendAll, carried};
 ghost use Rattle.rules.specs.inner.Entry.{IsSet};
 

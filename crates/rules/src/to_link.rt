@@ -9,7 +9,7 @@ ghost use Rattle.protocol.specs.Rules.{toLink};
 ghost use Rattle.record.specs.Layout.{seats, levels, messages, size};
 ghost use Rattle.record.specs.Meaning.{linkOf};
 ghost use Rattle.graph.specs.Side.{sideOfNumber};
-ghost use Rattle.index.specs.Index.{parts};
+ghost use Rattle.index.specs.inner.Index.{parts};
 ghost use Rattle.rules.specs.inner.Done.{indexed, sendAt, sendAll};
 use messages::meet_place;
 use messages::probe_place;

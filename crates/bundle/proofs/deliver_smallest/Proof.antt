@@ -7,7 +7,7 @@ use native.Mathlib.Omega.{arith}
 use borrow.Author.Needs.{needs}
 use Rattle.memory.proofs.Zeros.{replicate-zero}
 use Rattle.delivery.proofs.Steps.{sized}
-use Rattle.index.specs.Index.{parts}
+use Rattle.index.specs.inner.Index.{parts}
 use Rattle.bundle.specs.inner.Steps.{Tracks, IsReady}
 use Rattle.bundle.proofs.Ready.{none-left}
 use Rattle.bundle.proofs.Going.{Going, going-first, going-none, going-limit, going-on, next-noted, next-found}

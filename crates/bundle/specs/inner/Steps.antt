@@ -6,7 +6,7 @@ use mathlib.Core.Option.{some}
 use mathlib.Core.Bool.{Bool, true, false, not}
 use mathlib.Core.List.{List}
 use Rattle.base.specs.Loops.{firstFrom}
-use Rattle.memory.specs.Bits.{wordSet}
+use Rattle.memory.specs.inner.Words.{wordSet}
 use Rattle.graph.specs.Vector.{width}
 use Rattle.protocol.specs.Message.{Msg, nameOf}
 use Rattle.protocol.specs.Order.{smallest}
@@ -14,7 +14,7 @@ use Rattle.protocol.specs.Calls.{deliver}
 use Rattle.record.specs.Layout.{seats, pendingFrom}
 use Rattle.record.specs.Meaning.{meaning}
 use Rattle.record.specs.Call.{called}
-use Rattle.index.specs.Index.{words, parts, isNoted, Exact}
+use Rattle.index.specs.inner.Index.{words, parts, isNoted, Exact}
 
 -- the first word that has a pending message, or how many words there are
 abbrev pub firstWord : List ℕ → ℕ

@@ -13,7 +13,7 @@ use Rattle.protocol.specs.Rules.{Change, keep, Effect, set as setLink}
 use Rattle.record.specs.Layout.{seats, linkAt, pendingFrom}
 use Rattle.record.specs.Meaning.{linkByte}
 use Rattle.record.specs.inner.Sent.{sentBits}
-use Rattle.index.specs.Index.{noting}
+use Rattle.index.specs.inner.Index.{noting}
 
 -- a change of the links of seat t
 unfoldable pub changed : ℕ → Change → List ℕ → List ℕ
