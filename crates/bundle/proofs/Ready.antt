@@ -146,9 +146,6 @@ module _ (l : List ℕ) {i : ℕ} (e : i ≡ firstPending l 0) where
           true-false (f .found (omega (arith, at-first .high)))
           (clear-word-bits l pendingFrom (firstWord l) (λ j p. at-first .before (firstWord l * 64 + j) (omega arith) (omega arith)))
 
-  pub quiet-clear : i ≡ messages → (j : ℕ) → j < messages → bitSet l pendingFrom j ≡ false
-  quiet-clear z j h = at-first .before j (omega arith) (rw z h)
-
   pub quiet-none : i ≡ messages → smallest seats width (meaning l .pending) ≡ none
   quiet-none z = first-none l 0 (λ j h. absurd (omega arith)) (sym e ∙ z)
 

@@ -154,12 +154,11 @@ pub fn bundle(rec: &mut [u8], limit: u16) -> Bundled
         return Bundled::Refused(WRONG_SIZE);
     }
     let first = first_pending(rec, 0);
-    let quiet = first == MESSAGES;
-    let refused = sized_refusal(rec, quiet);
+    let refused = sized_refusal(rec, first);
     if refused != 0 {
         return Bundled::Refused(refused);
     }
-    if quiet {
+    if first == MESSAGES {
         return Bundled::Delivered(0);
     }
     Bundled::Delivered(deliver_smallest(rec, limit, first / WORD))

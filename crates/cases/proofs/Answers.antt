@@ -1,33 +1,46 @@
 -- What calls, find and readings answer on the bytes after a list of calls, told by the view after the list. Assumes nothing.
-use Prim.Native.Nat.{ℕ, suc, _^_}
-use mathlib.Core.Path.{_≡_, ap, _∙_, subst}
+use Prim.Native.Nat.{ℕ, suc, _^_, _≤_, _<_}
+use mathlib.Core.Path.{_≡_, sym, ap, _∙_, subst}
+use mathlib.Core.Logic.{inl, inr}
 use mathlib.Core.Bool.{Bool, true, false, _&&_}
 use mathlib.Core.List.{List, [], _∷_}
 use lib.Dec.{T, ltb, ltb→lt}
 use Rattle.base.specs.Loops.{count}
+use Rattle.memory.specs.Bytes.{AreBytes}
 use Rattle.graph.specs.Side.{Side, left, right, sideNumber}
 use Rattle.graph.specs.Vector.{width}
 use Rattle.base.proofs.Tests.{and-fst, and-snd}
 use Rattle.protocol.specs.Message.{Msg, among}
 use Rattle.protocol.specs.Numbering.{somePending}
-use Rattle.protocol.specs.State.{open-phase, seated}
+use Rattle.protocol.specs.State.{open-phase, clearing, isClearing, Seats, Meaning, seated}
+use Rattle.protocol.specs.Refusals.{noSuchSeat, emptySeat, unsettled}
 use Rattle.protocol.specs.Calls.{Call, join, leave, deliver, turn, Outcome}
 use Rattle.protocol.specs.Sound.{Sound, numberBits}
 use Rattle.protocol.specs.Run.{logOf, AllInRange}
-use Rattle.protocol.proofs.SoundFacts.{seated-below}
+use Rattle.protocol.proofs.SoundFacts.{seated-below, pending-exists}
 use Rattle.protocol.proofs.Numbering.{pending-none}
 use Rattle.record.specs.Layout.{seats, levels}
-use Rattle.record.specs.Meaning.{bytesOf, phaseByte, linkByte}
-use Rattle.record.specs.Reading.{openRefusal, readLot, readLink, readMessage, readCounts}
+use Rattle.record.specs.Meaning.{seatsIn, meaning, bytesOf, phaseByte, linkByte}
+use Rattle.record.specs.Reading.{openRefusal, readLot, readLink, readMessage, CountAnswer, readCounts}
 use Rattle.record.specs.Call.{called}
 use Rattle.record.proofs.Call.{call-bytes, refused-same}
+use Rattle.record.proofs.Places.{length-bytesOf}
+use Rattle.record.proofs.Refused.{Passed}
+use Rattle.record.proofs.Round.{meaning-bytes, bytes-bytes}
+use Rattle.record.proofs.Sound.{bytes-sound}
 use Rattle.search.specs.Walk.{find}
-use Rattle.find.specs.Find.{findIn}
+use Rattle.check_links.specs.Settled.{settled}
+use Rattle.check_links.proofs.Settled.{unsettled-exactly}
+use Rattle.find.specs.Find.{searched, findRefusal, findIn}
+use Rattle.find.proofs.Refused.{no-seat, no-lot, waits}
+use Rattle.find.proofs.Scans.{settled-accepted}
 use Rattle.runs.specs.Run.{bytesRun, lotOf}
 use Rattle.runs.specs.Run as runs
-use Rattle.runs.proofs.Right.{find-bytes}
+use Rattle.runs.proofs.Theorem.{in-range}
+use Rattle.runs.proofs.Uses.{count-settled}
+use Rattle.runs.proofs.Right.{seats-bytes, find-bytes}
 use Rattle.runs.proofs.Readings.{countsOf, read-lot, read-link, read-message, read-counts, count-none}
-use Rattle.cases.proofs.View.{View, meant, viewRefusal, viewCall, view-call}
+use Rattle.cases.proofs.View.{View, meant, someLeft, some-left, viewRefusal, viewCall, view-call}
 use Rattle.cases.specs.Lists.{accepted, Pending, LinksOf, Settles, Lot100}
 use Rattle.cases.proofs.Seen.{seen, seen-sound, seen-bytes, seen-log, seen-order}
 
@@ -61,6 +74,15 @@ module _ (l : List ℕ) (e : openRefusal l ≡ 0) (cs : List Call) (t : T (fits 
   at : {A : Type 0} (f : List ℕ → A) → f (bytesRun l cs .now) ≡ f (bytesOf (meant (seen cs .view)))
   at f = ap f (seen-bytes l e cs (fits-in cs t))
 
+  bytes-seen : AreBytes (bytesRun l cs .now)
+  bytes-seen = subst AreBytes (sym (seen-bytes l e cs (fits-in cs t))) (bytes-bytes (meant v))
+
+  passed-seen : Passed (bytesRun l cs .now)
+  passed-seen = subst Passed (sym (seen-bytes l e cs (fits-in cs t))) (record { sized = length-bytesOf (meant v); fine = bytes-sound h })
+
+  seated-seen : (s : ℕ) → seated (seatsIn (bytesRun l cs .now)) s ≡ seated (v .seats) s
+  seated-seen s = at (λ b. seated (seatsIn b) s) ∙ ap (λ (r : Seats). seated r s) (seats-bytes (meant v) h)
+
   call-seen : (c : Call) → called (bytesRun l cs .now) c ≡ record { refused = viewRefusal v c; after = bytesOf (meant (viewCall v c)) }
   call-seen c =
       at (λ b. called b c) ∙ call-bytes (meant v) h c
@@ -72,11 +94,6 @@ module _ (l : List ℕ) (e : openRefusal l ≡ 0) (cs : List Call) (t : T (fits 
   refused-seen c n q =
       let no : called (bytesRun l cs .now) c .refused ≡ suc n = ap (λ (o : Outcome (List ℕ)). o .refused) (call-seen c) ∙ q in
       λ i. record { refused = no i; after = refused-same (bytesRun l cs .now) c n no i }
-
-  pub find-seen : (s x : ℕ) → T (seated (v .seats) s)
-      → findIn (bytesRun l cs .now) s x
-      ≡ (let f = find (v .seats .number) (v .link) x seats width s in record { refused = 0; holder = f .holder; hops = f .hops })
-  find-seen s x m = at (λ b. findIn b s x) ∙ find-bytes (meant v) h s x m
 
   pub lot-seen : (x : ℕ) → T (ltb x seats) → readLot (bytesRun l cs .now) x ≡ lotOf (v .seats) x
   lot-seen x p = at (λ b. readLot b x) ∙ read-lot (meant v) h x (ltb→lt x seats p)
@@ -107,14 +124,51 @@ module _ (l : List ℕ) (e : openRefusal l ≡ 0) (cs : List Call) (t : T (fits 
     pending = subst (Pending (bytesRun l cs .now)) w pending-seen;
   }
 
-  pub settles-seen : (n : ℕ) → accepted (seen cs .log) ≡ true → T (seen cs .ordered) → v .pending ≡ [] → v .seats .phase ≡ open-phase
-      → count seats (seated (v .seats)) ≡ n → Settles l cs n
-  unfolding countsOf among
-  settles-seen n a o q p c =
-      let none-left : somePending seats width (among (v .pending)) ≡ false = pending-none seats width (among (v .pending)) (λ m x. rw q) in
-      let none-counted = count-none (meant v) h .1 none-left in
-      record {
-        log = log-seen a;
-        order = seen-order l e cs (fits-in cs t) o;
-        counts = at readCounts ∙ read-counts (meant v) h ∙ λ i. record { refused = 0; lots = c i; phase = phaseByte (p i); pending = none-counted i };
-      }
+  -- nothing is pending, in phase open
+  module _ (q : v .pending ≡ []) (p : v .seats .phase ≡ open-phase) where
+    counts-seen : readCounts (bytesRun l cs .now) ≡ record { refused = 0; lots = count seats (seated (v .seats)); phase = 0; pending = 0 }
+    unfolding countsOf among
+    counts-seen =
+        let none-left : somePending seats width (among (v .pending)) ≡ false = pending-none seats width (among (v .pending)) (λ m x. rw q) in
+        let none-counted = count-none (meant v) h .1 none-left in
+        at readCounts ∙ read-counts (meant v) h
+        ∙ λ i. record { refused = 0; lots = count seats (seated (v .seats)); phase = phaseByte (p i); pending = none-counted i }
+
+    pub settles-seen : (n : ℕ) → accepted (seen cs .log) ≡ true → T (seen cs .ordered) → count seats (seated (v .seats)) ≡ n → Settles l cs n
+    settles-seen n a o c = record {
+      log = log-seen a;
+      order = seen-order l e cs (fits-in cs t) o;
+      counts = counts-seen ∙ λ i. record { refused = 0; lots = c i; phase = 0; pending = 0 };
+    }
+
+    settled-seen : settled (bytesRun l cs .now) ≡ true
+    settled-seen = count-settled (in-range l e cs (fits-in cs t)) bytes-seen
+        (ap (λ (a : CountAnswer). a .pending) counts-seen) (ap (λ (a : CountAnswer). a .phase) counts-seen)
+
+    pub find-seen : (s x : ℕ) → T (seated (v .seats) s)
+        → findIn (bytesRun l cs .now) s x ≡ searched (find (v .seats .number) (v .link) x seats width s)
+    find-seen s x m = at (λ b. findIn b s x) ∙ find-bytes (meant v) h (sym (at settled) ∙ settled-seen) s x m
+
+    pub scan-accepted : (s : ℕ) → T (seated (v .seats) s) → findRefusal (bytesRun l cs .now) s ≡ 0
+    scan-accepted s m = settled-accepted (bytesRun l cs .now) bytes-seen settled-seen s (subst T (sym (seated-seen s)) m)
+
+  -- a scan that is refused
+  module _ (s : ℕ) where
+    pub scan-seat : seats ≤ s → findRefusal (bytesRun l cs .now) s ≡ noSuchSeat
+    scan-seat q = sym (no-seat (bytesRun l cs .now) s passed-seen q)
+
+    module _ (q : s < seats) where
+      pub scan-empty : seated (v .seats) s ≡ false → findRefusal (bytesRun l cs .now) s ≡ emptySeat
+      scan-empty f = sym (no-lot (bytesRun l cs .now) s passed-seen q (seated-seen s ∙ f))
+
+      waiting : settled (bytesRun l cs .now) ≡ false → seated (v .seats) s ≡ true → findRefusal (bytesRun l cs .now) s ≡ unsettled
+      waiting u f = sym (waits (bytesRun l cs .now) s passed-seen q (seated-seen s ∙ f) u)
+
+      pub scan-pending : someLeft (v .pending) ≡ true → seated (v .seats) s ≡ true → findRefusal (bytesRun l cs .now) s ≡ unsettled
+      scan-pending p = waiting (unsettled-exactly (bytesRun l cs .now) .1 (inl
+          (at (λ b. somePending seats width (meaning b .pending)) ∙ ap (λ (M : Meaning). somePending seats width (M .pending)) (meaning-bytes h)
+          ∙ some-left (v .pending) (λ m t. pending-exists h m t) ∙ p)))
+
+      pub scan-clearing : v .seats .phase ≡ clearing → seated (v .seats) s ≡ true → findRefusal (bytesRun l cs .now) s ≡ unsettled
+      scan-clearing p = waiting (unsettled-exactly (bytesRun l cs .now) .1 (inr (inl
+          (at (λ b. isClearing (seatsIn b .phase)) ∙ ap (λ (r : Seats). isClearing (r .phase)) (seats-bytes (meant v) h) ∙ ap isClearing p))))

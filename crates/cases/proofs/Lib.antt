@@ -8,3 +8,4 @@ pub mod Small
 pub mod OneByte
 pub mod SoundExamples
 pub mod Refusals
+pub mod Scans

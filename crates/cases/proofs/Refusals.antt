@@ -1,9 +1,8 @@
 -- The examples of the table, specs/Refusals.antt: calls on small records are evaluated, readings by what the bytes read. Assumes nothing.
 use Prim.Native.Nat.{ℕ, zero, suc}
 use mathlib.Core.Path.{_≡_, refl, sym, ap, _∙_, subst, fun-ext}
-use mathlib.Core.Logic.{⊎-elim, _≢_}
+use mathlib.Core.Logic.{⊎-elim, inl, inr, _≢_}
 use mathlib.Core.Bool.{Bool, true, false, not, cond}
-use mathlib.Core.Option.{none}
 use mathlib.Core.List.{List, [], _∷_}
 use native.Mathlib.Omega.{arith}
 use lib.Dec.{T, eqb}
@@ -14,25 +13,28 @@ use Rattle.base.proofs.Tests.{dec-T, T-true, not-T-false, or-cases}
 use Rattle.graph.specs.Vector.{width}
 use Rattle.protocol.specs.Message.{Msg, meet, probe, nameOf, ifZero, ifBit, named, sameMsg, among}
 use Rattle.protocol.specs.Numbering.{exists}
-use Rattle.protocol.specs.State.{Phase, open-phase, clearing, Seats, taken, empty, nobody, isPending}
+use Rattle.protocol.specs.State.{Phase, open-phase, clearing, isClearing, Seats, taken, seated, empty, nobody, isPending}
 use Rattle.protocol.specs.Refusals.{emptySeat, row, first}
 use Rattle.protocol.specs.Calls.{Call, deliver, rows, refusal}
 use Rattle.protocol.specs.Page.{at}
 use Rattle.protocol.proofs.Message.{same-eq, same-self, named-name}
 use Rattle.record.specs.Layout.{seats, size, phaseAt}
-use Rattle.record.specs.Meaning.{meaning}
+use Rattle.record.specs.Meaning.{seatsIn, meaning}
 use Rattle.record.specs.Sound.{sound}
-use Rattle.record.specs.Reading.{seatRow, levelRow, openRefusal, lotRefusal, seatedRefusal, linkRefusal, recordRefusal}
+use Rattle.record.specs.Reading.{seatRow, levelRow, openRefusal, lotRefusal, linkRefusal, recordRefusal}
 use Rattle.record.specs.Reading.{LotAnswer, LinkAnswer, MessageAnswer, CountAnswer, readLot, readLink, readMessage, readCounts}
 use Rattle.record.specs.Call.{callRefusal, called}
 use Rattle.record.specs.Bundle.{bundled}
 use Rattle.record.proofs.Places.{length-bytesOf}
 use Rattle.record.proofs.Form.{meaning-seats, meaning-pending}
 use Rattle.record.proofs.Round.{read-message}
-use Rattle.record.proofs.Refused.{record-stops, wrong-size}
-use Rattle.record.proofs.Reading.{record-accepted, lotRefusal-is, seatedRefusal-is, linkRefusal-is}
+use Rattle.record.proofs.Refused.{Passed, record-stops, wrong-size}
+use Rattle.record.proofs.Reading.{record-accepted, lotRefusal-is, linkRefusal-is}
 use Rattle.record.proofs.Call.{record-accepted as call-accepted}
-use Rattle.find.specs.Find.{FindAnswer, findIn}
+use Rattle.check_links.proofs.Settled.{unsettled-exactly}
+use Rattle.find.specs.Find.{findIn}
+use Rattle.find.proofs.Refused.{stops, no-seat, no-lot, waits}
+use Rattle.find.proofs.Scans.{find-refused}
 use Rattle.check_links.specs.Check.{CheckAnswer, checkIn}
 use Rattle.cases.specs.Small.{Held, fieldIn, linkIn, seatsOf, small, smallBytes, three, last, twins}
 use Rattle.cases.specs.SoundExamples.{every, AllHold, threeIn}
@@ -59,7 +61,7 @@ unfolding refusal rows first fieldIn at
 leave-examples = record { seat = (refl, refl); phase = (refl, refl); empty = (refl, refl, refl); order = (refl, refl, refl, refl) }
 
 -- bytes whose clauses hold are sound
-all-sound : (b : List ℕ) → AllHold b → sound b ≡ true
+pub all-sound : (b : List ℕ) → AllHold b → sound b ≡ true
 unfolding every
 all-sound b h = record-examples .clauses-all b ∙ ap every h
 
@@ -109,12 +111,12 @@ turn-examples = record {
 
 -- the refusal of a record stands in front of every call
 every-call : (l : List ℕ) (n : ℕ) → n ≡ recordRefusal l → n ≢ 0 → EveryCall l n
-unfolding callRefusal lotRefusal linkRefusal seatedRefusal
+unfolding callRefusal lotRefusal linkRefusal
 every-call l n e h = record {
   calls = λ c. sym (record-stops l _ e h);
   lot = λ s. sym (record-stops l _ e h);
   link = λ s k d. sym (record-stops l _ e h);
-  start = λ s. sym (record-stops l _ e h);
+  scan = λ s. sym (stops l s e h);
   others = sym e;
 }
 
@@ -170,10 +172,11 @@ module _ (p : Phase) (hs : List Held) (fit : T (heldFit hs)) (fine : AllHold (sm
       lotRefusal-is b sized fine-sound x
       ∙ ap (λ (r : Seats). first (seatRow x ∷ row emptySeat (not (taken r x)) ∷ [])) (seats-read p hs [] [] fit)
 
-  start-refusal : (x : ℕ) → seatedRefusal b x ≡ first (seatRow x ∷ row emptySeat (empty (seatsOf p hs) x) ∷ [])
-  start-refusal x =
-      seatedRefusal-is b sized fine-sound x
-      ∙ ap (λ (r : Seats). first (seatRow x ∷ row emptySeat (empty r x) ∷ [])) (seats-read p hs [] [] fit)
+  scan-passed : Passed b
+  scan-passed = record { sized = sized; fine = fine-sound }
+
+  scan-lot : (x : ℕ) → seated (seatsIn b) x ≡ seated (seatsOf p hs) x
+  scan-lot x = ap (λ (r : Seats). seated r x) (seats-read p hs [] [] fit)
 
   link-refusal : (x k d : ℕ) → linkRefusal b x k d ≡ first (seatRow x ∷ levelRow k d ∷ row emptySeat (empty (seatsOf p hs) x) ∷ [])
   link-refusal x k d =
@@ -199,7 +202,7 @@ bytes-examples = record {
     λ c. refl,
     λ s. carry (λ (a : LotAnswer). a .refused) _ (λ k. record { refused = k; state = 0; number = 0; vector = 0 }) (lotRefusal l s) refl (λ k. refl),
     λ s k d. carry (λ (a : LinkAnswer). a .refused) _ (λ k. record { refused = k; seat = 0 }) (linkRefusal l s k d) refl (λ k. refl),
-    λ s x. carry (λ (a : FindAnswer). a .refused) _ (λ k. record { refused = k; holder = none; hops = 0 }) (seatedRefusal l s) refl (λ k. refl),
+    λ s x. find-refused l s x,
     λ n. carry (λ (a : MessageAnswer). a .refused) _ (λ k. record { refused = k; pending = 0 }) (recordRefusal l) refl (λ k. refl),
     carry (λ (a : CountAnswer). a .refused) _ (λ k. record { refused = k; lots = 0; phase = 0; pending = 0 }) (recordRefusal l) refl (λ k. refl),
     carry (λ (a : CheckAnswer). a .refused) _ (λ k. record { refused = k; yes = false }) (recordRefusal l) refl (λ k. refl),
@@ -221,11 +224,11 @@ bytes-examples = record {
     lot-refusal clearing three tt (record-examples .phase .1) 3,
     lot-refusal clearing three tt (record-examples .phase .1) 1,
   );
-  start = (
-    start-refusal open-phase last tt last-fine 64,
-    start-refusal open-phase last tt last-fine 63,
-    start-refusal clearing three tt (record-examples .phase .1) 3,
-    start-refusal clearing three tt (record-examples .phase .1) 1,
+  scan = (
+    sym (no-seat (threeIn clearing) 64 passed (omega arith)),
+    sym (no-lot (threeIn clearing) 3 passed (omega arith) (lot 3)),
+    sym (waits (threeIn clearing) 1 passed (omega arith) (lot 1) (unsettled-exactly (threeIn clearing) .1 (inr (inl
+        (ap (λ (r : Seats). isClearing (r .phase)) (seats-read clearing three [] [] tt)))))),
   );
   link-3 = (link-refusal open-phase last tt last-fine 64 8 1, link-refusal open-phase last tt last-fine 63 8 1);
   link-12 = (link 0 9 1, link 0 8 2, link 0 8 1);
@@ -236,3 +239,9 @@ bytes-examples = record {
     link : (x k d : ℕ) → linkRefusal (threeIn open-phase) x k d
         ≡ first (seatRow x ∷ levelRow k d ∷ row emptySeat (empty (seatsOf open-phase three) x) ∷ [])
     link = link-refusal open-phase three tt (record-examples .phase .0)
+
+    passed : Passed (threeIn clearing)
+    passed = scan-passed clearing three tt (record-examples .phase .1)
+
+    lot : (x : ℕ) → seated (seatsIn (threeIn clearing)) x ≡ seated (seatsOf clearing three) x
+    lot = scan-lot clearing three tt (record-examples .phase .1)

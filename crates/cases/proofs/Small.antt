@@ -207,7 +207,7 @@ module _ (p : Phase) (hs : List Held) (ls : List LinkOf) (ms : List Msg) (fit : 
           (ok-among (seatsOf p hs) ms (true-T e) (messageAt seats width i) (rw (← read-bit M i h) t)))
 
   module _ (written : T (linksWritten ls)) where
-    link-read : (s k : ℕ) (d : Side) → s < seats → k < levels → getD b (linkAt s k d) 0 ≡ linkByte (linkIn ls s k d)
+    pub link-read : (s k : ℕ) (d : Side) → s < seats → k < levels → getD b (linkAt s k d) 0 ≡ linkByte (linkIn ls s k d)
     link-read s k d h g = sym (numberAt-one b (linkAt s k d)) ∙ cell-read M (linkCell s k d) (h, g) (link-below ls written s k d)
 
     pub unused-read : unusedFit b ≡ unusedOf (seatsOf p hs) (linkIn ls)

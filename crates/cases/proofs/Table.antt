@@ -34,13 +34,13 @@ unfolding qCalls iCalls jCalls kCalls lCalls fits accepted seen look least witho
     onSide sideOf bit equalBits shared named ifZero ifBit sameMsg among
 cases l o = record {
   a = (refl, refl, refl);
-  q = settles-seen l o qCalls tt 3 refl tt refl refl refl;
+  q = settles-seen l o qCalls tt refl refl 3 refl tt refl;
   q-level-0 = (links-seen l o qCalls tt 0 0 tt tt, links-seen l o qCalls tt 1 0 tt tt, links-seen l o qCalls tt 2 0 tt tt);
   q-level-1 = (links-seen l o qCalls tt 0 1 tt tt, links-seen l o qCalls tt 1 1 tt tt, links-seen l o qCalls tt 2 1 tt tt);
-  b = find-seen l o qCalls tt 0 99 tt;
-  c = find-seen l o qCalls tt 0 300 tt;
-  d = find-seen l o qCalls tt 2 250 tt;
-  e = find-seen l o qCalls tt 2 100 tt;
+  b = find-seen l o qCalls tt refl refl 0 99 tt;
+  c = find-seen l o qCalls tt refl refl 0 300 tt;
+  d = find-seen l o qCalls tt refl refl 2 250 tt;
+  e = find-seen l o qCalls tt refl refl 2 100 tt;
   f = λ v. refused-seen l o qCalls tt (join 3 200 v 0) 4 refl;
   g = λ n v c. refused-seen l o qCalls tt (join 64 n v c) 2 refl;
   h = λ n v. refused-seen l o [] tt (join 0 n v 0) 5 refl;
@@ -48,10 +48,10 @@ cases l o = record {
   i-done = lot100-seen l o (iCalls ++ deliver (name 1 0 1 0 0) ∷ []) tt 1 _ refl tt refl refl refl;
   j = lot100-seen l o jCalls tt 1 _ refl tt refl refl refl;
   j-done = lot100-seen l o (jCalls ++ deliver (name 1 0 2 0 0) ∷ []) tt 1 _ refl tt refl refl refl;
-  k = settles-seen l o kCalls tt 2 refl tt refl refl refl;
+  k = settles-seen l o kCalls tt refl refl 2 refl tt refl;
   k-lots = (lot-seen l o kCalls tt 0 tt, lot-seen l o kCalls tt 1 tt, lot-seen l o kCalls tt 2 tt);
   k-level-0 = (links-seen l o kCalls tt 0 0 tt tt, links-seen l o kCalls tt 2 0 tt tt);
   k-level-1 = (links-seen l o kCalls tt 0 1 tt tt, links-seen l o kCalls tt 2 1 tt tt);
-  sole = settles-seen l o lCalls tt 0 refl tt refl refl refl;
+  sole = settles-seen l o lCalls tt refl refl 0 refl tt refl;
   sole-bytes = seen-bytes l o lCalls (fits-in lCalls tt) ∙ ap bytesOf sole-gone;
 }

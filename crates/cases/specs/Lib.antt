@@ -4,3 +4,4 @@ pub mod Cases
 pub mod Small
 pub mod SoundExamples
 pub mod Refusals
+pub mod Scans

@@ -16,10 +16,10 @@ use Rattle.protocol.specs.Calls.{Call, join, leave, deliver, turn, refusal}
 use Rattle.record.specs.Layout.{seats, size, phaseAt}
 use Rattle.record.specs.Meaning.{meaning}
 use Rattle.record.specs.Sound.{sound}
-use Rattle.record.specs.Reading.{openRefusal, lotRefusal, seatedRefusal, linkRefusal, recordRefusal, readLot, readLink, readMessage, readCounts}
+use Rattle.record.specs.Reading.{openRefusal, lotRefusal, linkRefusal, recordRefusal, readLot, readLink, readMessage, readCounts}
 use Rattle.record.specs.Call.{callRefusal, called}
 use Rattle.record.specs.Bundle.{bundled}
-use Rattle.find.specs.Find.{findIn}
+use Rattle.find.specs.Find.{findRefusal, findIn}
 use Rattle.check_links.specs.Check.{checkIn}
 use Rattle.cases.specs.Small.{holds, seatsOf, smallBytes, three, last, twins}
 use Rattle.cases.specs.SoundExamples.{threeIn}
@@ -138,7 +138,7 @@ pub record EveryCall (l : List ℕ) (n : ℕ) : Type 0 where
   pub calls : (c : Call) → callRefusal l c ≡ n
   pub lot : (s : ℕ) → lotRefusal l s ≡ n
   pub link : (s k d : ℕ) → linkRefusal l s k d ≡ n
-  pub start : (s : ℕ) → seatedRefusal l s ≡ n
+  pub scan : (s : ℕ) → findRefusal l s ≡ n
   pub others : recordRefusal l ≡ n
 
 -- the bytes of the record with a lot on seat 63
@@ -151,7 +151,7 @@ pub record BytesExamples : Type 0 where
       → ((c : Call) → called l c .refused ≡ callRefusal l c)
       × ((s : ℕ) → readLot l s .refused ≡ lotRefusal l s)
       × ((s k d : ℕ) → readLink l s k d .refused ≡ linkRefusal l s k d)
-      × ((s x : ℕ) → findIn l s x .refused ≡ seatedRefusal l s)
+      × ((s x : ℕ) → findIn l s x .refused ≡ findRefusal l s)
       × ((n : Name) → readMessage l n .refused ≡ recordRefusal l)
       × (readCounts l .refused ≡ recordRefusal l)
       × (checkIn l .refused ≡ recordRefusal l)
@@ -172,11 +172,8 @@ pub record BytesExamples : Type 0 where
       × (lotRefusal farBytes 63 ≡ 0)
       × (lotRefusal (threeIn clearing) 3 ≡ 8)
       × (lotRefusal (threeIn clearing) 1 ≡ 0)
-  -- find, the same
-  pub start : (seatedRefusal farBytes 64 ≡ 3)
-      × (seatedRefusal farBytes 63 ≡ 0)
-      × (seatedRefusal (threeIn clearing) 3 ≡ 8)
-      × (seatedRefusal (threeIn clearing) 1 ≡ 0)
+  -- find. 3: seat 64, before 13. 8: a free seat, before 13. 13: clearing; beside these specs/Scans.antt
+  pub scan : (findRefusal (threeIn clearing) 64 ≡ 3) × (findRefusal (threeIn clearing) 3 ≡ 8) × (findRefusal (threeIn clearing) 1 ≡ 13)
   -- reading a link. 3: seat 64; 63. 12: level 9, side 2; level 8 and side 1. 8: a free seat; a leaving lot
   pub link-3 : (linkRefusal farBytes 64 8 1 ≡ 3) × (linkRefusal farBytes 63 8 1 ≡ 0)
   pub link-12 : (linkRefusal (threeIn open-phase) 0 9 1 ≡ 12)

@@ -1,9 +1,9 @@
 -- What the check's answer says of sound bytes: yes exactly if the links are the skip graph of the members, and exactly if Constraints 1
--- to 6 hold and there is one level-0 list; no where a member's link names no member; yes without members, so of an opened record.
--- Assumes nothing.
+-- to 6 hold and there is one level-0 list; no where a member's link names no member or is not the graph's; yes without members, so of an
+-- opened record. Assumes nothing.
 use Prim.Native.Nat.{ℕ, _≤_}
 use mathlib.Core.Path.{_≡_, sym, ap, _∙_}
-use mathlib.Core.Logic.{_↔_}
+use mathlib.Core.Logic.{_↔_, _≢_}
 use mathlib.Core.Option.{some}
 use mathlib.Core.Bool.{Bool, true, false}
 use mathlib.Core.List.{List}
@@ -12,7 +12,7 @@ use lib.ListN.{length}
 use Rattle.memory.specs.Bytes.{AreBytes}
 use Rattle.graph.specs.Side.{Side}
 use Rattle.graph.specs.Vector.{width}
-use Rattle.graph.specs.Graph.{IsGraph}
+use Rattle.graph.specs.Graph.{graph, IsGraph}
 use Rattle.graph.specs.Constraints.{Constraints, OneList}
 use Rattle.base.proofs.Tests.{T-true, not-T-false}
 use Rattle.protocol.specs.State.{oneComponent, Meaning, nobody, opened, member, members}
@@ -50,6 +50,12 @@ module _ (l : List ℕ) (e : length l ≡ size) (b : AreBytes l) (s : sound l �
       → ¬ (T (member (seatsIn l) y))
       → checkIn l .yes ≡ false
   link-out-no x k y d m h f out = not-T-false (λ t. out (yes-constraints .0 (T-true t) .0 .within x k y d m h f))
+
+  -- a member's link that is not the graph's, at whatever level
+  pub link-wrong-no : (x k : ℕ) (d : Side) → T (member (seatsIn l) x) → k ≤ width
+      → meaning l .link x k d ≢ graph seats width (members oneComponent (seatsIn l)) x k d
+      → checkIn l .yes ≡ false
+  link-wrong-no x k d m h wrong = not-T-false (λ t. wrong (yes-graph .0 (T-true t) .link x k d m h))
 
   -- no members
   pub empty-yes : ((x : ℕ) → ¬ (T (member (seatsIn l) x))) → checkIn l .yes ≡ true

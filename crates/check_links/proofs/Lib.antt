@@ -3,4 +3,5 @@ pub mod Parts
 pub mod Runs
 pub mod Whole
 pub mod Facts
+pub mod Settled
 pub mod Determined

@@ -33,7 +33,7 @@ use Rattle.search.specs.inner.LinkCheck.{aboveOk, linksOk}
 use Rattle.search.proofs.Check.{eq-link}
 use Rattle.search.proofs.LinkCheck.{Sided}
 use Rattle.search.proofs.OneStart.{links-check}
-use Rattle.record.proofs.Refused.{record-passed}
+use Rattle.record.proofs.Reading.{record-accepted}
 use Rattle.check_links.proofs.Runs.{runOf, run-none, run-found}
 use Rattle.check_links.specs.Check.{checkIn}
 
@@ -85,6 +85,11 @@ module _ (l : List ℕ) (e : length l ≡ size) (b : AreBytes l) (s : sound l �
       ≡ check seats width (members oneComponent (seatsIn l)) (meaning l .link)
   links-right = links-check lots-laws links-sided (λ x y m n. refl)
 
+  -- and what the check says
+  pub links-say : linksOk seats width (members oneComponent (seatsIn l)) (meaning l .link) ≡ checkIn l .yes
+  unfolding checkIn
+  links-say = rw (record-accepted l e s) links-right
+
 -- the answers
 module _ (l : List ℕ) (n : ℕ) (e : n ≡ recordRefusal l) where
   pub refused-answer : n ≢ 0 → record { refused = n; yes = false } ≡ checkIn l
@@ -92,7 +97,6 @@ module _ (l : List ℕ) (n : ℕ) (e : n ≡ recordRefusal l) where
   refused-answer h = rw (← e, ne-eqb n 0 h)
 
   -- from what the test of the links answered
-  pub answer : AreBytes l → n ≡ 0 → {r : Bool} → r ≡ linksOk seats width (members oneComponent (seatsIn l)) (meaning l .link)
-      → record { refused = 0; yes = r } ≡ checkIn l
+  pub answer : n ≡ 0 → {r : Bool} → r ≡ checkIn l .yes → record { refused = 0; yes = r } ≡ checkIn l
   unfolding checkIn
-  answer b z q = let p = record-passed l e z in rw (← e, eq-eqb n 0 z, q, links-right l (p .sized) b (p .fine))
+  answer z q = rw (q, ← e, eq-eqb n 0 z)

@@ -14,7 +14,7 @@ ghost use Rattle.record.specs.Layout.{seats, levels, size};
 ghost use Rattle.record.specs.Meaning.{linkOf, seatsIn, meaning};
 ghost use Rattle.record.specs.Sound.{sound};
 ghost use Rattle.base.specs.Loops.{oneIf, all, count};
-ghost use Rattle.search.specs.inner.LinkCheck.{backOf, backsOk, startsAt, aheadOf, aboveOk, lotBacks, lotAboves, constraintsOk, linksOk};
+ghost use Rattle.search.specs.inner.LinkCheck.{backOf, backsOk, startsAt, aheadOf, aboveOk, lotBacks, lotAboves, constraintsOk};
 ghost use Rattle.check_links.specs.Check.{checkIn};
 ghost use Rattle.check_links.specs.Answer.{verdictNumbers, VerdictNumbered};
 use graph::LEFT;
@@ -189,10 +189,10 @@ fn starts(rec: &[u8]) -> usize
     n
 }
 
-// The whole test of the links.
-fn links_fit(rec: &[u8]) -> bool
+// The whole test of the links of a record that is known to be sound: whether the check says yes.
+pub fn links_fit(rec: &[u8]) -> bool
     requires { ⌜ (length (now rec) ≡ size) × (sound (now rec) ≡ true) ⌝ }
-    ensures { λ r. ⌜ (let l = now (rec .entry) in r ≡ linksOk seats width (members oneComponent (seatsIn l)) (meaning l .link)) ⌝ }
+    ensures { λ r. ⌜ r ≡ checkIn (now (rec .entry)) .yes ⌝ }
 {
     starts(rec) <= 1 && constraints_fit(rec)
 }

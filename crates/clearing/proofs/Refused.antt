@@ -1,32 +1,25 @@
 -- When a turn is refused, and that links name seats. Assumes nothing.
 use Prim.Native.Nat.{ℕ, _<_}
-use mathlib.Core.Path.{_≡_, refl, ap, _∙_}
-use mathlib.Core.Bool.{Bool, true, false, not, cond, _&&_}
+use mathlib.Core.Path.{_≡_, refl, _∙_}
+use mathlib.Core.Bool.{Bool, true, false, cond, _&&_}
 use mathlib.Core.Option.{none, some}
 use mathlib.Core.List.{List}
 use native.Mathlib.Omega.{arith}
 use lib.Dec.{ltb}
 use lib.ListN.{getD}
 use borrow.Author.Tests.{ltb-true}
-use Rattle.memory.specs.Bytes.{AreBytes, zeros}
-use Rattle.base.proofs.Cases.{not-not}
 use Rattle.graph.specs.Vector.{width}
 use Rattle.base.proofs.Tests.{some-inj, none-some}
 use Rattle.protocol.specs.Numbering.{somePending}
 use Rattle.protocol.specs.Refusals.{first}
 use Rattle.protocol.specs.Calls.{rows, turn}
-use Rattle.record.specs.Layout.{seats, levels, linkAt, pendingFrom, pendingSize}
+use Rattle.record.specs.Layout.{seats, levels, linkAt}
 use Rattle.record.specs.Meaning.{linkOf, meaning}
-use Rattle.record.proofs.Reading.{zeros-quiet}
 use Rattle.record.proofs.Refused.{Passed, record-goes}
 use Rattle.record.specs.Call.{callRefusal}
 use Rattle.clearing.specs.inner.Steps.{Linked}
 
 module _ (l : List ℕ) where
-  -- a message is pending exactly if a pending byte is not 0
-  pub pending-bytes : AreBytes l → not (zeros l pendingFrom pendingSize) ≡ somePending seats width (meaning l .pending)
-  pending-bytes b = ap not (zeros-quiet l b) ∙ not-not (somePending seats width (meaning l .pending))
-
   -- the record is not refused: the turn's row
   pub messages-left : Passed l → {b : Bool} → b ≡ somePending seats width (meaning l .pending) → callRefusal l turn ≡ cond b 11 0
   unfolding callRefusal first rows

@@ -5,7 +5,6 @@ ghost use lib.ListN.{length};
 ghost use Rattle.graph.specs.Vector.{width};
 ghost use Rattle.memory.specs.Bits.{hasBit};
 ghost use Rattle.base.specs.Loops.{oneIf, any};
-ghost use Rattle.protocol.specs.Numbering.{somePending};
 ghost use Rattle.protocol.specs.Calls.{turn as turning, accept};
 ghost use Rattle.protocol.specs.State.{leaves};
 ghost use Rattle.protocol.specs.pages.Turn.{farewell, farewells};
@@ -20,18 +19,20 @@ pub mod freeing;
 
 use graph::LEFT;
 use graph::RIGHT;
+use messages::first_pending;
 use messages::going_place;
 use record::Answer;
 use record::CLEARING;
 use record::LEVELS;
+use record::MESSAGES;
 use record::OPEN;
-use record::PENDING;
 use record::SEATS;
 use record::SIZE;
 use record::lots::is_leaving;
 use record::lots::link;
 use record::refusals::MESSAGES_LEFT;
 use record::refusals::WRONG_SIZE;
+use soundness::sized_refusal;
 
 // A test as a bit.
 fn one_if(b: bool) -> u64
@@ -138,13 +139,6 @@ fn carry_out(rec: &mut [u8])
     }
 }
 
-fn has_pending(rec: &[u8]) -> bool
-    requires { ⌜ length (now rec) ≡ size ⌝ }
-    ensures { λ r. ⌜ r ≡ somePending seats width (meaning (now (rec .entry)) .pending) ⌝ }
-{
-    !memory::zero_range(rec, PENDING, SIZE - PENDING)
-}
-
 // The refusal number of a turn, 0 if it is accepted. The pending bytes are looked at once.
 fn turn_refusal(rec: &[u8]) -> u8
     ensures { λ r. ⌜ r ≡ callRefusal (now (rec .entry)) turning ⌝ }
@@ -152,12 +146,12 @@ fn turn_refusal(rec: &[u8]) -> u8
     if rec.len() != SIZE {
         return WRONG_SIZE;
     }
-    let pending = has_pending(rec);
-    let n = soundness::sized_refusal(rec, !pending);
+    let first = first_pending(rec, 0);
+    let n = sized_refusal(rec, first);
     if n != 0 {
         return n;
     }
-    if pending {
+    if first < MESSAGES {
         return MESSAGES_LEFT;
     }
     0

@@ -2,5 +2,6 @@
 pub mod Read
 pub mod Steps
 pub mod Fits
-pub mod Settled
+pub mod Refused
+pub mod Scans
 pub mod Determined

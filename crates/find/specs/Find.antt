@@ -1,15 +1,17 @@
--- Find on the bytes (document 01, "Find"): the refusal number, 1, 2, 3, 8, or 0; the
--- holder and the hops of the search on the meaning. A refused answer has none and 0. Assumes nothing.
+-- Find on the bytes (document 01, "Find"; document 02, #102): the refusal number, 1, 2, 3, 8, 13, or 0; the holder and the hops of the search
+-- on the meaning. A refused answer has none and 0. Assumes nothing.
 use Prim.Native.Nat.{ℕ}
-use mathlib.Core.Bool.{cond}
+use mathlib.Core.Bool.{not, cond}
 use mathlib.Core.Option.{Option, none}
-use mathlib.Core.List.{List}
+use mathlib.Core.List.{List, [], _∷_}
 use lib.Dec.{eqb}
 use Rattle.graph.specs.Vector.{width}
+use Rattle.protocol.specs.Refusals.{unsettled, Row, row, first}
 use Rattle.record.specs.Layout.{seats}
 use Rattle.record.specs.Meaning.{seatsIn, meaning}
-use Rattle.record.specs.Reading.{seatedRefusal}
+use Rattle.record.specs.Reading.{sizeRow, soundRow, seatRow, emptyRow}
 use Rattle.search.specs.Walk.{Found, find}
+use Rattle.check_links.specs.Settled.{settled}
 
 pub record FindAnswer : Type 0 where
   pub refused : ℕ
@@ -20,8 +22,16 @@ pub record FindAnswer : Type 0 where
 abbrev pub searched : Found → FindAnswer
 searched f = record { refused = 0; holder = f .holder; hops = f .hops }
 
+-- unsettled: the phase is clearing, messages are pending, or the check says no
+abbrev pub unsettledRow : List ℕ → Row
+unsettledRow l = row unsettled (not (settled l))
+
+-- the refusal of a scan from seat s
+unfoldable pub findRefusal : List ℕ → (s : ℕ) → ℕ
+findRefusal l s = first (sizeRow l ∷ soundRow l ∷ seatRow s ∷ emptyRow l s ∷ unsettledRow l ∷ [])
+
 -- the search for x from the lot on seat s
 unfoldable pub findIn : List ℕ → (s x : ℕ) → FindAnswer
 findIn l s x =
-    let n = seatedRefusal l s in
+    let n = findRefusal l s in
     cond (eqb n 0) (searched (find (seatsIn l .number) (meaning l .link) x seats width s)) (record { refused = n; holder = none; hops = 0 })

@@ -1,21 +1,37 @@
 // The search for the lot of a scanned number over a lent record (document 01, "Find"): from the top level toward the number, a level down
 // where the link is none or lies beyond it, and at the end the lot that is not above it.
 ghost use mathlib.Core.Path.{_≡_};
+ghost use mathlib.Core.Bool.{true};
 ghost use Prim.Native.Nat.{_+_, _^_, _<_};
 ghost use lib.Dec.{T};
 ghost use Rattle.graph.specs.Vector.{width};
 ghost use Rattle.protocol.specs.State.{seated};
 ghost use lib.ListN.{length};
 ghost use Rattle.record.specs.Layout.{seats, levels, size};
+ghost use Rattle.record.specs.Sound.{sound};
 ghost use Rattle.record.specs.Meaning.{seatsIn, meaning};
 ghost use Rattle.graph.specs.Side.{sideOfNumber};
 ghost use Rattle.search.specs.Walk.{along as alongOf, stepAt, drop, holderAt, find as findOf};
-ghost use Rattle.find.specs.Find.{searched, findIn};
+ghost use Rattle.messages.specs.inner.Numbers.{firstPending};
+ghost use Rattle.check_links.specs.Settled.{settled};
+ghost use Rattle.find.specs.Find.{searched, findRefusal, findIn};
 ghost use Rattle.find.specs.Answer.{foundNumbers, FoundNumbered};
 ghost use Rattle.find.specs.inner.Steps.{asStep, Fit, Ready, Walked};
+use check_links::links_fit;
 use graph::LEFT;
 use graph::on_side;
 use graph::side_of;
+use messages::first_pending;
+use record::MESSAGES;
+use record::SEATS;
+use record::SIZE;
+use record::lots::is_clearing;
+use record::lots::is_seated;
+use record::refusals::EMPTY_SEAT;
+use record::refusals::NO_SUCH_SEAT;
+use record::refusals::UNSETTLED;
+use record::refusals::WRONG_SIZE;
+use soundness::sized_refusal;
 
 pub enum Found {
     Refused(u8),
@@ -37,11 +53,11 @@ fn along(rec: &[u8], s: usize, k: usize, d: usize, x: u64) -> usize
         (meaning (now (rec .entry)) .link s k (sideOfNumber d)) ≡ asStep r ⌝ }
 {
     let y = record::link(rec, s, k, d) as usize;
-    if y >= record::SEATS {
-        return record::SEATS;
+    if y >= SEATS {
+        return SEATS;
     }
     if on_side(d, x, record::number(rec, y)) {
-        return record::SEATS;
+        return SEATS;
     }
     y
 }
@@ -68,7 +84,7 @@ impl Walk {
             return self;
         }
         let y = step(rec, s, k, x);
-        if y < record::SEATS {
+        if y < SEATS {
             let w = Walk {
                 seat: y,
                 level: k,
@@ -110,7 +126,7 @@ fn held(rec: &[u8], s: usize, h: u64, x: u64) -> Found
         return Found::Holder(s as u8, h);
     }
     let y = record::link(rec, s, 0, LEFT);
-    if (y as usize) < record::SEATS {
+    if (y as usize) < SEATS {
         return Found::Holder(y, h + 1);
     }
     Found::Nobody(h)
@@ -131,11 +147,44 @@ fn search(rec: &[u8], s: usize, x: u64) -> Found
     held(rec, e.seat, e.hops, x)
 }
 
-// The lot that a scanned number belongs to, searched from the lot on a seat. Refused: 1, 2, 3, 8.
+// Whether a sound record is settled, where `first` is the place of its first pending message.
+fn is_settled(rec: &[u8], first: usize) -> bool
+    requires { ⌜ (length (now rec) ≡ size) × (sound (now rec) ≡ true) × (first ≡ firstPending (now rec) 0) ⌝ }
+    ensures { λ r. ⌜ r ≡ settled (now (rec .entry)) ⌝ }
+{
+    !is_clearing(rec) && (first == MESSAGES && links_fit(rec))
+}
+
+// The refusal of a scan from a seat: 1, 2, 3, 8, 13, or 0. The size, soundness and the pending bits are looked at once.
+fn find_refusal(rec: &[u8], seat: u8) -> u8
+    ensures { λ r. ⌜ r ≡ findRefusal (now (rec .entry)) seat ⌝ }
+{
+    if rec.len() != SIZE {
+        return WRONG_SIZE;
+    }
+    let first = first_pending(rec, 0);
+    let n = sized_refusal(rec, first);
+    if n != 0 {
+        return n;
+    }
+    let s = seat as usize;
+    if s >= SEATS {
+        return NO_SUCH_SEAT;
+    }
+    if !is_seated(rec, s) {
+        return EMPTY_SEAT;
+    }
+    if !is_settled(rec, first) {
+        return UNSETTLED;
+    }
+    0
+}
+
+// The lot that a scanned number belongs to, searched from the lot on a seat. Refused: 1, 2, 3, 8, 13.
 pub fn find(rec: &[u8], seat: u8, number: u64) -> Found
     ensures { λ r. ⌜ (foundNumbers r ≡ findIn (now (rec .entry)) seat number) × FoundNumbered r ⌝ }
 {
-    let n = reading::seated_refusal(rec, seat);
+    let n = find_refusal(rec, seat);
     if n != 0 {
         return Found::Refused(n);
     }

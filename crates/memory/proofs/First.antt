@@ -2,13 +2,10 @@
 use Prim.Native.Nat.{ℕ, zero, suc, _+_, _-_, _≤_, _<_}
 use mathlib.Core.Path.{_≡_, refl, sym, ap, _∙_}
 use mathlib.Core.Logic.{_⊎_, ⊎-elim, inl, inr}
-use mathlib.Core.Bool.{Bool, true, false, not}
+use mathlib.Core.Bool.{Bool, true, false}
 use native.Mathlib.Omega.{arith}
-use lib.Dec.{eqb}
-use borrow.Author.Tests.{eq-eqb, ne-eqb}
-use Rattle.base.specs.Loops.{all, any, firstFrom}
+use Rattle.base.specs.Loops.{any, firstFrom}
 use Rattle.base.proofs.Cases.{lt-or-ge, eq-or-ne, true-or-false}
-use Rattle.base.proofs.All.{all-from, all-fails}
 use Rattle.base.proofs.Any.{any-out}
 use Rattle.base.proofs.Tests.{true-T, false-T}
 
@@ -117,21 +114,6 @@ first-found e i k p a b h t = first-is (e - i) i p k (record { low = a; high = o
 -- i passes
 pub first-here : (e i : ℕ) (p : ℕ → Bool) → i < e → p i ≡ true → firstFrom (e - i) i p ≡ i
 first-here e i p l t = first-found e i i p (omega arith) l (λ j a b. absurd (omega arith)) t
-
--- the search finds none exactly if all fail
-pub first-all : (n i : ℕ) (p : ℕ → Bool) → eqb (firstFrom n i p) (i + n) ≡ all n (λ j. not (p (i + j)))
-first-all n i p =
-    let f = first n i p in
-    ⊎-elim
-    (λ e.
-    let fails = all-from n (λ j. not (p (i + j))) (λ j l. rw (f .before (i + j) (omega arith) (omega arith))) in
-    eq-eqb (firstFrom n i p) (i + n) e ∙ sym fails)
-    (λ ne.
-    let d = firstFrom n i p - i in
-    let e : i + d ≡ firstFrom n i p = omega (arith, f .low) in
-    let t : p (i + d) ≡ true = ap p e ∙ f .found (omega (arith, f .high, ne)) in
-    ne-eqb (firstFrom n i p) (i + n) ne ∙ sym (all-fails n d (λ j. not (p (i + j))) (omega (arith, f .high, ne)) (rw t)))
-    (eq-or-ne (firstFrom n i p) (i + n))
 
 -- one passes: it is found
 pub first-any : (n : ℕ) (p : ℕ → Bool) → any n p ≡ true → firstFrom n 0 p < n

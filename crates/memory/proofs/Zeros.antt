@@ -1,23 +1,19 @@
--- Bytes that are all 0: by their bits, by parts, by the or of the bytes, as code tests it, and by the number in them. Assumes nothing.
+-- Bytes that are all 0: by parts, by the or of the bytes, as code tests it, and by the number in them. Assumes nothing.
 use Prim.Native.Nat.{ℕ, zero, suc, _+_, _-_, _*_, _≤_, _<_}
 use mathlib.Core.Path.{_≡_, refl, sym, ap, _∙_}
-use mathlib.Core.Bool.{Bool, true, false, not, _&&_}
+use mathlib.Core.Bool.{Bool, true, _&&_}
 use mathlib.Core.List.{List}
 use native.Mathlib.Omega.{arith}
 use native.Mathlib.Numerals.{add-one}
 use lib.Bits.{bitOr, or-add-and, and-le-l, and-le-r}
 use lib.Dec.{eqb}
 use lib.ListN.{getD, replicate}
-use borrow.Author.Tests.{eq-eqb, eqb-true, not-true}
+use borrow.Author.Tests.{eqb-true}
 use Rattle.base.specs.Loops.{all, firstFrom}
-use Rattle.memory.specs.Bytes.{AreBytes, numberAt, isZero, nonZero, zeros}
-use Rattle.memory.specs.Bits.{hasBit, bitSet}
-use Rattle.base.proofs.Cases.{same-test, not-not, eqb-both}
-use Rattle.base.proofs.All.{all-at, all-from, all-same, all-product}
-use Rattle.memory.proofs.First.{first-skip, first-all}
-use Rattle.memory.proofs.Bits.{hasBit-none}
-use Rattle.memory.proofs.Packed.{bits-same}
-use Rattle.memory.proofs.Bitmap.{bitSet-byte}
+use Rattle.memory.specs.Bytes.{numberAt, isZero, nonZero, zeros}
+use Rattle.base.proofs.Cases.{eqb-both}
+use Rattle.base.proofs.All.{all-at}
+use Rattle.memory.proofs.First.{first-skip}
 
 -- an array made of zeros
 pub replicate-zero : (n i : ℕ) → getD {A = ℕ} (replicate n 0) i 0 ≡ 0
@@ -35,33 +31,6 @@ zeros-skip l e a n h z = first-skip e a (a + n) (nonZero l) (omega arith) h (λ 
     let at : a + (j - a) ≡ j = omega arith in
     let nil : getD l j 0 ≡ 0 = ap (λ (i : ℕ). getD l i 0) (sym at) ∙ zeros-at l a n (j - a) z (omega arith) in
     rw nil)
-
--- and they are all that it passes exactly if it finds none
-pub zeros-first : (l : List ℕ) (a n : ℕ) → eqb (firstFrom n a (nonZero l)) (a + n) ≡ zeros l a n
-zeros-first l a n =
-    first-all n a (nonZero l) ∙ all-same n (λ j. not (nonZero l (a + j))) (λ j. isZero l (a + j)) (λ j p. not-not (isZero l (a + j)))
-
--- a byte is 0 exactly if its eight bits are clear
-byte-zero : (x : ℕ) → x < 256 → eqb x 0 ≡ all 8 (λ j. not (hasBit x j))
-byte-zero x h =
-    same-test (eqb x 0) (all 8 (λ j. not (hasBit x j)))
-    (λ e. all-from 8 (λ j. not (hasBit x j)) (λ j p. rw (eqb-true x 0 e, hasBit-none j)))
-    (λ e. eq-eqb x 0 (bits-same 8 x 0 h (omega arith) (λ j p. clear e j p ∙ sym (hasBit-none j))))
-  where
-    clear : all 8 (λ j. not (hasBit x j)) ≡ true → (j : ℕ) → j < 8 → hasBit x j ≡ false
-    clear e j p = not-true (hasBit x j) (all-at 8 j (λ j. not (hasBit x j)) e p)
-
--- bytes are 0 exactly if all their bits are clear
-pub zeros-bits : (l : List ℕ) (a n : ℕ) → AreBytes l → zeros l a n ≡ all (n * 8) (λ i. not (bitSet l a i))
-zeros-bits l a n h =
-    all-same n (λ b. isZero l (a + b)) (λ b. all 8 (λ j. not (bitSet l a (b * 8 + j)))) (λ b p. byte b)
-    ∙ sym (all-product n 8 (λ i. not (bitSet l a i)))
-  where
-    byte : (b : ℕ) → isZero l (a + b) ≡ all 8 (λ j. not (bitSet l a (b * 8 + j)))
-    byte b =
-        let x = getD l (a + b) 0 in
-        byte-zero x (h (a + b))
-        ∙ all-same 8 (λ j. not (hasBit x j)) (λ j. not (bitSet l a (b * 8 + j))) (λ j q. ap not (sym (bitSet-byte l a b j q)))
 
 -- the or of the n bytes from a on
 unfoldable pub orOf : (l : List ℕ) (a n : ℕ) → ℕ

@@ -260,15 +260,6 @@ fn first_byte(rec: &[u8], at: usize, end: usize) -> usize
     end
 }
 
-// Whether the `len` bytes from `at` on are all 0.
-pub fn zero_range(rec: &[u8], at: usize, len: usize) -> bool
-    requires { ⌜ at + len ≤ length (now rec) ⌝ }
-    ensures { λ r. ⌜ r ≡ zeros (now (rec .entry)) at len ⌝ }
-{
-    let end = at + len;
-    first_byte(rec, at, end) == end
-}
-
 // The first set bit of a byte at or after `from`, else 8.
 fn first_in_byte(x: u8, from: usize) -> usize
     requires { ⌜ from < 8 ⌝ }

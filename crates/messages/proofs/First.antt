@@ -2,26 +2,31 @@
 -- message is the smallest pending one at or after them; and from a place below which nothing is pending it is the smallest of all. Assumes
 -- nothing.
 use Prim.Native.Nat.{ℕ, _-_, _≤_, _<_}
-use mathlib.Core.Path.{_≡_, sym}
+use mathlib.Core.Path.{_≡_, sym, _∙_}
 use mathlib.Core.Option.{none, some}
 use mathlib.Core.Logic.{⊎-elim}
-use mathlib.Core.Bool.{Bool, false}
+use mathlib.Core.Bool.{Bool, true, false, not}
 use mathlib.Core.List.{List}
 use native.Mathlib.Omega.{arith}
-use Rattle.base.specs.Loops.{firstFrom}
-use Rattle.base.proofs.Cases.{lt-or-ge}
+use lib.Dec.{eqb}
+use borrow.Author.Tests.{eq-eqb, ne-eqb}
+use Rattle.base.specs.Loops.{count, firstFrom}
+use Rattle.base.proofs.Any.{any-in, none-any}
+use Rattle.base.proofs.Cases.{lt-or-ge, eq-or-ne}
+use Rattle.base.proofs.Count.{count-zero}
+use Rattle.base.proofs.Tests.{T-true, true-T, false-T}
 use Rattle.memory.specs.Bits.{bitSet}
 use Rattle.memory.proofs.First.{IsFirst, first, first-same}
 use Rattle.graph.specs.Vector.{width}
 use Rattle.protocol.specs.Message.{Msg, Name, name}
-use Rattle.protocol.specs.Numbering.{messageAt}
+use Rattle.protocol.specs.Numbering.{messageAt, somePending}
 use Rattle.protocol.specs.Order.{smallestFrom, smallest}
 use Rattle.protocol.specs.inner.PlaceFrom.{fromKind, placeFrom}
 use Rattle.protocol.proofs.Smallest.{smallest-first, none-first}
 use Rattle.record.specs.Layout.{seats, messages, pendingFrom}
 use Rattle.record.specs.Meaning.{meaning}
 use Rattle.record.proofs.Form.{meaning-bit}
-use Rattle.messages.specs.inner.Numbers.{firstPending}
+use Rattle.messages.specs.inner.Numbers.{firstPending, NoneBefore}
 
 module _ (l : List ℕ) (from : ℕ) (h : from ≤ messages) where
   -- it is the first set bit
@@ -75,3 +80,33 @@ module _ (l : List ℕ) (from : ℕ) (clear : (j : ℕ) → j < from → meaning
 
   pub first-none : firstPending l from ≡ messages → smallest seats width (meaning l .pending) ≡ none
   first-none e = none-first seats width (meaning l .pending) (name 0 0 0 0 0) (λ j a b. first-clear j (rw e b))
+
+pub none-before-zero : (l : List ℕ) → NoneBefore l 0
+none-before-zero l = record { within = omega arith; clear = λ j h. absurd (omega arith) }
+
+-- nothing is pending by the count
+pub none-before-end : (l : List ℕ) → count messages (bitSet l pendingFrom) ≡ 0 → NoneBefore l messages
+none-before-end l e = record { within = omega arith; clear = count-zero messages (bitSet l pendingFrom) .0 e }
+
+-- the first place of all: nothing is pending before it, and something is exactly if it is a place
+module _ (l : List ℕ) {i : ℕ} (e : i ≡ firstPending l 0) where
+  of-all : IsFirst messages 0 (bitSet l pendingFrom) i
+  of-all = rw (e, ← first-pending-bit l 0 (omega arith)) (first messages 0 (bitSet l pendingFrom))
+
+  pub none-before-first : NoneBefore l i
+  none-before-first = record { within = omega (arith, of-all .high); clear = λ j h. of-all .before j (omega arith) h }
+
+  pub quiet-pending : messages ≤ i → somePending seats width (meaning l .pending) ≡ false
+  unfolding somePending
+  quiet-pending h = none-any messages (λ i. meaning l .pending (messageAt seats width i))
+      (λ j p t. false-T (meaning-bit l j p ∙ of-all .before j (omega arith) (omega arith)) t)
+
+  pub some-pending : i < messages → somePending seats width (meaning l .pending) ≡ true
+  unfolding somePending
+  some-pending h = T-true (any-in messages (λ i. meaning l .pending (messageAt seats width i)) i h (true-T (meaning-bit l i h ∙ of-all .found h)))
+
+  pub quiet-test : eqb i messages ≡ not (somePending seats width (meaning l .pending))
+  quiet-test = ⊎-elim
+      (λ z. rw (eq-eqb i messages z, quiet-pending (omega arith)))
+      (λ ne. rw (ne-eqb i messages ne, some-pending (omega (arith, of-all .high, ne))))
+      (eq-or-ne i messages)

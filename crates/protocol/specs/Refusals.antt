@@ -1,5 +1,5 @@
--- The refusals of document 01 ("Refused calls"): their names, the one list that gives their order, and the refusal of a call from the rows
--- that it meets. Assumes nothing.
+-- The refusals of document 01 ("Refused calls") and of the requests of document 02: their names, the one list that gives their order, and the
+-- refusal of a call from the rows that it meets. Assumes nothing.
 use Prim.Native.Nat.{ℕ}
 use mathlib.Core.Bool.{Bool, false, cond}
 use mathlib.Core.List.{List, [], _∷_}
@@ -42,6 +42,9 @@ messagesLeft = 11
 abbrev pub noSuchLevel : ℕ
 noSuchLevel = 12
 
+abbrev pub unsettled : ℕ
+unsettled = 13
+
 -- the order in which they are tested: the first that applies is given
 abbrev pub order : List ℕ
 order =
@@ -52,6 +55,7 @@ order =
     ∷ inClearing
     ∷ seatTaken
     ∷ emptySeat
+    ∷ unsettled
     ∷ numberInUse
     ∷ noContact
     ∷ alreadyLeaving

@@ -15,8 +15,8 @@ use Rattle.protocol.proofs.Calls.{no-row}
 use Rattle.record.specs.Layout.{seats, levels, size}
 use Rattle.record.specs.Meaning.{seatsIn}
 use Rattle.record.specs.Sound.{sound}
-use Rattle.record.specs.Reading.{sizeRow, soundRow, seatRow, levelRow, emptyRow, freeRow, lotRefusal, seatedRefusal, linkRefusal}
-use Rattle.record.proofs.Reading.{lotRefusal-is, seatedRefusal-is, linkRefusal-is}
+use Rattle.record.specs.Reading.{sizeRow, soundRow, seatRow, levelRow, emptyRow, freeRow, lotRefusal, linkRefusal}
+use Rattle.record.proofs.Reading.{lotRefusal-is, linkRefusal-is}
 use Rattle.record.proofs.Refused.{chain-stops, Later, Passed, rows-passed}
 
 or-false : (a b : Bool) → a || b ≡ false → (a ≡ false) × (b ≡ false)
@@ -60,10 +60,6 @@ module _ (l : List ℕ) (s : ℕ) where
   unfolding first
   lot-rest (a, h) = lotRefusal-is l (a .sized) (a .fine) s ∙ rw (lt-ltb s seats h)
 
-  pub seated-rest : Passed l × (s < seats) → seatedRefusal l s ≡ first (emptyRow l s ∷ [])
-  unfolding first
-  seated-rest (a, h) = seatedRefusal-is l (a .sized) (a .fine) s ∙ rw (lt-ltb s seats h)
-
   pub link-rest : (k d : ℕ) → Passed l × (s < seats) → linkRefusal l s k d ≡ first (levelRow k d ∷ emptyRow l s ∷ [])
   unfolding first
   link-rest k d (a, h) = linkRefusal-is l (a .sized) (a .fine) s k d ∙ rw (lt-ltb s seats h)
@@ -85,13 +81,6 @@ module _ (l : List ℕ) (s : ℕ) where
       let p = seat-there (freeRow l s ∷ []) (refl, refl) (sym e ∙ z) in
       let free = no-row (sizeRow l ∷ soundRow l ∷ seatRow s ∷ freeRow l s ∷ []) emptySeat tt (sym e ∙ z) in
       record { accepted = p .0; seat = p .1; there = true-T (not-false (taken (seatsIn l) s) free) }
-
-  pub seated-passed : {n : ℕ} → n ≡ seatedRefusal l s → n ≡ 0 → Lot l s
-  unfolding seatedRefusal
-  seated-passed e z =
-      let p = seat-there (emptyRow l s ∷ []) (refl, refl) (sym e ∙ z) in
-      let none = no-row (sizeRow l ∷ soundRow l ∷ seatRow s ∷ emptyRow l s ∷ []) emptySeat tt (sym e ∙ z) in
-      record { accepted = p .0; seat = p .1; lot = true-T (not-false (seated (seatsIn l) s) none) }
 
   -- nor 12
   pub link-passed : (k d : ℕ) {n : ℕ} → n ≡ linkRefusal l s k d → n ≡ 0 → Lot l s × (k < levels) × (d < 2)

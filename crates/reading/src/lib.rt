@@ -3,7 +3,7 @@
 ghost use mathlib.Core.Path.{_≡_};
 ghost use Rattle.protocol.specs.Message.{name};
 ghost use Rattle.record.specs.Answer.{numberOf, Numbered};
-ghost use Rattle.record.specs.Reading.{lotRefusal, seatedRefusal, linkRefusal, openRefusal, openBytes, readLot, readLink, readMessage, readCounts};
+ghost use Rattle.record.specs.Reading.{lotRefusal, linkRefusal, openRefusal, openBytes, readLot, readLink, readMessage, readCounts};
 ghost use Rattle.reading.specs.Answer.{lotNumbers, LotNumbered, linkNumbers, LinkNumbered};
 ghost use Rattle.reading.specs.Answer.{messageNumbers, MessageNumbered, countNumbers, CountsNumbered};
 
@@ -63,18 +63,7 @@ pub fn lot_refusal(rec: &[u8], seat: u8) -> u8
     free_refusal(rec, seat as usize)
 }
 
-// A seated lot on a seat of a lent record: 1, 2, 3, 8, or 0.
-pub fn seated_refusal(rec: &[u8], seat: u8) -> u8
-    ensures { λ r. ⌜ r ≡ seatedRefusal (now (rec .entry)) seat ⌝ }
-{
-    let n = seat_refusal(rec, seat);
-    if n != 0 {
-        return n;
-    }
-    empty_refusal(rec, seat as usize)
-}
-
-// A link of such a lot: 1, 2, 3, 12, 8, or 0.
+// A link of a lot: 1, 2, 3, 12, 8, or 0.
 pub fn link_refusal(rec: &[u8], seat: u8, level: u8, side: u8) -> u8
     ensures { λ r. ⌜ r ≡ linkRefusal (now (rec .entry)) seat level side ⌝ }
 {
@@ -158,7 +147,7 @@ pub fn read_counts(rec: &[u8]) -> CountsRead
         return CountsRead::Refused(WRONG_SIZE);
     }
     let pending = memory::count_bits(rec, PENDING, MESSAGES);
-    let n = sized_refusal(rec, pending == 0);
+    let n = sized_refusal(rec, if pending == 0 { MESSAGES } else { 0 });
     if n != 0 {
         return CountsRead::Refused(n);
     }

@@ -3,18 +3,14 @@
 use Prim.Native.Nat.{ℕ, _<_}
 use mathlib.Core.Path.{_≡_, refl, sym, ap, _∙_}
 use mathlib.Core.Logic.{_↔_}
-use mathlib.Core.Bool.{true, false, not, _||_}
+use mathlib.Core.Bool.{true, false}
 use mathlib.Core.List.{List, [], _∷_}
 use lib.Dec.{T}
 use lib.ListN.{length}
-use borrow.Author.Tests.{lt-ltb, not-true}
-use Rattle.base.specs.Loops.{oneIf, all, count as howMany}
-use Rattle.memory.specs.Bytes.{AreBytes, zeros}
+use borrow.Author.Tests.{lt-ltb}
+use Rattle.base.specs.Loops.{oneIf, count as howMany}
 use Rattle.memory.specs.Bits.{bitSet}
-use Rattle.base.proofs.Cases.{same-test}
-use Rattle.base.proofs.All.{all-at, all-from}
 use Rattle.base.proofs.Count.{count-same, count-zero}
-use Rattle.memory.proofs.Zeros.{zeros-bits}
 use Rattle.graph.specs.Side.{Side, sideNumber}
 use Rattle.graph.specs.Vector.{width}
 use Rattle.base.proofs.Tests.{T-true}
@@ -22,16 +18,15 @@ use Rattle.protocol.specs.Message.{Msg, Name, nameOf, named}
 use Rattle.protocol.specs.Numbering.{place, messageAt, somePending}
 use Rattle.protocol.specs.State.{Meaning, isFree, taken, seated, isPending}
 use Rattle.protocol.specs.Refusals.{first}
-use Rattle.protocol.specs.Sound.{messageOk}
 use Rattle.protocol.proofs.Message.{named-name}
 use Rattle.protocol.proofs.Numbering.{sideNumber-lt, messageAt-place, none-pending, pending-none}
-use Rattle.record.specs.Layout.{seats, levels, messages, pendingFrom, pendingSize, size}
+use Rattle.record.specs.Layout.{seats, levels, messages, pendingFrom, size}
 use Rattle.record.specs.Meaning.{meaning, seatsIn, phaseByte, stateByte, linkByte}
-use Rattle.record.specs.Sound.{messagesFit, sound}
+use Rattle.record.specs.Sound.{sound}
 use Rattle.record.specs.Reading.{seatRow, emptyRow, freeRow, levelRow}
-use Rattle.record.specs.Reading.{lotRefusal, seatedRefusal, linkRefusal, recordRefusal, readLot, readLink, readMessage, readCounts}
+use Rattle.record.specs.Reading.{lotRefusal, linkRefusal, recordRefusal, readLot, readLink, readMessage, readCounts}
 use Rattle.record.proofs.Places.{place-within, exists-at, side-sideNumber}
-use Rattle.record.proofs.Form.{meaning-pending, meaning-bit}
+use Rattle.record.proofs.Form.{meaning-bit}
 use Rattle.record.proofs.Refused.{Passed, record-goes}
 
 -- how many messages are pending
@@ -55,34 +50,6 @@ module _ (l : List ℕ) where
   pub count-bits : howMany messages (bitSet l pendingFrom) ≡ pendingCount (meaning l)
   count-bits = count-same messages (bitSet l pendingFrom) (λ i. meaning l .pending (messageAt seats width i)) (λ i h. sym (meaning-bit l i h))
 
-  -- none exactly if the pending bytes are 0
-  pub zeros-quiet : AreBytes l → zeros l pendingFrom pendingSize ≡ not (somePending seats width (meaning l .pending))
-  zeros-quiet b = same-test (zeros l pendingFrom pendingSize) (not (somePending seats width (meaning l .pending))) to from
-    where
-      bits : zeros l pendingFrom pendingSize ≡ all messages (λ i. not (bitSet l pendingFrom i))
-      bits = zeros-bits l pendingFrom pendingSize b
-
-      to : zeros l pendingFrom pendingSize ≡ true → not (somePending seats width (meaning l .pending)) ≡ true
-      to z = ap not (pending-none seats width (meaning l .pending) (λ m x.
-          let clear = all-at messages (place seats width m) (λ i. not (bitSet l pendingFrom i)) (sym bits ∙ z) (place-within m x) in
-          meaning-pending l m x ∙ not-true (bitSet l pendingFrom (place seats width m)) clear))
-
-      from : not (somePending seats width (meaning l .pending)) ≡ true → zeros l pendingFrom pendingSize ≡ true
-      from q =
-          let quiet = none-pending seats width (meaning l .pending) (not-true (somePending seats width (meaning l .pending)) q) in
-          bits ∙ all-from messages _ (λ i h. ap not (sym (meaning-bit l i h) ∙ quiet (messageAt seats width i) (exists-at i h)))
-
-  -- messages fit where none is pending, by the bits, the meaning or the count
-  pub clear-fit : ((i : ℕ) → i < messages → bitSet l pendingFrom i ≡ false) → messagesFit l ≡ true
-  unfolding messagesFit
-  clear-fit h = all-from messages (λ i. not (bitSet l pendingFrom i) || messageOk width (seatsIn l) (messageAt seats width i)) (λ i p. rw (h i p))
-
-  pub quiet-fit : somePending seats width (meaning l .pending) ≡ false → messagesFit l ≡ true
-  quiet-fit e = clear-fit (λ i h. sym (meaning-bit l i h) ∙ none-pending seats width (meaning l .pending) e (messageAt seats width i) (exists-at i h))
-
-  pub count-fit : howMany messages (bitSet l pendingFrom) ≡ 0 → messagesFit l ≡ true
-  count-fit e = clear-fit (count-zero messages (bitSet l pendingFrom) .0 e)
-
 module _ (l : List ℕ) (e : length l ≡ size) (s : sound l ≡ true) where
   passed : Passed l
   passed = record { sized = e; fine = s }
@@ -95,10 +62,6 @@ module _ (l : List ℕ) (e : length l ≡ size) (s : sound l ≡ true) where
   pub lotRefusal-is : (x : ℕ) → lotRefusal l x ≡ first (seatRow x ∷ freeRow l x ∷ [])
   unfolding lotRefusal
   lotRefusal-is x = record-goes l (seatRow x ∷ freeRow l x ∷ []) (refl, refl) passed
-
-  pub seatedRefusal-is : (x : ℕ) → seatedRefusal l x ≡ first (seatRow x ∷ emptyRow l x ∷ [])
-  unfolding seatedRefusal
-  seatedRefusal-is x = record-goes l (seatRow x ∷ emptyRow l x ∷ []) (refl, refl) passed
 
   pub linkRefusal-is : (x k d : ℕ) → linkRefusal l x k d ≡ first (seatRow x ∷ levelRow k d ∷ emptyRow l x ∷ [])
   unfolding linkRefusal
@@ -128,10 +91,6 @@ module _ (l : List ℕ) (e : length l ≡ size) (s : sound l ≡ true) where
     here : seated (seatsIn l) x ≡ true
     unfolding meaning
     here = T-true t
-
-    pub seated-accepted : seatedRefusal l x ≡ 0
-    unfolding first
-    seated-accepted = seatedRefusal-is x ∙ rw (lt-ltb x seats h, here)
 
     pub link-accepted : (k d : ℕ) → k < levels → d < 2 → linkRefusal l x k d ≡ 0
     unfolding first

@@ -52,10 +52,6 @@ pub record LotAnswer : Type 0 where
 unfoldable pub lotRefusal : List ℕ → (s : ℕ) → ℕ
 lotRefusal l s = first (sizeRow l ∷ soundRow l ∷ seatRow s ∷ freeRow l s ∷ [])
 
--- the refusal of a call that names a seated lot
-unfoldable pub seatedRefusal : List ℕ → (s : ℕ) → ℕ
-seatedRefusal l s = first (sizeRow l ∷ soundRow l ∷ seatRow s ∷ emptyRow l s ∷ [])
-
 unfoldable pub readLot : List ℕ → (s : ℕ) → LotAnswer
 readLot l s = let n = lotRefusal l s in
     cond (eqb n 0) (record { refused = 0; state = stateByte (seatsIn l .state s); number = seatsIn l .number s; vector = seatsIn l .vector s })

@@ -22,3 +22,5 @@ pub const NO_SUCH_MESSAGE: u8 = 10;
 pub const MESSAGES_LEFT: u8 = 11;
 
 pub const NO_SUCH_LEVEL: u8 = 12;
+
+pub const UNSETTLED: u8 = 13;

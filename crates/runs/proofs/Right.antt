@@ -1,36 +1,32 @@
 -- The three demands meet, after every list and by demand 3 alone: with nothing pending the check says yes; in phase open the record is settled
--- and a search from any lot names the right holder; in clearing the turn meets no link to a freed seat of a staying lot. Assumes nothing.
+-- and a search from any lot is accepted and names the right holder, else it is refused with 13; in clearing the turn meets no link to a freed
+-- seat of a staying lot. Assumes nothing.
 use Prim.Native.Nat.{ℕ, _<_}
 use mathlib.Core.Path.{_≡_, refl, sym, ap, _∙_, subst}
-use mathlib.Core.Logic.{_≢_}
+use mathlib.Core.Logic.{_≢_, _⊎_, ⊎-elim}
 use mathlib.Core.Bool.{true}
 use mathlib.Core.List.{List, []}
 use lib.Dec.{T}
-use lib.ListN.{length}
-use borrow.Author.Tests.{lt-ltb, eq-eqb}
 use Rattle.memory.specs.Bytes.{AreBytes}
 use Rattle.graph.specs.Side.{Side, sideNumber}
 use Rattle.graph.specs.Vector.{width}
-use Rattle.base.proofs.Tests.{T-true}
 use Rattle.protocol.specs.State.{open-phase, clearing, Seats, Meaning, nobody, seated, stays, leaves}
 use Rattle.protocol.specs.Calls.{Call, turn}
 use Rattle.protocol.specs.Bundle.{Item, spread}
-use Rattle.protocol.specs.Refusals.{first}
+use Rattle.protocol.specs.Refusals.{unsettled}
 use Rattle.protocol.specs.Sound.{Sound}
 use Rattle.protocol.specs.Run.{stepsFrom, steps, logOf, rosterOf, pendingOf, NothingPending}
-use Rattle.protocol.proofs.SoundFacts.{seated-below}
-use Rattle.record.specs.Layout.{seats, levels, size}
+use Rattle.record.specs.Layout.{seats, levels}
 use Rattle.record.specs.Meaning.{seatsIn, bytesOf}
-use Rattle.record.specs.Reading.{openRefusal, openBytes, seatedRefusal, readLink}
+use Rattle.record.specs.Reading.{openRefusal, openBytes, readLink, readCounts}
 use Rattle.record.specs.Call.{called}
 use Rattle.record.specs.Bundle.{bundleIn}
-use Rattle.record.proofs.Places.{length-bytesOf}
 use Rattle.record.proofs.Form.{meaning-seats}
 use Rattle.record.proofs.Round.{meaning-bytes, bytes-bytes}
-use Rattle.record.proofs.Sound.{bytes-sound}
 use Rattle.search.specs.Walk.{find}
 use Rattle.search.specs.Right.{RightHolder}
-use Rattle.find.specs.Find.{findIn}
+use Rattle.find.specs.Find.{searched, findIn}
+use Rattle.find.proofs.Scans.{settled-accepted, find-says}
 use Rattle.check_links.specs.Check.{checkIn}
 use Rattle.check_links.specs.Settled.{settled}
 use Rattle.runs.specs.Typed.{AllTyped}
@@ -38,20 +34,19 @@ use Rattle.runs.specs.Run.{bytesRun, listRun, meant, roster, Demand3}
 use Rattle.runs.proofs.Typed.{all-typed}
 use Rattle.runs.proofs.Same.{run-same}
 use Rattle.runs.proofs.Theorem.{bound, open-sized, every-list}
-use Rattle.runs.proofs.Uses.{check-yes, is-settled-now, right-holder}
+use Rattle.runs.proofs.Uses.{check-yes, is-settled-now, right-holder, waits-pending, waits-clearing}
 use Rattle.runs.proofs.Unmet.{never-met, turn-keeps}
 
--- what find answers on the bytes of a sound meaning
+-- what find answers on the bytes of a sound meaning that are settled
 module _ (M : Meaning) (h : Sound seats width M) where
-  seats-bytes : seatsIn (bytesOf M) ≡ M .seats
+  pub seats-bytes : seatsIn (bytesOf M) ≡ M .seats
   seats-bytes = sym (meaning-seats (bytesOf M)) ∙ ap (λ (X : Meaning). X .seats) (meaning-bytes h)
 
-  pub find-bytes : (s x : ℕ) → T (seated (M .seats) s)
-      → findIn (bytesOf M) s x ≡ (let f = find (M .seats .number) (M .link) x seats width s in record { refused = 0; holder = f .holder; hops = f .hops })
-  unfolding findIn seatedRefusal first
-  find-bytes s x m =
-      let f : seated (M .seats) s ≡ true = T-true m in
-      rw (eq-eqb (length (bytesOf M)) size (length-bytesOf M), bytes-sound h, lt-ltb s seats (seated-below h s m), seats-bytes, f, meaning-bytes h)
+  pub find-bytes : settled (bytesOf M) ≡ true → (s x : ℕ) → T (seated (M .seats) s)
+      → findIn (bytesOf M) s x ≡ searched (find (M .seats .number) (M .link) x seats width s)
+  find-bytes e s x m =
+      find-says (bytesOf M) s x (settled-accepted (bytesOf M) (bytes-bytes M) e s (rw seats-bytes m))
+      ∙ rw (seats-bytes, meaning-bytes h)
 
 module _ (l : List ℕ) (e : openRefusal l ≡ 0) (is : List (Item Call)) (t : AllTyped is) where
   -- the bytes after the list, and the roster's seats
@@ -68,6 +63,10 @@ module _ (l : List ℕ) (e : openRefusal l ≡ 0) (is : List (Item Call)) (t : A
 
   D : Demand3 bound (listRun l is)
   D = every-list l e is t
+
+  -- while messages are pending or the phase is clearing a search from a lot waits
+  pub waits : (readCounts here .pending ≢ 0) ⊎ (R .phase ≡ clearing) → (s x : ℕ) → T (seated R s) → findIn here s x .refused ≡ unsettled
+  waits w s x m = ⊎-elim (waits-pending D run-bytes s x m) (waits-clearing D run-bytes s x m) w
 
   module _ (q : NothingPending seats width (meant (listRun l is .history))) where
     pub checked : checkIn here ≡ record { refused = 0; yes = true }

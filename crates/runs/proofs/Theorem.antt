@@ -102,7 +102,7 @@ carried s t h D = record {
         (sym (h .history)) (D .graph) q
         .link x k d m (omega arith)
 
-in-range : (l : List ℕ) → openRefusal l ≡ 0 → (cs : List Call) → AllInRange seats width cs → Demand3 bound (bytesRun l cs)
+pub in-range : (l : List ℕ) → openRefusal l ≡ 0 → (cs : List Call) → AllInRange seats width cs → Demand3 bound (bytesRun l cs)
 in-range l e cs r = carried (bytesRun l cs) (meaningRun seats width cs) (run-same l (open-sized l e) cs r) (protocol-theorem.every-list seats width cs r)
 
 -- bundles stand for their deliveries, and the arguments are any that the types of the code can hold

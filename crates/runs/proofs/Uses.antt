@@ -1,41 +1,51 @@
 -- What follows from demand 3, and from it alone, of any standing: with nothing pending the links are the graph's, so the check says yes; in
--- phase open the record is settled, and a search from any lot names the right holder. Assumes only that its bytes are bytes.
+-- phase open the record is settled, and a search from any lot is not refused and names the right holder. While messages are pending or the
+-- phase is clearing it is refused with 13. Assumes only that its bytes are bytes.
 use Prim.Native.Nat.{ℕ, _≤_}
 use mathlib.Core.Path.{_≡_, sym, ap, _∙_, subst}
+use mathlib.Core.Logic.{_≢_, inl, inr, ⊎-elim}
 use mathlib.Core.Option.{Option}
 use mathlib.Core.Bool.{Bool, true, false}
 use mathlib.Core.List.{List}
 use native.Mathlib.Omega.{arith}
 use lib.Dec.{T}
+use Rattle.base.proofs.Cases.{true-or-false}
 use Rattle.memory.specs.Bytes.{AreBytes}
 use Rattle.graph.specs.Side.{Side, sideNumber}
 use Rattle.graph.specs.Vector.{width}
 use Rattle.graph.specs.Graph.{Laws, graph, IsGraph}
 use Rattle.protocol.specs.Numbering.{somePending}
-use Rattle.protocol.specs.State.{oneComponent, open-phase, Seats, seated, member, members}
+use Rattle.protocol.specs.Refusals.{unsettled}
+use Rattle.protocol.specs.State.{oneComponent, Phase, open-phase, clearing, isClearing, Seats, seated, member, members}
 use Rattle.protocol.specs.Run.{Standing, membersOf, NothingPending}
 use Rattle.protocol.proofs.SoundFacts.{seated-below, seated-taken}
 use Rattle.protocol.proofs.Reached.{member-seated, members-laws}
 use Rattle.record.specs.Layout.{seats}
-use Rattle.record.specs.Meaning.{seatsIn, meaning, linkOf, linkByte}
+use Rattle.record.specs.Meaning.{seatsIn, meaning, linkOf, linkByte, phaseOf, phaseByte}
 use Rattle.record.specs.Reading.{LinkAnswer, readLink, CountAnswer, readCounts}
-use Rattle.record.proofs.Reading.{pendingCount-zero, link-read, counts-read}
+use Rattle.record.proofs.Reading.{pendingCount, pendingCount-zero, link-read, counts-read}
 use Rattle.record.proofs.Round.{link-seat}
-use Rattle.record.proofs.Values.{NamesSeat, linkOf-linkByte}
+use Rattle.record.proofs.Values.{NamesSeat, linkOf-linkByte, phaseOf-phaseByte}
 use Rattle.search.specs.Right.{RightHolder}
 use Rattle.search.proofs.Check.{check-graph}
 use Rattle.search.proofs.Agree.{member-there, agree-laws, graph-agrees, graph-member, holder-agrees}
-use Rattle.find.specs.Find.{findIn}
-use Rattle.find.proofs.Settled.{is-settled, settled-holder}
+use Rattle.find.specs.Find.{FindAnswer, findIn}
+use Rattle.find.proofs.Scans.{settled-accepted, unsettled-refused, find-refused, accepted-holder}
 use Rattle.check_links.specs.Check.{CheckAnswer, checkIn}
 use Rattle.check_links.specs.Settled.{settled}
 use Rattle.check_links.proofs.Facts.{check-says}
+use Rattle.check_links.proofs.Settled.{unsettled-exactly, is-settled}
 use Rattle.runs.specs.Run.{meant, roster, Demand3}
 use Rattle.runs.proofs.SameLots.{passed, same-phase, fine, same-seat, same-seated, agree}
 
 -- a link is known by its byte
 same-link : (o p : Option ℕ) → NamesSeat o → NamesSeat p → linkByte o ≡ linkByte p → o ≡ p
 same-link o p h g e = sym (linkOf-linkByte o h) ∙ ap linkOf e ∙ linkOf-linkByte p g
+
+-- a phase that reads 0 is open
+zero-open : (p : Phase) → phaseByte p ≡ 0 → p ≡ open-phase
+unfolding phaseOf
+zero-open p e = sym (phaseOf-phaseByte p) ∙ ap phaseOf e
 
 module _ {bound : List ℕ → ℕ} {s : Standing (List ℕ)} (D : Demand3 bound s) (b : AreBytes (s .now)) where
   -- the bytes and the roster's seats
@@ -60,6 +70,16 @@ module _ {bound : List ℕ → ℕ} {s : Standing (List ℕ)} (D : Demand3 bound
       let t = member-seated (seatsIn l) x m in
       link-read l (passed D .sized) (passed D .fine) x (seated-below (fine D b) x t) t k d (omega arith)
 
+  lot-here : (x : ℕ) → T (seated R x) → T (seated (seatsIn l) x)
+  lot-here x m = subst (λ (t : Bool). T t) (sym (same-seated D b x)) m
+
+  -- the count by the bytes
+  counted : readCounts l .pending ≡ pendingCount (meaning l)
+  counted = ap (λ (a : CountAnswer). a .pending) (counts-read l (passed D .sized) (passed D .fine))
+
+  none-counted : somePending seats width (meaning l .pending) ≡ false → readCounts l .pending ≡ 0
+  none-counted q = counted ∙ pendingCount-zero (meaning l) .1 q
+
   module _ (q : NothingPending seats width (meant (s .history))) where
     -- a member's link is the one of the roster's graph
     pub link-is : (x k : ℕ) (d : Side) → T (member (seatsIn l) x) → k ≤ width
@@ -81,8 +101,7 @@ module _ {bound : List ℕ → ℕ} {s : Standing (List ℕ)} (D : Demand3 bound
 
     -- nothing is pending by the bytes
     pub quiet : somePending seats width (meaning l .pending) ≡ false
-    quiet = pendingCount-zero (meaning l) .0
-        (omega (arith, ap (λ (a : CountAnswer). a .pending) (counts-read l (passed D .sized) (passed D .fine)), D .none-left .1 q))
+    quiet = pendingCount-zero (meaning l) .0 (sym counted ∙ D .none-left .1 q)
 
     module _ (o : roster (s .history) .seats .phase ≡ open-phase) where
       pub is-settled-now : settled l ≡ true
@@ -91,9 +110,24 @@ module _ {bound : List ℕ → ℕ} {s : Standing (List ℕ)} (D : Demand3 bound
       -- a search from any lot of the roster
       pub right-holder : (x n : ℕ) → T (seated R x) → (findIn l x n .refused ≡ 0) × RightHolder (seated R) (R .number) n (findIn l x n .holder)
       right-holder x n m =
-          let h = settled-holder l b is-settled-now x n (subst (λ (t : Bool). T t) (sym (same-seated D b x)) m) in
-          (h .0, holder-agrees (same-seated D b) (λ z t. same-seat D b z .number (seated-taken (seatsIn l) z t)) (h .1))
+          let a = find-refused l x n ∙ settled-accepted l b is-settled-now x (lot-here x m) in
+          (a, holder-agrees (same-seated D b) (λ z t. same-seat D b z .number (seated-taken (seatsIn l) z t)) (accepted-holder l b x n a))
 
-  -- the same by the count that a reader sees
+  -- the same by the counts that a reader sees
   pub count-check : readCounts l .pending ≡ 0 → checkIn l ≡ record { refused = 0; yes = true }
   count-check e = check-yes (D .none-left .0 e)
+
+  pub count-settled : readCounts l .pending ≡ 0 → readCounts l .phase ≡ 0 → settled l ≡ true
+  count-settled e f = is-settled-now (D .none-left .0 e) (zero-open _ (sym (D .phase) ∙ f))
+
+  -- a search from a lot of the roster waits
+  module _ (x n : ℕ) (m : T (seated R x)) where
+    waiting : settled l ≡ false → findIn l x n .refused ≡ unsettled
+    waiting u = ap (λ (f : FindAnswer). f .refused) (unsettled-refused l b (passed D) u x n (lot-here x m))
+
+    pub waits-pending : readCounts l .pending ≢ 0 → findIn l x n .refused ≡ unsettled
+    waits-pending ne = ⊎-elim (λ p. waiting (unsettled-exactly l .1 (inl p))) (λ q. absurd (ne (none-counted q)))
+        (true-or-false (somePending seats width (meaning l .pending)))
+
+    pub waits-clearing : R .phase ≡ clearing → findIn l x n .refused ≡ unsettled
+    waits-clearing c = waiting (unsettled-exactly l .1 (inr (inl (ap isClearing (same-phase D ∙ c)))))

@@ -12,7 +12,7 @@ use Rattle.base.proofs.Cases.{lt-or-ge, true-or-false}
 use Rattle.base.proofs.All.{all-at, all-from}
 use Rattle.memory.proofs.First.{first}
 use Rattle.record.specs.Layout.{messages, pendingFrom}
-use Rattle.messages.specs.inner.Numbers.{firstPending}
+use Rattle.messages.specs.inner.Numbers.{firstPending, NoneBefore}
 use Rattle.messages.proofs.First.{first-pending-bit}
 use Rattle.soundness.specs.inner.Pending.{fits, passes, placesPass}
 
@@ -36,6 +36,10 @@ module _ (l : List ℕ) where
 
   pub clear-passes : (i : ℕ) → bitSet l pendingFrom i ≡ false → passes l i ≡ true
   clear-passes i e = rw e
+
+  -- so do the places before which nothing is pending
+  pub none-passes : {i : ℕ} → NoneBefore l i → all i (passes l) ≡ true
+  none-passes {i} c = all-from i (passes l) (λ j h. clear-passes j (c .clear j h))
 
   -- the next pending message, or the end
   pub next-first : (from : ℕ) → from ≤ messages → all from (passes l) ≡ true

@@ -1,13 +1,14 @@
 // Whether bytes of a record's size are a sound record (document 01, "Sound"): a function for each clause of record's specs/Sound.antt, the
 // clause of the messages in pending.rt. Any bytes are read without fault.
 ghost use mathlib.Core.Path.{_≡_};
-ghost use mathlib.Core.Bool.{true, _&&_};
+ghost use mathlib.Core.Bool.{_&&_};
 ghost use lib.ListN.{length};
 ghost use Rattle.base.specs.Loops.{all};
 ghost use Rattle.record.specs.Layout.{seats, size};
 ghost use Rattle.record.specs.Reading.{recordRefusal};
+ghost use Rattle.messages.specs.inner.Numbers.{NoneBefore};
 ghost use Rattle.soundness.specs.inner.Parts.{seatFits, entriesFit};
-ghost use Rattle.record.specs.Sound.{numbersDiffer, linksFit, messagesFit};
+ghost use Rattle.record.specs.Sound.{numbersDiffer, linksFit};
 
 mod entries;
 mod links;
@@ -39,18 +40,16 @@ fn entries_fit(rec: &[u8]) -> bool
     entries::phase_fits(rec) && lots_fit(rec)
 }
 
-// The refusal of a record of the right size: 2 unsound, or 0. Where the caller knows that nothing is pending, the messages are not looked at.
-pub fn sized_refusal(rec: &[u8], quiet: bool) -> u8
-    requires { ⌜ (length (now rec) ≡ size) × (quiet ≡ true → messagesFit (now rec) ≡ true) ⌝ }
+// The refusal of a record of the right size: 2 unsound, or 0. The caller knows that nothing is pending before place `from`: the messages are looked
+// at from there on.
+pub fn sized_refusal(rec: &[u8], from: usize) -> u8
+    requires { ⌜ (length (now rec) ≡ size) × NoneBefore (now rec) from ⌝ }
     ensures { λ r. ⌜ r ≡ recordRefusal (now (rec .entry)) ⌝ }
 {
     if !entries_fit(rec) {
         return UNSOUND;
     }
-    if quiet {
-        return 0;
-    }
-    if !pending::messages_fit(rec) {
+    if !pending::messages_fit(rec, from) {
         return UNSOUND;
     }
     0
@@ -63,5 +62,5 @@ pub fn record_refusal(rec: &[u8]) -> u8
     if rec.len() != SIZE {
         return WRONG_SIZE;
     }
-    sized_refusal(rec, false)
+    sized_refusal(rec, 0)
 }

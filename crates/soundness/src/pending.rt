@@ -10,6 +10,7 @@ ghost use Rattle.protocol.specs.Sound.{messageOk};
 ghost use Rattle.record.specs.Layout.{seats, messages, size};
 ghost use Rattle.record.specs.Meaning.{seatsIn};
 ghost use Rattle.record.specs.Sound.{messagesFit};
+ghost use Rattle.messages.specs.inner.Numbers.{NoneBefore};
 ghost use Rattle.soundness.specs.inner.Pending.{fits, placesPass};
 use messages::first_pending;
 use messages::message_at;
@@ -118,12 +119,12 @@ fn word_fits(rec: &[u8], w: usize) -> bool
     true
 }
 
-// Whether every pending message fits. Words with none are skipped.
-pub fn messages_fit(rec: &[u8]) -> bool
-    requires { ⌜ length (now rec) ≡ size ⌝ }
+// Whether every pending message fits, where none is pending before place `from`. Words with none are skipped.
+pub fn messages_fit(rec: &[u8], from: usize) -> bool
+    requires { ⌜ (length (now rec) ≡ size) × NoneBefore (now rec) from ⌝ }
     ensures { λ r. ⌜ r ≡ messagesFit (now (rec .entry)) ⌝ }
 {
-    let mut i = first_pending(rec, 0);
+    let mut i = first_pending(rec, from);
     while i < MESSAGES {
         let w = i / WORD;
         if !word_fits(rec, w) {

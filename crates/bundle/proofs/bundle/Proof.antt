@@ -2,11 +2,10 @@
 use mathlib.Core.Path.{sym, _∙_}
 use native.Mathlib.Omega.{arith}
 use borrow.Author.Needs.{needs}
-use borrow.Author.Tests.{eqb-true}
 use Rattle.record.proofs.Refused.{wrong-size}
-use Rattle.record.proofs.Reading.{clear-fit}
 use Rattle.record.proofs.Bundle.{bundle-done}
-use Rattle.bundle.proofs.Ready.{first-place, quiet-clear, quiet-none}
+use Rattle.messages.proofs.First.{none-before-first}
+use Rattle.bundle.proofs.Ready.{first-place, quiet-none}
 use Rattle.bundle.proofs.Going.{refuse-bundle}
 use Rattle.bundle.proofs.bundle.Statement.{statement}
 use Rattle.bundle.proofs.bundle.Tie as tie
@@ -18,10 +17,7 @@ first-pending-requires : tie.Need-first-pending-requires
 first-pending-requires c κs = search needs
 
 sized-refusal-requires : tie.Need-sized-refusal-requires
-sized-refusal-requires c κs =
-    let f = c .before in
-    let l = f .before .before .before .before .args .rec .now in
-    (search needs, λ q. clear-fit l (quiet-clear l (f .first-pending .ensures .0) (eqb-true _ _ q)))
+sized-refusal-requires c κs = (search needs, none-before-first _ (c .before .first-pending .ensures .0))
 
 same-length : tie.Need-same-length
 same-length c = search needs
@@ -41,7 +37,7 @@ returns-3 c =
     let f = r .before .before in
     let b = f .before .before .before .before in
     let l = b .args .rec .now in
-    let q = quiet-none l (f .first-pending .ensures .0) (eqb-true _ _ (c .if3 .taken)) in
+    let q = quiet-none l (f .first-pending .ensures .0) (c .if3 .taken) in
     (sym (bundle-done l (b .args .limit) (sym (r .sized-refusal .ensures) ∙ c .before .if2 .left) q), tt)
 
 deliver-smallest-requires : tie.Need-deliver-smallest-requires

@@ -11,10 +11,8 @@ use Rattle.check_links.proofs.check.Tie as tie
 -- the answer by the test of the links
 tested : (c : tie.After-links-fit) → record { refused = 0; yes = c .links-fit .result } ≡ checkIn (c .before .before .before .before .args .rec .now)
 tested c =
-    let s = c .before .before .before in
     let r = c .before .before .record-refusal in
-    answer (s .before .args .rec .now) (r .result) (r .ensures) (λ j. omega (arith, s .shared-slice-known .given j))
-    (c .before .if1 .left) (c .links-fit .ensures)
+    answer (c .before .before .before .before .args .rec .now) (r .result) (r .ensures) (c .before .if1 .left) (c .links-fit .ensures)
 
 record-refusal-requires : tie.Need-record-refusal-requires
 record-refusal-requires c κs = search needs

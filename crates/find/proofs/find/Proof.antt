@@ -1,4 +1,4 @@
--- `find::find` meets its contract: the refusals of the start seat, then the search. Assumes nothing.
+-- `find::find` meets its contract: the refusals, then the search. Assumes nothing.
 use Prim.Native.Nat.{ℕ}
 use mathlib.Core.Path.{_≡_, sym, _∙_}
 use mathlib.Core.Logic.{_≢_}
@@ -11,47 +11,43 @@ use Rattle.graph.specs.Vector.{width}
 use Rattle.protocol.specs.State.{seated}
 use Rattle.record.specs.Layout.{seats}
 use Rattle.record.specs.Meaning.{seatsIn, meaning}
-use Rattle.record.specs.Reading.{seatedRefusal}
 use Rattle.search.specs.Walk.{find}
-use Rattle.reading.proofs.Refusals.{seated-passed}
 use Rattle.find.specs.declared.Found.the-variants.{Refused}
-use Rattle.find.specs.Find.{searched, findIn}
+use Rattle.find.specs.Find.{searched, findRefusal, findIn}
 use Rattle.find.specs.Answer.{foundNumbers}
 use Rattle.find.specs.inner.Steps.{Fit}
 use Rattle.find.proofs.Fits.{sound-fit}
+use Rattle.find.proofs.Refused.{accepted}
 use Rattle.find.proofs.find.Statement.{statement}
 use Rattle.find.proofs.find.Tie as tie
 
-refusing : (l : List ℕ) (s x n : ℕ) → seatedRefusal l s ≡ n → n ≢ 0 → foundNumbers (Refused n) ≡ findIn l s x
+refusing : (l : List ℕ) (s x n : ℕ) → n ≡ findRefusal l s → n ≢ 0 → foundNumbers (Refused n) ≡ findIn l s x
 unfolding findIn
-refusing l s x n e h = rw (e, ne-eqb n 0 h)
+refusing l s x n e h = rw (← e, ne-eqb n 0 h)
 
-accepting : (l : List ℕ) (s x : ℕ) → seatedRefusal l s ≡ 0 → searched (find (seatsIn l .number) (meaning l .link) x seats width s) ≡ findIn l s x
+accepting : (l : List ℕ) (s x : ℕ) → findRefusal l s ≡ 0 → searched (find (seatsIn l .number) (meaning l .link) x seats width s) ≡ findIn l s x
 unfolding findIn
 accepting l s x e = rw e
 
-seated-refusal-requires : tie.Need-seated-refusal-requires
-seated-refusal-requires c κs = search needs
+find-refusal-requires : tie.Need-find-refusal-requires
+find-refusal-requires c κs = search needs
 
 returns : tie.Need-returns
-returns c = let b = c .before .before .before in
-    let e = c .before .seated-refusal .ensures in
-    let r = refusing (b .args .rec .now) (b .args .seat) (b .args .number) (c .before .seated-refusal .result) (sym e) (c .if1 .taken) in
-    (r, omega (arith, c .if1 .taken))
+returns c = (refusing _ _ _ _ (c .before .find-refusal .ensures) (c .if1 .taken), omega (arith, c .if1 .taken))
 
 -- no row applies: the search can start
 passed : (c : tie.Else1) → let a = c .before .before .before .args in Fit (a .rec .now) × T (seated (seatsIn (a .rec .now)) (a .seat))
 passed c =
-    let p = seated-passed _ _ (c .before .seated-refusal .ensures) (c .if1 .left) in
-    (sound-fit _ (p .accepted .sized) (λ j. omega (arith, c .before .before .shared-slice-known .given j)) (p .accepted .fine), p .lot)
+    let p = accepted _ _ (sym (c .before .find-refusal .ensures) ∙ c .if1 .left) in
+    (sound-fit _ (p .passed .sized) (λ j. omega (arith, c .before .before .shared-slice-known .given j)) (p .passed .fine), p .lot)
 
 search-requires : tie.Need-search-requires
 search-requires c κs = passed c
 
 returns-2 : tie.Need-returns-2
-returns-2 c = let b = c .before .before .before .before in
-    let e = sym (c .before .before .seated-refusal .ensures) ∙ c .before .if1 .left in
-    (c .search .ensures .0 ∙ accepting (b .args .rec .now) (b .args .seat) (b .args .number) e, c .search .ensures .1)
+returns-2 c =
+    let b = c .before .before in
+    (c .search .ensures .0 ∙ accepting _ _ _ (sym (b .find-refusal .ensures) ∙ c .before .if1 .left), c .search .ensures .1)
 
 pub find-spec : {M : Type 1} → statement M
-find-spec = tie.close (tie.spec seated-refusal-requires returns search-requires returns-2)
+find-spec = tie.close (tie.spec find-refusal-requires returns search-requires returns-2)

@@ -1,13 +1,15 @@
 -- The five numbers of a message as the code carries them, when they are those of the message at a place, and the first place whose message
 -- is pending. Assumes nothing.
-use Prim.Native.Nat.{ℕ, _-_, _<_}
+use Prim.Native.Nat.{ℕ, _-_, _≤_, _<_}
 use mathlib.Core.Path.{_≡_}
+use mathlib.Core.Bool.{false}
 use mathlib.Core.List.{List}
 use Rattle.base.specs.Loops.{firstFrom}
+use Rattle.memory.specs.Bits.{bitSet}
 use Rattle.graph.specs.Vector.{width}
 use Rattle.protocol.specs.Message.{Name, name, nameOf}
 use Rattle.protocol.specs.Numbering.{messageAt}
-use Rattle.record.specs.Layout.{seats, levels, messages}
+use Rattle.record.specs.Layout.{seats, levels, messages, pendingFrom}
 use Rattle.record.specs.Meaning.{meaning}
 use Rattle.messages.specs.declared.Message.{Message}
 
@@ -32,3 +34,8 @@ pub record Stands (i : ℕ) (m : Message) : Type 0 where
 -- the first place at or after `from` whose message is pending, or how many places there are
 unfoldable pub firstPending : List ℕ → (from : ℕ) → ℕ
 firstPending l from = firstFrom (messages - from) from (λ i. meaning l .pending (messageAt seats width i))
+
+-- nothing is pending at the places before i, which is a place or their number
+pub record NoneBefore (l : List ℕ) (i : ℕ) : Type 0 where
+  pub within : i ≤ messages
+  pub clear : (j : ℕ) → j < i → bitSet l pendingFrom j ≡ false

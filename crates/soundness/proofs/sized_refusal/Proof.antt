@@ -12,27 +12,22 @@ entries-fit-requires c κs = search needs
 returns : tie.Need-returns
 returns c = entries-fail _ (c .before .before .before .pre .0) (sym (c .before .entries-fit .ensures) ∙ not-true _ (c .if1 .taken))
 
-returns-2 : tie.Need-returns-2
-returns-2 c =
-    let r = c .before .before .before .before in
-    both-pass _ (r .pre .0) (sym (c .before .before .entries-fit .ensures) ∙ not-false _ (c .before .if1 .left)) (r .pre .1 (c .if2 .taken))
-
 messages-fit-requires : tie.Need-messages-fit-requires
 messages-fit-requires c κs = search needs
 
+returns-2 : tie.Need-returns-2
+returns-2 c =
+    let a = c .before .before in
+    messages-fail _ (a .before .before .before .pre .0) (sym (a .before .entries-fit .ensures) ∙ not-false _ (a .if1 .left))
+    (sym (c .before .messages-fit .ensures) ∙ not-true _ (c .if2 .taken))
+
 returns-3 : tie.Need-returns-3
 returns-3 c =
-    let a = c .before .before .before in
-    messages-fail _ (a .before .before .before .pre .0) (sym (a .before .entries-fit .ensures) ∙ not-false _ (a .if1 .left))
-    (sym (c .before .messages-fit .ensures) ∙ not-true _ (c .if3 .taken))
-
-returns-4 : tie.Need-returns-4
-returns-4 c =
-    let a = c .before .before .before in
+    let a = c .before .before in
     both-pass _ (a .before .before .before .pre .0) (sym (a .before .entries-fit .ensures) ∙ not-false _ (a .if1 .left))
-    (sym (c .before .messages-fit .ensures) ∙ not-false _ (c .if3 .left))
+    (sym (c .before .messages-fit .ensures) ∙ not-false _ (c .if2 .left))
 
 pub sized-refusal-spec : {M : Type 1} → statement M
 sized-refusal-spec =
     tie.close
-    (tie.spec entries-fit-requires returns returns-2 messages-fit-requires returns-3 returns-4)
+    (tie.spec entries-fit-requires returns messages-fit-requires returns-2 returns-3)

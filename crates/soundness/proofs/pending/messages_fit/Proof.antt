@@ -4,24 +4,26 @@ use Prim.Native.Nat.{_+_, _-_, _*_, _/_}
 use mathlib.Core.Path.{sym, _∙_}
 use borrow.Author.Tests.{not-true, not-false}
 use native.Mathlib.Omega.{arith}
-use Rattle.base.proofs.All.{all-none}
 use Rattle.record.specs.Layout.{messages}
 use Rattle.record.specs.Sound.{messagesFit}
-use Rattle.soundness.proofs.PendingPasses.{Next, next-first, next-more, next-fails, next-none, next-zero}
+use Rattle.soundness.proofs.PendingPasses.{Next, none-passes, next-first, next-more, next-fails, next-none, next-zero}
 use Rattle.soundness.proofs.pending.messages_fit.Statement.{statement}
 use Rattle.soundness.proofs.pending.messages_fit.Tie as tie
 
 abbrev Inv-loop : tie.InvT-loop
-Inv-loop rec i₀ i = Next rec 0 i
+Inv-loop rec from i₀ i = Next rec 0 i
 
 abbrev μ-loop : tie.MeasureT-loop
-μ-loop rec i₀ i = messages - i
+μ-loop rec from i₀ i = messages - i
 
 first-pending-requires : tie.Need-first-pending-requires Inv-loop μ-loop
 first-pending-requires c κs = search needs
 
 loop-holds : tie.Need-loop-holds Inv-loop μ-loop
-loop-holds c = rw (c .first-pending .ensures .0) (next-first (c .before .before .args .rec .now) 0 (search needs) (all-none _))
+loop-holds c =
+    let s = c .before .before in
+    let clear = s .pre .1 in
+    rw (c .first-pending .ensures .0) (next-zero (next-first (s .args .rec .now) (s .args .from) (clear .within) (none-passes _ clear)))
 
 word-fits-requires : tie.Need-word-fits-requires Inv-loop μ-loop
 word-fits-requires c κs = search needs

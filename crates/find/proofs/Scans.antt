@@ -1,0 +1,95 @@
+-- Scans of every record, made by calls or not: on a settled one a search from any lot is accepted, on a sound one that is not settled it is
+-- refused with 13, and every accepted search names the right holder. Assumes only that the elements of the list are bytes.
+use Prim.Native.Nat.{ℕ, zero, suc, _≤_, _<_}
+use mathlib.Core.Path.{_≡_, refl, sym, ap, _∙_, subst}
+use mathlib.Core.Logic.{_≢_, inr}
+use mathlib.Core.Option.{none}
+use mathlib.Core.Bool.{Bool, true, false, cond}
+use mathlib.Core.List.{List}
+use native.Mathlib.Omega.{arith}
+use lib.Dec.{T, eqb}
+use borrow.Author.Tests.{ne-eqb}
+use Rattle.base.proofs.Tests.{T-true}
+use Rattle.memory.specs.Bytes.{AreBytes}
+use Rattle.graph.specs.Side.{Side}
+use Rattle.graph.specs.Vector.{width}
+use Rattle.graph.specs.Graph.{graph}
+use Rattle.protocol.specs.Refusals.{unsettled}
+use Rattle.protocol.specs.State.{open-phase, Seats, seated, member, oneComponent, members}
+use Rattle.protocol.proofs.SoundFacts.{seated-below}
+use Rattle.record.specs.Layout.{seats}
+use Rattle.record.specs.Meaning.{seatsIn, meaning}
+use Rattle.record.proofs.Refused.{Passed}
+use Rattle.record.proofs.Sound.{sound-is}
+use Rattle.search.specs.Walk.{find}
+use Rattle.search.specs.Right.{RightHolder}
+use Rattle.search.proofs.Check.{checked-holder}
+use Rattle.check_links.specs.Settled.{settled}
+use Rattle.check_links.proofs.Facts.{link-wrong-no}
+use Rattle.check_links.proofs.Settled.{Settled, settled-is, unsettled-exactly}
+use Rattle.check_links.proofs.Whole.{lots-laws}
+use Rattle.find.specs.Find.{FindAnswer, searched, findRefusal, findIn}
+use Rattle.find.proofs.Refused.{Accepted, accepted, waits, answers}
+
+-- all lots are members in phase open
+pub seated-members : (r : Seats) → r .phase ≡ open-phase → member r ≡ seated r
+unfolding member
+seated-members r p = rw p
+
+module _ (l : List ℕ) (b : AreBytes l) where
+  below : Passed l → (s : ℕ) → T (seated (seatsIn l) s) → s < seats
+  unfolding meaning
+  below p s m = seated-below (sound-is l (p .sized) b .0 (p .fine) .1) s m
+
+  -- a search from a lot of a settled record is not refused
+  pub settled-accepted : settled l ≡ true → (s : ℕ) → T (seated (seatsIn l) s) → findRefusal l s ≡ 0
+  settled-accepted e s m = let p = settled-is l e .passed in sym (answers l s p (below p s m) (T-true m) e)
+
+  -- and one from a lot of a sound record that is not settled is refused with 13
+  pub unsettled-refused : Passed l → settled l ≡ false → (s x : ℕ) → T (seated (seatsIn l) s)
+      → findIn l s x ≡ record { refused = unsettled; holder = none; hops = 0 }
+  unfolding findIn
+  unsettled-refused p e s x m = rw (← waits l s p (below p s m) (T-true m) e)
+
+  -- so it is where one link of a member, at whatever level, is not the graph's
+  pub wrong-refused : Passed l → (y k : ℕ) (d : Side) → T (member (seatsIn l) y) → k ≤ width
+      → meaning l .link y k d ≢ graph seats width (members oneComponent (seatsIn l)) y k d
+      → (s x : ℕ) → T (seated (seatsIn l) s) → findIn l s x ≡ record { refused = unsettled; holder = none; hops = 0 }
+  wrong-refused p y k d m h wrong s x t =
+      unsettled-refused p (unsettled-exactly l .1 (inr (inr (link-wrong-no l (p .sized) b (p .fine) y k d m h wrong)))) s x t
+
+-- an accepted scan is the search on the meaning
+pub find-says : (l : List ℕ) (s x : ℕ) → findRefusal l s ≡ 0 → findIn l s x ≡ searched (find (seatsIn l .number) (meaning l .link) x seats width s)
+unfolding findIn
+find-says l s x e = rw e
+
+pub find-refused : (l : List ℕ) (s x : ℕ) → findIn l s x .refused ≡ findRefusal l s
+unfolding findIn
+find-refused l s x = by (findRefusal l s)
+  where
+    by : (n : ℕ) → cond (eqb n 0) (searched (find (seatsIn l .number) (meaning l .link) x seats width s))
+        (record { refused = n; holder = none; hops = 0 }) .refused ≡ n
+    by zero = refl
+    by (suc n) = rw (ne-eqb (suc n) 0 (λ e. omega arith))
+
+-- EVERY ACCEPTED SCAN: the holder is the lot with the largest number that is not above the scanned one, and none exactly if there is none
+pub accepted-holder : (l : List ℕ) → AreBytes l → (s x : ℕ) → findIn l s x .refused ≡ 0
+    → RightHolder (seated (seatsIn l)) (seatsIn l .number) x (findIn l s x .holder)
+accepted-holder l b s x e =
+    rw (ap (λ (f : FindAnswer). f .holder) (find-says l s x no-row))
+    (subst (λ (t : ℕ → Bool). RightHolder t (seatsIn l .number) x (find (seatsIn l .number) (meaning l .link) x seats width s .holder)) all held)
+  where
+    no-row : findRefusal l s ≡ 0
+    no-row = sym (find-refused l s x) ∙ e
+
+    A : Accepted l s
+    A = accepted l s no-row
+
+    S : Settled l
+    S = settled-is l (A .settles)
+
+    all : member (seatsIn l) ≡ seated (seatsIn l)
+    all = seated-members (seatsIn l) (S .opens)
+
+    held : RightHolder (member (seatsIn l)) (seatsIn l .number) x (find (seatsIn l .number) (meaning l .link) x seats width s .holder)
+    held = checked-holder (lots-laws l (S .passed .sized) b (S .passed .fine)) (λ y z u v. refl) width (meaning l .link) (S .right) x s (rw all (A .lot))
