@@ -6,7 +6,7 @@ mod bundles;
 mod searches;
 
 use crate::graph::{self, Links, Member};
-use crate::model::{Found, Message, Model, Phase};
+use crate::model::{Found, Message, Model};
 use crate::reach::{Mark, Reach};
 use crate::roster::Roster;
 use crate::text::{self, Answer, Command};
@@ -189,17 +189,12 @@ impl Checked {
         let Answer::Found(Found { holder, .. }) = *answer else {
             return Err("a search gave no answer");
         };
-        let settled = self.model.phase() == Phase::Open
-            && self.model.pending().is_empty()
-            && self.model.check();
-        let right = || {
-            let members = self.roster.members();
-            let not_above = members.iter().filter(|member| member.number <= scanned);
-            not_above.max_by_key(|member| member.number).map(|m| m.seat)
-        };
+        let members = self.roster.members();
+        let not_above = members.iter().filter(|member| member.number <= scanned);
+        let right = not_above.max_by_key(|member| member.number);
         holds(
-            !settled || holder == right(),
-            "a search on a settled record gave another lot",
+            holder == right.map(|member| member.seat),
+            "an accepted search gave another lot",
         )
     }
 }
