@@ -51,7 +51,8 @@ fn some_lots(pools: &Pools, random: &mut Random) -> Vec<Lot> {
     pools.seats[..count].iter().map(lot).collect()
 }
 
-/// Links that are the graph of the members, nearly that, or any that fit.
+/// Links that are the graph of the members, two graphs side by side, nearly one
+/// of these, or any that fit.
 fn link(lots: &mut [Lot], clearing: bool, random: &mut Random) {
     let changes = match random.below(4) {
         0 => 0,
@@ -59,10 +60,16 @@ fn link(lots: &mut [Lot], clearing: bool, random: &mut Random) {
         2 => 1 + random.below(8),
         _ => lots.len() * LEVELS,
     };
-    if random.below(3) < 2 {
-        link_as_graph(lots, |_| true);
+    let first = match random.below(6) {
+        0 | 1 => 0,
+        2 => random.below(lots.len() + 1),
+        _ => lots.len(),
+    };
+    let (one, other) = lots.split_at_mut(first);
+    for half in [one, other].into_iter().filter(|_| first > 0) {
+        link_as_graph(half, |_| true);
         if clearing {
-            link_as_graph(lots, |lot| !lot.leaving);
+            link_as_graph(half, |lot| !lot.leaving);
         }
     }
     for _ in 0..changes {
