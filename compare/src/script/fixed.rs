@@ -244,6 +244,7 @@ fn pairs() -> Script {
     let mut lines = Lines::new();
     lines.fill(|seat| u64::MAX - seat, |seat| seat / 2 * 8);
     lines.say_all(&["A", "P"]);
+    lines.search_from_all(u64::MAX - 31);
     lines.leave_all((0..SEATS as u8).filter(|seat| seat % 3 == 0));
     lines.say_all(&["P", "T", "P", "A", "P", "T", "P"]);
     lines.script
@@ -263,7 +264,7 @@ fn drained(next: fn(&Model) -> Option<Message>) -> Script {
     lines.leave_all((0..24).filter(|seat| seat % 3 != 1));
     lines.say("T");
     lines.drain(next);
-    lines.say_all(&["T", "P"]);
+    lines.say_all(&["T", "P", "F 1 1000"]);
     lines.script
 }
 
@@ -350,6 +351,7 @@ fn leavers() -> Script {
         .seated()
         .any(|(_, lot)| lot.state == State::Leaving));
     lines.say_all(&["T", "P", "F 0 9", "J 3 9 96 9", "A", "P"]);
+    lines.search_from_all(10);
     lines.script
 }
 

@@ -47,8 +47,10 @@ pub(super) fn unfinished_lines() -> Vec<(String, Script)> {
     let commands = ["J 1 2 0 0", "L 0", "D 1 0 1 0 0", "T", "A", "F 0 1", "P"];
     for command in commands {
         let mut script = vec![start.clone(), b"J 1 2 0 0\n".to_vec()];
-        if command.starts_with('J') {
-            script.pop();
+        match command.as_bytes()[0] {
+            b'J' => drop(script.pop()),
+            b'F' => script.push(b"A\n".to_vec()),
+            _ => {}
         }
         script.push(command.as_bytes().to_vec());
         scripts.push((format!("unfinished `{command}`"), script));
@@ -94,14 +96,17 @@ pub(super) fn commands_across_pieces() -> Vec<(String, Script)> {
         "J 7 1234567890 255 0",
         "L 0",
         "D 1 0 1 0 0",
-        "F 0 99",
+        "F 0 200",
         "T",
         "A",
         "P",
     ];
     for command in commands {
         for cut in 0..=command.len() {
-            let start = "J 0 100 0 255\nJ 1 200 0 0\n";
+            let start = match command.as_bytes()[0] {
+                b'F' => "J 0 100 0 255\nJ 1 200 0 0\nA\n",
+                _ => "J 0 100 0 255\nJ 1 200 0 0\n",
+            };
             let rest = format!("{command}\nA\nP\n");
             let mut script = before(PIECE - cut - start.len(), "");
             script.extend([start.as_bytes().to_vec(), rest.into_bytes()]);
