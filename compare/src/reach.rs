@@ -86,7 +86,7 @@ pub enum Mark {
     /// Searches of one full record from each seat.
     SearchFromAll,
     SearchFor(u64),
-    /// A search, of any lot or from it, while a lot is leaving in phase open.
+    /// A search that a lot which is leaving, in phase open, does not make wait.
     SearchWithLeaver,
     SearchFromLeaver,
     /// `F` refused by a row, in phase open or clearing, with something pending or
