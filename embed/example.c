@@ -1,5 +1,5 @@
 /* Lots 100 and 200 open on two scales, the second through the first. One of their messages is delivered by itself, the others are listed and
- * delivered by the bundle, the smallest first; then 250 is scanned. */
+ * delivered by the bundle, the smallest first. 250 is scanned too early, while messages are pending, and again when none is left. */
 #include "lots.h"
 #include <inttypes.h>
 #include <stdio.h>
@@ -59,6 +59,7 @@ int main(void)
     refusals |= lots_join(record, sizeof record, 1, 200, 0x80, 0);
     refusals |= deliver();
     refusals |= list();
+    printf("scan refused with %d\n", lots_find(record, sizeof record, 0, 250, &holder, &hops));
     refusals |= deliver_all();
     refusals |= lots_check(record, sizeof record, &yes);
     refusals |= lots_find(record, sizeof record, 0, 250, &holder, &hops);

@@ -43,7 +43,8 @@ enum lots_refusal {
     LOTS_ALREADY_LEAVING = 9,  /* the lot is leaving */
     LOTS_NO_SUCH_MESSAGE = 10, /* the five numbers are no pending message */
     LOTS_MESSAGES_LEFT = 11,   /* no turn while messages are pending */
-    LOTS_NO_SUCH_LEVEL = 12    /* a level above 8 or a side above 1 */
+    LOTS_NO_SUCH_LEVEL = 12,   /* a level above 8 or a side above 1 */
+    LOTS_UNSETTLED = 13        /* no scan while messages are pending, in clearing, or if the check says no */
 };
 
 /* Writes an empty record in phase open over any bytes.
@@ -85,12 +86,11 @@ uint8_t lots_bundle(uint8_t *record, size_t length, uint16_t limit,
  * Refusals: 1 wrong size, 2 unsound, 11 messages left. */
 uint8_t lots_turn(uint8_t *record, size_t length);
 
-/* Looks up a scanned number from the lot on a seat. `holder` is the seat of the
- * lot with the largest number not above it, or LOTS_NO_SEAT; `hops` counts the
- * moves between lots. That the holder is right is promised in phase open with
- * nothing pending and lots_check saying yes; else the answer is where the walk
- * along the links ends.
- * Refusals: 1 wrong size, 2 unsound, 3 no such seat, 8 empty seat. */
+/* Looks up a scanned number from the lot on a seat of a settled record: phase
+ * open, nothing pending, and lots_check would say yes. `holder` is the seat of the
+ * lot with the largest number not above the scanned one, or LOTS_NO_SEAT; `hops`
+ * counts the moves between lots. Leaving lots in phase open are scanned as others.
+ * Refusals: 1 wrong size, 2 unsound, 3 no such seat, 8 empty seat, 13 unsettled. */
 uint8_t lots_find(const uint8_t *record, size_t length, uint8_t seat,
                   uint64_t number, uint8_t *holder, uint64_t *hops);
 

@@ -96,11 +96,16 @@ fn deliver(rows: &mut Vec<Row>, [empty, _, _]: [&[u8]; 3]) {
     let meet = |about| Message::meet(0, about, 0);
     rows.push(row("empty", empty, Call::Deliver(meet(1))));
     for lots in [HALF, SEATS] {
-        let (mut start, seat) = (settled(lots - 1), lots as u8 - 1);
-        lent::join(&mut start, seat, u64::MAX / 3, 0b1010_0101, 0).expect("the seat is free");
-        let what = format!("{lots} lots, one message");
-        rows.push(row(&what, &start, Call::Deliver(meet(seat))));
+        let last = Call::Deliver(meet(lots as u8 - 1));
+        rows.push(on_one_message(lots, 0, last));
     }
+}
+
+/// So many lots, and the message by which the last of them joins at a contact.
+fn on_one_message(lots: usize, contact: u8, call: Call) -> Row {
+    let (mut start, seat) = (settled(lots - 1), lots as u8 - 1);
+    lent::join(&mut start, seat, u64::MAX / 3, 0b1010_0101, contact).expect("the seat is free");
+    row(&format!("{lots} lots, one message"), &start, call)
 }
 
 /// With nothing pending, what the call costs alone; and all deliveries that 64
@@ -143,21 +148,31 @@ fn turn(rows: &mut Vec<Row>, [empty, half, full]: [&[u8]; 3]) {
     }
 }
 
-/// The search with the most hops.
+/// The search with the most hops; and one that a message with seats of the middle
+/// makes wait.
 fn find(rows: &mut Vec<Row>, records: [&[u8]; 3]) {
     for (what, record) in EACH.into_iter().zip(records) {
-        let searches = (0..SEATS as u8).flat_map(|seat| {
-            let ends = [0, u64::MAX / 2, u64::MAX];
-            ends.map(|number| Call::Find { seat, number })
-        });
-        let hops = |call: &Call| call.on_bytes(&mut record.to_vec()).values[1];
-        let longest = searches.max_by_key(hops).expect("there are searches");
-        let what = match hops(&longest) {
+        let (longest, hops) = longest_search(record);
+        let what = match hops {
             0 => what.to_string(),
             hops => format!("{what}, {hops} hops"),
         };
         rows.push(row(&what, record, longest));
     }
+    let (longest, _) = longest_search(records[2]);
+    rows.push(on_one_message(SEATS, HALF as u8, longest));
+}
+
+/// The search with the most hops, and how many it has.
+fn longest_search(record: &[u8]) -> (Call, u64) {
+    let searches = (0..SEATS as u8).flat_map(|seat| {
+        let ends = [0, u64::MAX / 2, u64::MAX];
+        ends.map(|number| Call::Find { seat, number })
+    });
+    let hops = |call: Call| call.on_bytes(&mut record.to_vec()).values[1];
+    let searches = searches.map(|call| (call, hops(call)));
+    let longest = searches.max_by_key(|&(_, hops)| hops);
+    longest.expect("there are searches")
 }
 
 fn check(rows: &mut Vec<Row>, records: [&[u8]; 3]) {
@@ -185,15 +200,9 @@ fn read_whole(rows: &mut Vec<Row>, records: [&[u8]; 3]) {
 /// The smallest of what is pending: nothing, and a message with seats of the
 /// middle.
 fn next_message(rows: &mut Vec<Row>, records: [&[u8]; 3]) {
-    on_each(rows, records, Call::NextMessage(FIRST));
-    let (mut start, seat) = (settled(SEATS - 1), SEATS as u8 - 1);
-    let contact = HALF as u8;
-    lent::join(&mut start, seat, u64::MAX / 3, 0b1010_0101, contact).expect("the seat is free");
-    rows.push(row(
-        "64 lots, one message",
-        &start,
-        Call::NextMessage(FIRST),
-    ));
+    let first = Call::NextMessage(FIRST);
+    on_each(rows, records, first);
+    rows.push(on_one_message(SEATS, HALF as u8, first));
 }
 
 /// Numbers that come before every message.

@@ -3,9 +3,11 @@
 
 use crate::call::{Answer, Call, NO_VALUES};
 use crate::graph::{first_bits, NO_LINKS, SEATS};
-use crate::lent::{self, place::PHASE_AT};
+use crate::lent;
+use crate::lent::place::{link_at, ENTRIES_AT, ENTRY, NO_LINK, PHASE_AT};
 use crate::model::{shared_bits, Found, Lot, Lots, Message, Model, Phase, Refusal, State};
 use crate::text;
+use crate::unsettled::Unsettled;
 use std::collections::BTreeSet;
 
 const LEFT: u8 = 0;
@@ -187,6 +189,65 @@ fn the_first_row_that_applies_is_given() {
     assert_eq!(model.leave(64), Err(Refusal::NoSuchSeat));
     assert_eq!(model.find(9, 0), Err(Refusal::EmptySeat));
     assert_eq!(model.find(64, 0), Err(Refusal::NoSuchSeat));
+    assert_eq!(model.find(0, 0), Err(Refusal::Unsettled));
+}
+
+/// Messages are pending, then a leaver in phase open, which does not matter, then
+/// clearing with messages pending and without.
+#[test]
+fn a_search_waits_for_a_settled_record() {
+    let input = b"J 0 100 0 255\nF 0 99\nJ 1 200 128 0\nF 0 250\nF 9 0\nF 64 0\nA\nF 0 250\n\
+        L 1\nF 0 250\nF 1 250\nT\nF 0 250\nF 9 0\nA\nF 0 250\nF 9 0\nF 64 0\nT\nF 0 250\n";
+    let output = b"ok\nnone hops 0\nok\nno 13\nno 8\nno 3\nok\nholder 1 hops 1\n\
+        ok\nholder 1 hops 1\nholder 1 hops 0\nok\nno 13\nno 8\nok\nno 13\nno 8\nno 3\nok\nholder 0 hops 0\n";
+    assert_eq!(text::run(input), output);
+}
+
+/// Also for messages that no link waits for.
+#[test]
+fn a_search_waits_for_the_last_message() {
+    let (mut model, mut right) = (three_joined(), 0);
+    while !model.pending().is_empty() {
+        assert_eq!(model.find(0, 250), Err(Refusal::Unsettled));
+        right += u32::from(model.check());
+        model.bundle(1);
+    }
+    assert!(right > 0);
+    assert!(model.find(0, 250).is_ok());
+}
+
+/// The bytes of Q with some links taken away.
+fn q_without(links: &[(u8, usize, u8)]) -> Vec<u8> {
+    let mut bytes = lent::to_bytes(&q());
+    for &(seat, level, side) in links {
+        let at = ENTRIES_AT + ENTRY * usize::from(seat) + link_at(level, side.into());
+        assert_ne!(bytes[at], NO_LINK);
+        bytes[at] = NO_LINK;
+    }
+    bytes
+}
+
+/// Nothing is pending in phase open, and the check says no.
+#[test]
+fn a_search_waits_for_the_check() {
+    let level_0 = q_without(&[(1, 0, RIGHT)]);
+    let level_1 = q_without(&[(0, 1, RIGHT), (2, 1, LEFT)]);
+    // 200 alone, and 300 alone, beside 100.
+    let all = [(0, 0, RIGHT), (1, 0, LEFT), (1, 0, RIGHT), (2, 0, LEFT)];
+    let lists = q_without(&[&all[..], &[(0, 1, RIGHT), (2, 1, LEFT)]].concat());
+    for (mut bytes, way) in [
+        (level_0, Unsettled::Level0),
+        (level_1, Unsettled::AboveLevel0),
+        (lists, Unsettled::Lists),
+    ] {
+        assert_eq!(Unsettled::of_bytes(&bytes), Some(way));
+        let mut model = lent::from_bytes(&bytes).expect("the record is sound");
+        for (seat, refusal) in [(0, 13), (1, 13), (9, 8), (64, 3)] {
+            let find = Call::Find { seat, number: 250 };
+            assert_eq!(find.on_bytes(&mut bytes), Answer::refused(refusal));
+            assert_eq!(find.on_model(&mut model), Answer::refused(refusal));
+        }
+    }
 }
 
 /// Lot 100 links to 200 and tells it so; then it passes 300 on to 200. What was

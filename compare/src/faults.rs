@@ -1,10 +1,17 @@
-//! Each fault of document 01's "Faults that pass a first trial", and each bundle
-//! that is not #101's, put into the model, is caught by a self check on some
-//! script.
+//! Each fault of document 01's "Faults that pass a first trial", each bundle that
+//! is not #101's and each search that is not #102's, put into the model, is caught
+//! by a self check on some script; or, where scripts cannot show it, by the calls
+//! on lent bytes on records that no calls lead to.
 
-use crate::model::{Fault, Model, WrongBundle};
+use crate::graph::SEATS;
+use crate::inputs;
+use crate::lent::{self, from_bytes};
+use crate::model::{Fault, Model, WrongBundle, WrongFind};
+use crate::random::Random;
 use crate::script;
 use crate::selfcheck::{run_on, Failure};
+use crate::unsettled::Unsettled;
+use std::collections::BTreeSet;
 
 const SCRIPTS: u64 = 100;
 const LINES: usize = 120;
@@ -103,4 +110,73 @@ fn a_bundle_delivers_at_limit_0() {
 fn a_bundle_counts_the_limit_where_nothing_is_left() {
     let what = caught_as(Fault::Bundle(WrongBundle::CountsTheLimit));
     assert_eq!(what, "a bundle does not count its deliveries");
+}
+
+fn search_caught_as(wrong: WrongFind) -> &'static str {
+    caught_as(Fault::Find(wrong))
+}
+
+#[test]
+fn a_search_meets_13_before_8() {
+    let what = search_caught_as(WrongFind::UnsettledBeforeEmptySeat);
+    assert_eq!(what, "not the table's refusal");
+}
+
+#[test]
+fn a_search_meets_13_since_a_lot_is_leaving() {
+    let what = search_caught_as(WrongFind::LeaverUnsettles);
+    assert_eq!(what, "not the table's refusal");
+}
+
+#[test]
+fn a_search_looks_at_half_of_the_pending() {
+    let what = search_caught_as(WrongFind::HalfOfThePending);
+    assert_eq!(what, "not the table's refusal");
+}
+
+/// With nothing pending in phase open, the check of a script's record says yes.
+#[test]
+fn a_search_asks_too_little_of_the_check() {
+    for wrong in [WrongFind::CheckNotAsked, WrongFind::OnlyLevel0Asked] {
+        let model = Model::with_fault(Fault::Find(wrong));
+        assert_eq!(first_failure(&model), None);
+    }
+}
+
+/// The ways in which records are unsettled, none for settled ones, whose searches
+/// on lent bytes and on the model with a fault differ.
+fn ways_shown(wrong: WrongFind) -> BTreeSet<Option<Unsettled>> {
+    let mut random = Random::new(6);
+    let mut ways = BTreeSet::new();
+    for _ in 0..3_000 {
+        let pools = inputs::pools(&mut random);
+        let bytes = inputs::sound_record(&pools, &mut random);
+        let model = from_bytes(&bytes).expect("the record is sound");
+        let model = model.and_fault(Fault::Find(wrong));
+        let number = random.pick(&pools.numbers);
+        let differs = |seat| lent::find(&bytes, seat, number) != model.find(seat, number);
+        if (0..SEATS as u8).any(differs) {
+            ways.insert(Unsettled::of_bytes(&bytes));
+        }
+    }
+    ways
+}
+
+#[test]
+fn searches_on_records_that_no_calls_lead_to() {
+    let by_check = [Unsettled::Level0, Unsettled::AboveLevel0, Unsettled::Lists];
+    let shown: [(WrongFind, &[Option<Unsettled>]); 5] = [
+        (WrongFind::CheckNotAsked, &by_check.map(Some)),
+        (
+            WrongFind::UnsettledBeforeEmptySeat,
+            &Unsettled::ALL.map(Some),
+        ),
+        (WrongFind::LeaverUnsettles, &[None]),
+        (WrongFind::OnlyLevel0Asked, &[Some(Unsettled::AboveLevel0)]),
+        (WrongFind::HalfOfThePending, &[Some(Unsettled::Pending)]),
+    ];
+    for (wrong, ways) in shown {
+        let ways = BTreeSet::from_iter(ways.iter().copied());
+        assert_eq!(ways_shown(wrong), ways, "{wrong:?}");
+    }
 }

@@ -144,11 +144,15 @@ impl<'a> Held<'a> {
     /// Constraints 1 to 4 at levels 0 to 8, 5 and 6 at 0 to 7, and one level-0
     /// list. A link to a seat that is no member's breaks Constraint 1 or 2.
     pub fn is_skip_graph(&self) -> bool {
-        let every = 0..self.members.len();
+        self.constraints_hold() && self.one_level_0_list()
+    }
+
+    /// Constraints 1 to 6, of any number of level-0 lists.
+    pub fn constraints_hold(&self) -> bool {
+        let mut every = 0..self.members.len();
         // 5 and 6 walk along the links, which 1 and 2 keep from going round.
         every.clone().all(|x| self.constraints_1_to_4(x))
-            && every.clone().all(|x| self.constraints_5_and_6(x))
-            && self.one_level_0_list()
+            && every.all(|x| self.constraints_5_and_6(x))
     }
 
     fn constraints_1_to_4(&self, x: usize) -> bool {

@@ -33,8 +33,8 @@ pub use layout::{message_at, place_of, SIZE};
 /// Places of the fields, for those who make records that are no call's.
 pub mod place {
     pub use super::layout::{
-        link_at, ENTRIES_AT, ENTRY, LINKS_AT, NO_LINK, NUMBER_AT, PENDING, PENDING_AT, PHASE_AT,
-        PLACES, STATE_AT, VECTOR_AT,
+        link_at, ENTRIES_AT, ENTRY, GOING, LINKS_AT, NO_LINK, NUMBER_AT, PENDING, PENDING_AT,
+        PHASE_AT, PLACES, STATE_AT, VECTOR_AT,
     };
 }
 
@@ -200,11 +200,13 @@ fn end_clearing(bytes: &mut Bytes, leaving: u64) {
     }
 }
 
-/// The search of document 000 from level 8. Refusals: 1, 2, 3, 8.
+/// The search of document 000 from level 8, on a settled record.
+/// Refusals: 1, 2, 3, 8, 13.
 pub fn find(bytes: &[u8], start: u8, scanned: u64) -> Result<Found, Refusal> {
-    let Sound { record, .. } = sound::test(bytes)?;
-    must_be_seated(record, start)?;
-    Ok(record.search(start, scanned))
+    let sound = sound::test(bytes)?;
+    must_be_seated(sound.record, start)?;
+    must_be_settled(&sound)?;
+    Ok(sound.record.search(start, scanned))
 }
 
 /// Whether the members form one skip graph, by Constraints 1 to 6.
@@ -296,5 +298,16 @@ fn must_be_seated(record: Record, seat: u8) -> Result<(), Refusal> {
     match record.is_free(seat) {
         false => Ok(()),
         true => Err(Refusal::EmptySeat),
+    }
+}
+
+/// The soundness test has counted what is pending; in phase open all lots are
+/// members.
+fn must_be_settled(sound: &Sound) -> Result<(), Refusal> {
+    let record = sound.record;
+    let at_rest = sound.pending == 0 && !record.is_clearing();
+    match at_rest && check::is_graph(record, sound.seated) {
+        true => Ok(()),
+        false => Err(Refusal::Unsettled),
     }
 }

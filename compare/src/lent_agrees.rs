@@ -9,6 +9,8 @@ use crate::model::{Model, Refusal, NO_CONTACT};
 use crate::random::Random;
 use crate::script::{self, Numbers, Pools, Vectors};
 use crate::text::{self, Command};
+use crate::unsettled::Unsettled;
+use std::collections::BTreeMap;
 
 /// Makes a call on both and compares; the answer.
 fn both(call: Call, model: &mut Model, bytes: &mut [u8]) -> Answer {
@@ -89,6 +91,7 @@ fn on_scripts() {
 fn on_records_that_no_calls_lead_to() {
     let mut random = Random::new(2);
     let (mut checks, mut accepted) = ([0; 2], [0; NAMES.len()]);
+    let mut ways = BTreeMap::new();
     for _ in 0..1_500 {
         let pools = inputs::pools(&mut random);
         let mut bytes = inputs::sound_record(&pools, &mut random);
@@ -98,12 +101,22 @@ fn on_records_that_no_calls_lead_to() {
         checks[check as usize] += 1;
         for _ in 0..10 {
             let call = inputs::call(&bytes, style, &pools, &mut random);
+            let way = Unsettled::of_bytes(&bytes);
             let answer = both(call, &mut model, &mut bytes);
             accepted[call.index()] += usize::from(answer.refusal == 0);
+            if let Call::Find { seat, .. } = call {
+                let unsettled = way.map(|_| Refusal::Unsettled);
+                let refusal = model.lot(seat).err().or(unsettled);
+                assert_eq!(answer.refusal, refusal.map_or(0, Refusal::number));
+                *ways.entry((answer.refusal, way)).or_insert(0) += 1;
+            }
         }
     }
     assert!(checks.iter().all(|&count| count > 300), "{checks:?}");
     assert!(accepted.iter().all(|&count| count > 5), "{accepted:?}");
+    for way in Unsettled::ALL.map(Some) {
+        assert!(ways.get(&(13, way)) > Some(&10), "{ways:?}");
+    }
 }
 
 /// A full record, then half of it cleared, each settled by bundles of any size.

@@ -5,7 +5,8 @@
 //! - [`graph`] is what the links must come to: the lists of the members, and
 //!   Constraints 1 to 6 of document 000.
 //! - [`lent`] is the calls on lent bytes; [`call`] is a call with its answer, and
-//!   [`inputs`] makes records and calls from a seed.
+//!   [`inputs`] makes records and calls from a seed; [`unsettled`] tells apart
+//!   why a search is refused.
 //! - [`text`] is the command language of the program `lots`.
 //! - [`roster`] is document 01's roster with its table of refusals.
 //! - [`selfcheck`] runs a script on the model and holds every answer against
@@ -40,6 +41,7 @@ mod search;
 pub mod selfcheck;
 pub mod shrink;
 pub mod text;
+pub mod unsettled;
 
 #[cfg(test)]
 mod cases;

@@ -11,6 +11,8 @@ mod refusal;
 mod sound;
 #[cfg(test)]
 mod wrong_bundle;
+#[cfg(test)]
+mod wrong_find;
 
 use crate::graph::{Held, Links, Member, Side, LEVELS, NO_LINKS, SEATS, SIDES};
 use crate::rules::{Entries, Rules};
@@ -25,6 +27,8 @@ pub use crate::search::Found;
 pub(crate) use fault::Fault;
 #[cfg(test)]
 pub(crate) use wrong_bundle::WrongBundle;
+#[cfg(test)]
+pub(crate) use wrong_find::WrongFind;
 
 /// The contact of the first lot.
 pub const NO_CONTACT: u8 = 255;
@@ -251,10 +255,28 @@ impl Model {
         self.phase = Phase::Open;
     }
 
-    /// The search of document 000 from level 8. Refusals: 3, 8.
+    /// The search of document 000 from level 8, on a settled record.
+    /// Refusals: 3, 8, 13.
     pub fn find(&self, start: u8, scanned: u64) -> Result<Found, Refusal> {
-        self.lot(start)?;
+        self.may_find(start)?;
         Ok(self.search(start, scanned))
+    }
+
+    fn may_find(&self, start: u8) -> Result<(), Refusal> {
+        #[cfg(test)]
+        if let Some(Fault::Find(wrong)) = self.fault {
+            return self.may_find_with(wrong, start);
+        }
+        self.lot(start)?;
+        match self.is_settled() {
+            true => Ok(()),
+            false => Err(Refusal::Unsettled),
+        }
+    }
+
+    /// Phase open, nothing pending, and the check says yes.
+    pub fn is_settled(&self) -> bool {
+        self.phase == Phase::Open && self.pending.is_empty() && self.check()
     }
 
     /// Whether the members form one skip graph, by Constraints 1 to 6.

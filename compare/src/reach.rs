@@ -86,9 +86,12 @@ pub enum Mark {
     /// Searches of one full record from each seat.
     SearchFromAll,
     SearchFor(u64),
-    SearchWhilePending,
-    SearchInClearing,
+    /// A search that a lot which is leaving, in phase open, does not make wait.
+    SearchWithLeaver,
     SearchFromLeaver,
+    /// `F` refused by a row, in phase open or clearing, with something pending or
+    /// not.
+    SearchRefused(u8, Clearing, Pending),
     Holder(u8),
     Nobody,
     Hops(u32),
@@ -117,8 +120,8 @@ pub fn all() -> BTreeSet<Mark> {
     all.extend([JoinsAscending, JoinsDescending, JoinsAlternating]);
     all.extend([LargestFirst, SmallestFirst, LeavingContact]);
     all.extend([JoinWhilePending, LeaveWhilePending, SeatAgain, NumberAgain]);
-    all.extend([SearchFromAll, SearchWhilePending, SearchInClearing]);
-    all.extend([SearchFromLeaver, SearchFor(0), SearchFor(u64::MAX), Nobody]);
+    all.extend([SearchFromAll, SearchFor(0), SearchFor(u64::MAX), Nobody]);
+    all.extend([SearchWithLeaver, SearchFromLeaver]);
     all.extend(INPUTS.map(InputLength));
     all.extend(LENGTHS.map(LineLength));
     all.extend(LENGTHS.map(UnfinishedLength));
@@ -148,7 +151,19 @@ pub fn all() -> BTreeSet<Mark> {
     for clearing in [false, true] {
         all.extend([false, true].map(|pending| Printed(clearing, pending)));
     }
+    all.extend(searches_refused());
     all
+}
+
+/// 3 and 8 come before 13, whatever the record; 13 only where it is not settled.
+fn searches_refused() -> Vec<Mark> {
+    let mut marks = Vec::new();
+    for (clearing, pending) in [(false, false), (false, true), (true, false), (true, true)] {
+        let rows = [3, 8, 13].into_iter();
+        let rows = rows.filter(|&row| row != 13 || clearing || pending);
+        marks.extend(rows.map(|row| Mark::SearchRefused(row, clearing, pending)));
+    }
+    marks
 }
 
 const INPUTS: [usize; 8] = [0, 1, 4095, 4096, 4097, 8191, 8192, 8193];
@@ -159,7 +174,7 @@ const REFUSALS: [(char, &[u8]); 5] = [
     ('L', &[3, 7, 8, 9]),
     ('D', &[10]),
     ('T', &[11]),
-    ('F', &[3, 8]),
+    ('F', &[3, 8, 13]),
 ];
 
 /// The kinds with their levels, and with both sides where the side is used.
@@ -280,7 +295,12 @@ impl Reach {
         };
         let letter = char::from(line[0]);
         if let Answer::No(refusal) = answer {
-            return self.note(Mark::Refused(letter, refusal.number()));
+            let row = refusal.number();
+            if let Command::Find { .. } = call {
+                let clearing = before.phase() == Phase::Clearing;
+                self.note(Mark::SearchRefused(row, clearing, is_pending(before)));
+            }
+            return self.note(Mark::Refused(letter, row));
         }
         self.note(Mark::Accepted(letter));
         if !matches!(call, Command::Find { .. } | Command::Print) {
@@ -386,10 +406,10 @@ impl Reach {
             return;
         };
         self.note_if(number == 0 || number == u64::MAX, Mark::SearchFor(number));
-        self.note_if(is_pending(before), Mark::SearchWhilePending);
-        self.note_if(before.phase() == Phase::Clearing, Mark::SearchInClearing);
-        let leaver = |(seat, state)| seat == start && state == State::Leaving;
-        self.note_if(states(before).any(leaver), Mark::SearchFromLeaver);
+        for (seat, _) in states(before).filter(|&(_, state)| state == State::Leaving) {
+            self.note(Mark::SearchWithLeaver);
+            self.note_if(seat == start, Mark::SearchFromLeaver);
+        }
         self.note(found.holder.map_or(Mark::Nobody, Mark::Holder));
         self.note_if(HOPS.contains(&found.hops), Mark::Hops(found.hops));
         self.starts.insert(start);

@@ -57,6 +57,10 @@ impl Roster {
             }
             (Refusal::EmptySeat, Command::Leave { seat }) => self.is_free(seat),
             (Refusal::EmptySeat, Command::Find { start, .. }) => self.is_free(start),
+            // With nothing pending in phase open, the check of calls' records says yes.
+            (Refusal::Unsettled, Command::Find { .. }) => {
+                self.phase == Phase::Clearing || !pending.is_empty()
+            }
             (Refusal::AlreadyLeaving, Command::Leave { seat }) => self.is_leaving(seat),
             (Refusal::NoSuchMessage, Command::Deliver(message)) => !pending.contains(&message),
             (Refusal::MessagesLeft, Command::Turn) => !pending.is_empty(),

@@ -3,13 +3,16 @@
 //! and bundles against single deliveries.
 
 mod bundles;
+mod searches;
 
 use crate::graph::{self, Links, Member};
-use crate::model::{Found, Message, Model, Phase};
+use crate::model::{Found, Message, Model};
 use crate::reach::{Mark, Reach};
 use crate::roster::Roster;
 use crate::text::{self, Answer, Command};
 use std::collections::BTreeSet;
+
+pub use searches::Searches;
 
 /// More deliveries than this in a row count as a run without end. The longest
 /// that a script has met is about 66,000, on a full record.
@@ -29,6 +32,7 @@ pub struct Run {
     pub output: Vec<u8>,
     pub lines: usize,
     pub deliveries: u64,
+    pub searches: Searches,
     /// What the script reached.
     pub marks: BTreeSet<Mark>,
 }
@@ -57,6 +61,9 @@ pub(crate) fn run_on(model: Model, input: &[u8]) -> Result<Run, Failure> {
         if checked.model != before {
             let limits = bundles::limits(run.lines);
             bundles::check(&checked.model, limits).map_err(failure)?;
+        }
+        if let Some(Command::Find { .. }) = command {
+            run.searches.count(&answer);
         }
         reach.line(line, &answer, &before, &checked.model, deliveries);
         answer.print(&mut run.output);
@@ -182,17 +189,12 @@ impl Checked {
         let Answer::Found(Found { holder, .. }) = *answer else {
             return Err("a search gave no answer");
         };
-        let settled = self.model.phase() == Phase::Open
-            && self.model.pending().is_empty()
-            && self.model.check();
-        let right = || {
-            let members = self.roster.members();
-            let not_above = members.iter().filter(|member| member.number <= scanned);
-            not_above.max_by_key(|member| member.number).map(|m| m.seat)
-        };
+        let members = self.roster.members();
+        let not_above = members.iter().filter(|member| member.number <= scanned);
+        let right = not_above.max_by_key(|member| member.number);
         holds(
-            !settled || holder == right(),
-            "a search on a settled record gave another lot",
+            holder == right.map(|member| member.seat),
+            "an accepted search gave another lot",
         )
     }
 }

@@ -70,6 +70,18 @@ fn a_wrong_answer_is_found_and_shrunk() {
 }
 
 #[test]
+fn a_search_that_does_not_wait_is_found_and_shrunk() {
+    let body = format!("{MODEL} | sed 's/^no 13$/none hops 0/'");
+    let path = program("no-wait", &body);
+    let output = drive(&["--program", path.to_str().unwrap(), "--scripts", "60"]);
+    assert_eq!(output.status.code(), Some(1));
+    let script = shrunk_script(&output);
+    // Refusal 13 takes two joins, so that a message is pending.
+    assert_eq!(script.len(), 3, "{script:?}");
+    assert!(script[2].starts_with('F'));
+}
+
+#[test]
 fn a_missing_last_newline_is_a_difference() {
     let path = program("no-newline", &format!("printf %s \"$({MODEL})\""));
     let output = drive(&["--program", path.to_str().unwrap(), "--scripts", "60"]);

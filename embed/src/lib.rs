@@ -15,19 +15,21 @@
 //! record.join(1, 200, 0b1000_0000, Some(0))?;
 //! assert_eq!(record.counts()?.pending, 1);
 //!
-//! // The lot on seat 0 learns of the one on seat 1.
+//! // The lot on seat 0 learns of the one on seat 1, and both have more to say.
 //! record.deliver(Message::new(1, 0, 1, 0, 0))?;
-//! assert_eq!(record.find(0, 250)?, Found { holder: Some(1), hops: 1 });
+//! assert_eq!(record.counts()?.pending, 2);
 //!
-//! // A refused call changes nothing.
-//! assert_eq!(record.join(2, 200, 0, Some(0)), Err(Refusal::NumberInUse));
+//! // A scan waits for the last message. A refused call changes nothing.
+//! assert_eq!(record.find(0, 250), Err(Refusal::Unsettled));
+//! record.bundle(50)?;
+//! assert_eq!(record.find(0, 250)?, Found { holder: Some(1), hops: 1 });
 //! # Ok::<(), Refusal>(())
 //! ```
 //!
 //! # Panics
 //!
 //! An answer that the library is proved never to give (a refusal number above
-//! 12, a state other than 1 and 2, a phase other than 0 and 1) ends in a panic:
+//! 13, a state other than 1 and 2, a phase other than 0 and 1) ends in a panic:
 //! then what is linked is not the library that this crate was written for.
 
 #![no_std]

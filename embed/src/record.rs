@@ -256,24 +256,25 @@ impl<B: AsRef<[u8]>> Record<B> {
     /// Looks up a scanned number from the lot on a seat: the holder is the lot
     /// with the largest number not above it.
     ///
-    /// That the holder is right is promised on a settled record: phase open,
-    /// nothing pending, and [`check`](Record::check) says yes. On another the
-    /// answer is where the walk along the links ends.
+    /// Every accepted scan gives the right holder. It waits for a settled record:
+    /// phase open, nothing pending, and [`check`](Record::check) would say yes.
+    /// Leaving lots in phase open are scanned as others.
     ///
-    /// Refusals: 1 wrong size, 2 unsound, 3 no such seat, 8 empty seat.
+    /// Refusals: 1 wrong size, 2 unsound, 3 no such seat, 8 empty seat, 13
+    /// unsettled.
     ///
     /// ```
-    /// use lots_record::{Found, Message, Record};
+    /// use lots_record::{Found, Record, Refusal};
     ///
     /// let mut record = Record::new();
     /// record.join(0, 100, 0, None)?;
     /// assert_eq!(record.find(0, 99)?, Found { holder: None, hops: 0 });
     ///
     /// record.join(1, 200, 128, Some(0))?;
-    /// assert_eq!(record.find(0, 250)?, Found { holder: Some(0), hops: 0 });
-    /// record.deliver(Message::new(1, 0, 1, 0, 0))?;
+    /// assert_eq!(record.find(0, 250), Err(Refusal::Unsettled));
+    /// record.bundle(50)?;
     /// assert_eq!(record.find(0, 250)?, Found { holder: Some(1), hops: 1 });
-    /// # Ok::<(), lots_record::Refusal>(())
+    /// # Ok::<(), Refusal>(())
     /// ```
     #[doc(alias = "lots_find")]
     pub fn find(&self, start: u8, number: u64) -> Result<Found, Refusal> {
@@ -512,8 +513,8 @@ mod tests {
     use super::*;
 
     #[test]
-    #[should_panic = "refusal 13"]
-    fn there_are_twelve_refusals() {
-        let _ = accepted(13);
+    #[should_panic = "refusal 14"]
+    fn there_are_thirteen_refusals() {
+        let _ = accepted(14);
     }
 }

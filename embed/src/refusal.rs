@@ -1,4 +1,4 @@
-//! The refusals of document 01's table.
+//! The refusals of documents 01 and 02.
 
 use core::error::Error;
 use core::fmt;
@@ -6,8 +6,8 @@ use core::fmt;
 /// Why a call was refused, by the number and term of the table.
 ///
 /// A refused call changes no byte of the record. Of several refusals that
-/// apply, the first in this order is given: 1, 2, 3, 12, 7, 4, 8, 5, 6, 9, 10,
-/// 11.
+/// apply, the first in this order is given: 1, 2, 3, 12, 7, 4, 8, 13, 5, 6, 9,
+/// 10, 11.
 ///
 /// ```
 /// use lots_record::{Record, Refusal};
@@ -44,10 +44,13 @@ pub enum Refusal {
     MessagesLeft = 11,
     /// 12: a level above 8 or a side above 1.
     NoSuchLevel = 12,
+    /// 13: no scan while messages are pending, in phase clearing, or if the check
+    /// says no.
+    Unsettled = 13,
 }
 
 /// The table, ascending by number from 1.
-const TABLE: [(Refusal, &str); 12] = [
+const TABLE: [(Refusal, &str); 13] = [
     (Refusal::WrongSize, "wrong size"),
     (Refusal::Unsound, "unsound"),
     (Refusal::NoSuchSeat, "no such seat"),
@@ -60,29 +63,30 @@ const TABLE: [(Refusal, &str); 12] = [
     (Refusal::NoSuchMessage, "no such message"),
     (Refusal::MessagesLeft, "messages left"),
     (Refusal::NoSuchLevel, "no such level"),
+    (Refusal::Unsettled, "unsettled"),
 ];
 
 impl Refusal {
-    /// The number of the table, 1 to 12.
+    /// The number of the table, 1 to 13.
     ///
     /// ```
     /// use lots_record::Refusal;
     ///
     /// assert_eq!(Refusal::WrongSize.number(), 1);
-    /// assert_eq!(Refusal::NoSuchLevel.number(), 12);
+    /// assert_eq!(Refusal::Unsettled.number(), 13);
     /// ```
     pub fn number(self) -> u8 {
         self as u8
     }
 
-    /// The refusal of that number, or none outside 1 to 12.
+    /// The refusal of that number, or none outside 1 to 13.
     ///
     /// ```
     /// use lots_record::Refusal;
     ///
     /// assert_eq!(Refusal::from_number(5), Some(Refusal::NumberInUse));
     /// assert_eq!(Refusal::from_number(0), None);
-    /// assert_eq!(Refusal::from_number(13), None);
+    /// assert_eq!(Refusal::from_number(14), None);
     /// ```
     pub fn from_number(number: u8) -> Option<Refusal> {
         let row = usize::from(number).checked_sub(1)?;

@@ -168,4 +168,16 @@ mod tests {
     fn outputs_of_an_empty_seat_are_0() {
         outputs_of_a_seat_are_0(Record::new().as_bytes(), 8);
     }
+
+    #[test]
+    fn outputs_of_a_scan_that_waits_are_0() {
+        let mut record = Record::new();
+        record.join(0, 100, 0, None).unwrap();
+        record.join(1, 200, 0, Some(0)).unwrap();
+        let (start, length) = (record.as_bytes().as_ptr(), SIZE);
+        let (mut holder, mut hops) = (9, 9);
+        // SAFETY: the bytes are valid for their length, and the outputs are local.
+        let answer = unsafe { lots_find(start, length, 0, 7, &mut holder, &mut hops) };
+        assert_eq!((answer, holder, hops), (13, 0, 0));
+    }
 }

@@ -4,6 +4,7 @@
 mod behaviour;
 mod blind;
 mod bundles;
+mod searches;
 
 use crate::judge::{Difference, Judge, Memory};
 use crate::report::shrunk;
@@ -11,6 +12,9 @@ use crate::round::{self, opened};
 use crate::sys::{Make, Outcome};
 use crate::tally::Tally;
 use compare::call::Call;
+use compare::graph;
+use compare::lent::from_bytes;
+use compare::lent::place::{link_at, ENTRIES_AT, ENTRY, NO_LINK};
 use std::ops::Range;
 
 /// Rounds in which a fault must show: as many as a default run has.
@@ -32,6 +36,20 @@ fn right(memory: &mut [u8], record: Range<usize>, call: Call, _: u64) -> Outcome
     Outcome {
         answer: call.on_bytes(&mut memory[record]),
         beside: false,
+    }
+}
+
+/// Sets the links of the members of a sound record as in their graph, at some
+/// levels.
+fn put_right(bytes: &mut [u8], levels: Range<usize>) {
+    let members = from_bytes(bytes).expect("the record is sound").members();
+    for (member, links) in members.iter().zip(graph::links(&members)) {
+        for level in levels.clone() {
+            for (side, link) in links[level].into_iter().enumerate() {
+                let at = ENTRIES_AT + ENTRY * usize::from(member.seat) + link_at(level, side);
+                bytes[at] = link.unwrap_or(NO_LINK);
+            }
+        }
     }
 }
 

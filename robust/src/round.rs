@@ -101,7 +101,7 @@ impl Round<'_> {
         }
         match made {
             Ok(answer) => {
-                self.tally.count(call, answer);
+                self.tally.count(call, answer, record);
                 Ok(())
             }
             Err(difference) => Err(Box::new(Failure {

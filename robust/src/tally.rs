@@ -1,9 +1,14 @@
 //! How often each call met each answer.
 
+pub(crate) mod searches;
+
 use compare::call::{Answer, Call, NAMES, REFUSALS};
+use compare::model::Refusal;
+use searches::Searches;
 use std::fmt;
 
-const ANSWERS: usize = 13;
+/// Accepted, and each refusal.
+const ANSWERS: usize = 1 + Refusal::ORDER.len();
 
 /// Accepted calls told apart by more than their name.
 const CASES: [&str; 20] = [
@@ -36,13 +41,18 @@ const LONG: u64 = 100;
 pub struct Tally {
     calls: [[u64; ANSWERS]; NAMES.len()],
     cases: [u64; CASES.len()],
+    searches: Searches,
     /// Calls that were made on the model too.
     pub on_model: u64,
 }
 
 impl Tally {
-    pub fn count(&mut self, call: Call, answer: Answer) {
+    /// Takes in a call of a record.
+    pub fn count(&mut self, call: Call, answer: Answer, record: &[u8]) {
         self.calls[call.index()][usize::from(answer.refusal)] += 1;
+        if let Call::Find { .. } = call {
+            self.searches.count(answer, record);
+        }
         if answer.refusal != 0 {
             return;
         }
@@ -82,6 +92,7 @@ impl Tally {
             .zip(self.cases)
             .filter(|(_, count)| *count == 0);
         gaps.extend(never.map(|(case, _)| format!("{case} never met")));
+        gaps.extend(self.searches.gaps());
         gaps
     }
 }
@@ -112,25 +123,51 @@ impl fmt::Display for Tally {
         for (case, count) in CASES.iter().zip(self.cases) {
             write!(f, "  {case}: {count}")?;
         }
-        writeln!(f)
+        writeln!(f)?;
+        write!(f, "{}", self.searches)
     }
 }
 
 #[cfg(test)]
 mod tests {
     use super::*;
+    use crate::round::opened;
+    use compare::lent::{self, place::PHASE_AT};
 
     #[test]
     fn gaps_are_answers_that_the_table_allows_and_others() {
-        let mut tally = Tally::default();
-        let all = tally.gaps().len();
+        let (mut tally, record) = (Tally::default(), opened());
+        let mut count = |call, answer| {
+            tally.count(call, answer, &record);
+            tally.gaps()
+        };
+        let searches = Searches::default().gaps().len();
         let allowed: usize = REFUSALS.iter().map(|rows| rows.len() + 1).sum();
-        assert_eq!(all, allowed + CASES.len());
-        tally.count(Call::Turn, Answer::refused(11));
-        assert_eq!(tally.gaps().len(), all - 1);
-        tally.count(Call::Check, Answer::accepted([1, 0, 0, 0, 0]));
-        assert_eq!(tally.gaps().len(), all - 3);
-        tally.count(Call::Turn, Answer::refused(5));
-        assert!(tally.gaps().contains(&String::from("turn met 5")));
+        let all = allowed + CASES.len() + searches;
+        assert_eq!(count(Call::Turn, Answer::refused(11)).len(), all - 1);
+        let yes = Answer::accepted([1, 0, 0, 0, 0]);
+        assert_eq!(count(Call::Check, yes).len(), all - 3);
+        let met = count(Call::Turn, Answer::refused(5));
+        assert!(met.contains(&String::from("turn met 5")));
+    }
+
+    /// A lot, then a leaver, then clearing.
+    #[test]
+    fn searches_are_told_apart_by_the_record() {
+        let (mut tally, mut record) = (Tally::default(), opened());
+        let find = Call::Find { seat: 0, number: 7 };
+        lent::join(&mut record, 0, 7, 0, 255).expect("the seat is free");
+        let mut count = |record: &mut [u8]| {
+            let before = tally.searches.gaps();
+            tally.count(find, find.on_bytes(record), record);
+            let after = tally.searches.gaps();
+            let met = before.into_iter().filter(|gap| !after.contains(gap));
+            met.collect::<Vec<_>>().concat()
+        };
+        assert_eq!(count(&mut record), "");
+        lent::leave(&mut record, 0).expect("the lot stays");
+        assert_eq!(count(&mut record), "find never accepted with a leaver");
+        record[PHASE_AT] = 1;
+        assert_eq!(count(&mut record), "find never met 13 by Clearing");
     }
 }

@@ -4,7 +4,7 @@
 use compare::child::{self, End, Output, Running};
 use compare::reach::{self, Mark};
 use compare::script::{self, fixed, Script};
-use compare::selfcheck::{self, Failure, Run};
+use compare::selfcheck::{self, Failure, Run, Searches};
 use compare::{shrink, text};
 use std::collections::BTreeSet;
 use std::io::{self, Write};
@@ -101,6 +101,7 @@ struct Totals {
     scripts: usize,
     lines: usize,
     deliveries: u64,
+    searches: Searches,
     marks: BTreeSet<Mark>,
 }
 
@@ -113,6 +114,7 @@ impl Totals {
                 self.scripts += 1;
                 self.lines += run.lines;
                 self.deliveries += run.deliveries;
+                self.searches.add(&run.searches);
                 self.marks.extend(run.marks);
                 Ok(true)
             }
@@ -150,6 +152,8 @@ fn drive(options: &Options) -> io::Result<ExitCode> {
     let lines = fixed.lines + generated.lines;
     let deliveries = fixed.deliveries + generated.deliveries;
     print_marks(&fixed.marks, &generated.marks);
+    println!("searches of fixed scripts: {}", fixed.searches);
+    println!("searches of generated scripts: {}", generated.searches);
     println!("{lines} lines, {deliveries} deliveries, {seconds:.1} seconds");
     println!("{scripts} passed, 0 failed");
     Ok(ExitCode::SUCCESS)

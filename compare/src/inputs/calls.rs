@@ -20,6 +20,8 @@ pub enum Style {
     Turning,
     /// Searches, checks and readings.
     Asking,
+    /// Searches, mostly of records at rest, with few changes between them.
+    Scanning,
 }
 
 #[derive(Clone, Copy)]
@@ -29,6 +31,8 @@ enum Name {
     Leave,
     Deliver,
     Bundle,
+    /// A bundle of all.
+    Settle,
     Turn,
     Find,
     Check,
@@ -36,14 +40,21 @@ enum Name {
 }
 
 impl Style {
-    pub const ALL: [Style; 4] = [Style::Busy, Style::Draining, Style::Turning, Style::Asking];
+    pub const ALL: [Style; 5] = [
+        Style::Busy,
+        Style::Draining,
+        Style::Turning,
+        Style::Asking,
+        Style::Scanning,
+    ];
 
-    fn weights(self) -> [(Name, usize); 9] {
-        let [open, join, leave, deliver, bundle, turn, find, check, read] = match self {
-            Style::Busy => [1, 120, 40, 150, 15, 10, 20, 10, 30],
-            Style::Draining => [0, 4, 2, 400, 20, 10, 10, 10, 20],
-            Style::Turning => [1, 20, 40, 200, 40, 90, 10, 20, 20],
-            Style::Asking => [1, 10, 5, 50, 5, 10, 100, 80, 150],
+    fn weights(self) -> [(Name, usize); 10] {
+        let [open, join, leave, deliver, bundle, settle, turn, find, check, read] = match self {
+            Style::Busy => [1, 120, 40, 150, 15, 0, 10, 20, 10, 30],
+            Style::Draining => [0, 4, 2, 400, 20, 0, 10, 10, 10, 20],
+            Style::Turning => [1, 20, 40, 200, 40, 0, 90, 10, 20, 20],
+            Style::Asking => [1, 10, 5, 50, 5, 0, 10, 100, 80, 150],
+            Style::Scanning => [0, 15, 1, 5, 0, 60, 20, 400, 10, 10],
         };
         [
             (Name::Open, open),
@@ -51,6 +62,7 @@ impl Style {
             (Name::Leave, leave),
             (Name::Deliver, deliver),
             (Name::Bundle, bundle),
+            (Name::Settle, settle),
             (Name::Turn, turn),
             (Name::Find, find),
             (Name::Check, check),
@@ -77,6 +89,7 @@ pub fn call(bytes: &[u8], style: Style, pools: &Pools, random: &mut Random) -> C
         Name::Bundle => Call::Bundle {
             limit: chooser.limit(),
         },
+        Name::Settle => Call::Bundle { limit: u16::MAX },
         Name::Turn => Call::Turn,
         Name::Find => Call::Find {
             seat: chooser.seat(),

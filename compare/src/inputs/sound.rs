@@ -51,7 +51,8 @@ fn some_lots(pools: &Pools, random: &mut Random) -> Vec<Lot> {
     pools.seats[..count].iter().map(lot).collect()
 }
 
-/// Links that are the graph of the members, nearly that, or any that fit.
+/// Links that are the graph of the members, two graphs of a part of them each,
+/// nearly one of these, or any that fit.
 fn link(lots: &mut [Lot], clearing: bool, random: &mut Random) {
     let changes = match random.below(4) {
         0 => 0,
@@ -59,11 +60,15 @@ fn link(lots: &mut [Lot], clearing: bool, random: &mut Random) {
         2 => 1 + random.below(8),
         _ => lots.len() * LEVELS,
     };
-    if random.below(3) < 2 {
-        link_as_graph(lots, |_| true);
-        if clearing {
-            link_as_graph(lots, |lot| !lot.leaving);
-        }
+    let split = match random.below(6) {
+        0 | 1 => None,
+        2 => Some(random.below(lots.len() + 1)),
+        _ => Some(lots.len()),
+    };
+    if let Some(at) = split {
+        let (one, other) = lots.split_at_mut(at);
+        link_members(one, clearing);
+        link_members(other, clearing);
     }
     for _ in 0..changes {
         if !lots.is_empty() {
@@ -71,6 +76,13 @@ fn link(lots: &mut [Lot], clearing: bool, random: &mut Random) {
             let side = random.pick(&SIDES);
             lots[x].links[level][side as usize] = some_fitting(lots, x, level, side, random);
         }
+    }
+}
+
+fn link_members(lots: &mut [Lot], clearing: bool) {
+    link_as_graph(lots, |_| true);
+    if clearing {
+        link_as_graph(lots, |lot| !lot.leaving);
     }
 }
 

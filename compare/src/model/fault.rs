@@ -1,9 +1,11 @@
-//! The faults of document 01's "Faults that pass a first trial", and bundles
-//! that are not #101's. Only a test can switch one on, to see that the self
-//! checks catch it.
+//! The faults of document 01's "Faults that pass a first trial", bundles that
+//! are not #101's and searches that are not #102's. Only a test can switch one
+//! on, to see that it is caught.
 
 #[cfg(test)]
 use super::wrong_bundle::WrongBundle;
+#[cfg(test)]
+use super::wrong_find::WrongFind;
 use super::Model;
 
 #[derive(Clone, Copy, PartialEq, Eq, Debug)]
@@ -15,15 +17,20 @@ pub(crate) enum Fault {
     ProbeAtLevel8,
     #[cfg(test)]
     Bundle(WrongBundle),
+    #[cfg(test)]
+    Find(WrongFind),
 }
 
 impl Model {
     #[cfg(test)]
     pub(crate) fn with_fault(fault: Fault) -> Model {
-        Model {
-            fault: Some(fault),
-            ..Model::open()
-        }
+        Model::open().and_fault(fault)
+    }
+
+    #[cfg(test)]
+    pub(crate) fn and_fault(self, fault: Fault) -> Model {
+        let fault = Some(fault);
+        Model { fault, ..self }
     }
 
     #[cfg(test)]

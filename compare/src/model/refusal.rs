@@ -1,4 +1,4 @@
-//! The refusals, numbered as in document 01's table.
+//! The refusals, numbered as in document 01's table and document 02.
 
 #[derive(Clone, Copy, PartialEq, Eq, Debug)]
 pub enum Refusal {
@@ -14,11 +14,12 @@ pub enum Refusal {
     NoSuchMessage = 10,
     MessagesLeft = 11,
     NoSuchLevel = 12,
+    Unsettled = 13,
 }
 
 impl Refusal {
     /// The order in which the first row that applies is given.
-    pub const ORDER: [Refusal; 12] = [
+    pub const ORDER: [Refusal; 13] = [
         Refusal::WrongSize,
         Refusal::Unsound,
         Refusal::NoSuchSeat,
@@ -26,6 +27,7 @@ impl Refusal {
         Refusal::InClearing,
         Refusal::SeatTaken,
         Refusal::EmptySeat,
+        Refusal::Unsettled,
         Refusal::NumberInUse,
         Refusal::NoContact,
         Refusal::AlreadyLeaving,

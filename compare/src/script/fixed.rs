@@ -1,11 +1,14 @@
 //! Scripts that are the same in every run: lengths, counts and orders that
 //! generated ones reach rarely or never. Together they reach every mark.
 
+mod lengths;
+
 use super::Script;
 use crate::graph::{BITS, SEATS};
 use crate::model::{Message, Model, Phase, State, NO_CONTACT};
-use crate::reach::{LENGTHS, PIECE};
+use crate::reach::PIECE;
 use crate::text;
+use lengths::{commands_across_pieces, finished_lines, inputs_of_a_length, unfinished_lines};
 
 /// Every fixed script, with a name for reports.
 pub fn scripts() -> Vec<(String, Script)> {
@@ -36,6 +39,7 @@ pub fn scripts() -> Vec<(String, Script)> {
         named("filled and emptied", filled_and_emptied()),
         named("twelve clearings", clearings(12)),
         named("leavers and their neighbours", leavers()),
+        named("searches at rest and not", searches()),
     ];
     scripts.extend(unfinished_lines());
     scripts.extend(inputs_of_a_length());
@@ -80,10 +84,7 @@ impl Lines {
     }
 
     fn deliver(&mut self, m: Message) {
-        self.say(format!(
-            "D {} {} {} {} {}",
-            m.kind, m.to, m.about, m.level, m.side
-        ));
+        self.say(delivery(m));
     }
 
     /// Fills all seats, each lot at the one before it.
@@ -107,111 +108,8 @@ impl Lines {
     }
 }
 
-/// A line of some length, all of one byte or a command that goes on with it.
-fn long_line(length: usize, start: &[u8], filler: u8) -> Vec<u8> {
-    let mut line = start.to_vec();
-    line.resize(length, filler);
-    line
-}
-
-/// A start and what fills the rest: digits, spaces after a command, zeros in
-/// front of a number, zero bytes.
-const LONG: [(&[u8], u8); 5] = [
-    (b"", b'7'),
-    (b"J 0 1 0 255", b' '),
-    (b"L ", b'0'),
-    (b"T", 0),
-    (b"F 0 1", b'1'),
-];
-
-fn finished_lines() -> Script {
-    let mut lines = Lines::new();
-    lines.say("J 0 1 0 255");
-    for length in LENGTHS {
-        for (start, filler) in LONG {
-            lines.say(long_line(length, start, filler));
-            lines.say("F 0 1");
-        }
-    }
-    lines.say("P");
-    lines.script
-}
-
-/// Scripts that end in a long line without its newline, and in each command.
-fn unfinished_lines() -> Vec<(String, Script)> {
-    let start = b"J 0 1 0 255\n".to_vec();
-    let mut scripts = Vec::new();
-    for length in LENGTHS {
-        for (begin, filler) in LONG {
-            let script = vec![start.clone(), long_line(length, begin, filler)];
-            scripts.push((format!("an unfinished line of {length} bytes"), script));
-        }
-    }
-    let commands = ["J 1 2 0 0", "L 0", "D 1 0 1 0 0", "T", "A", "F 0 1", "P"];
-    for command in commands {
-        let mut script = vec![start.clone(), b"J 1 2 0 0\n".to_vec()];
-        if command.starts_with('J') {
-            script.pop();
-        }
-        script.push(command.as_bytes().to_vec());
-        scripts.push((format!("unfinished `{command}`"), script));
-    }
-    scripts
-}
-
-/// Inputs of exactly a piece, of two, and of a byte less and more; the last
-/// line with its newline and without it.
-fn inputs_of_a_length() -> Vec<(String, Script)> {
-    let mut scripts = Vec::new();
-    for length in [
-        1,
-        PIECE - 1,
-        PIECE,
-        PIECE + 1,
-        2 * PIECE - 1,
-        2 * PIECE,
-        2 * PIECE + 1,
-    ] {
-        for last in ["P", "P\n", "bad\n"] {
-            let name = format!("an input of {length} bytes that ends in {last:?}");
-            scripts.push((name, before(length.saturating_sub(last.len()), last)));
-        }
-    }
-    scripts
-}
-
-/// Some bytes of lines, then the given bytes.
-fn before(length: usize, last: &str) -> Script {
-    let mut script = vec![b"T\n".to_vec(); length / 2];
-    if length % 2 == 1 {
-        script.push(b"\n".to_vec());
-    }
-    script.push(last.as_bytes().to_vec());
-    script
-}
-
-/// Each command, cut by the end of a piece at each of its bytes.
-fn commands_across_pieces() -> Vec<(String, Script)> {
-    let mut scripts = Vec::new();
-    let commands = [
-        "J 7 1234567890 255 0",
-        "L 0",
-        "D 1 0 1 0 0",
-        "F 0 99",
-        "T",
-        "A",
-        "P",
-    ];
-    for command in commands {
-        for cut in 0..=command.len() {
-            let start = "J 0 100 0 255\nJ 1 200 0 0\n";
-            let rest = format!("{command}\nA\nP\n");
-            let mut script = before(PIECE - cut - start.len(), "");
-            script.extend([start.as_bytes().to_vec(), rest.into_bytes()]);
-            scripts.push((format!("`{command}` cut after {cut} bytes"), script));
-        }
-    }
-    scripts
+fn delivery(m: Message) -> String {
+    format!("D {} {} {} {} {}", m.kind, m.to, m.about, m.level, m.side)
 }
 
 /// Each byte alone, before a command, inside it and after it.
@@ -346,6 +244,7 @@ fn pairs() -> Script {
     let mut lines = Lines::new();
     lines.fill(|seat| u64::MAX - seat, |seat| seat / 2 * 8);
     lines.say_all(&["A", "P"]);
+    lines.search_from_all(u64::MAX - 31);
     lines.leave_all((0..SEATS as u8).filter(|seat| seat % 3 == 0));
     lines.say_all(&["P", "T", "P", "A", "P", "T", "P"]);
     lines.script
@@ -365,7 +264,7 @@ fn drained(next: fn(&Model) -> Option<Message>) -> Script {
     lines.leave_all((0..24).filter(|seat| seat % 3 != 1));
     lines.say("T");
     lines.drain(next);
-    lines.say_all(&["T", "P"]);
+    lines.say_all(&["T", "P", "F 1 1000"]);
     lines.script
 }
 
@@ -452,7 +351,38 @@ fn leavers() -> Script {
         .seated()
         .any(|(_, lot)| lot.state == State::Leaving));
     lines.say_all(&["T", "P", "F 0 9", "J 3 9 96 9", "A", "P"]);
+    lines.search_from_all(10);
     lines.script
+}
+
+/// After each line, searches from a lot that finds a holder and one that finds
+/// none, from a free seat and from no seat: in either phase, with messages pending
+/// and without, and in phase open with a leaver.
+fn searches() -> Script {
+    let mut lines = Lines::new();
+    lines.say_searching("T");
+    for join in ["J 0 100 0 255", "J 1 200 128 0", "J 2 300 64 0"] {
+        lines.say_searching(join);
+    }
+    lines.drain_searching();
+    for line in ["L 1", "T"] {
+        lines.say_searching(line);
+    }
+    lines.drain_searching();
+    lines.say_searching("T");
+    lines.script
+}
+
+impl Lines {
+    fn say_searching(&mut self, line: &str) {
+        self.say_all(&[line, "F 0 250", "F 2 99", "F 9 250", "F 64 250"]);
+    }
+
+    fn drain_searching(&mut self) {
+        while let Some(&m) = self.model.pending().first() {
+            self.say_searching(&delivery(m));
+        }
+    }
 }
 
 #[cfg(test)]

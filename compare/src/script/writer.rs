@@ -1,6 +1,8 @@
 //! Writes a script line by line. A model runs along, so that the writer knows
 //! what is seated and pending and most lines do something.
 
+mod searches;
+
 use super::damage;
 use super::pools::Pools;
 use super::{Script, Step};
@@ -75,7 +77,9 @@ impl Writer {
             for line in ["A", "P", "T", "A", "P", "T", "P"] {
                 self.say(line);
             }
-            self.find_from_all();
+            for _ in 0..3 {
+                self.find_from_all();
+            }
         }
         if self.random.one_in(4) {
             if self.limit > 0 && self.random.one_in(2) {
@@ -100,7 +104,7 @@ impl Writer {
             Step::Deliver => self.deliver(),
             Step::Drain => self.drain(),
             Step::Turn => self.say("T"),
-            Step::Settle => self.say("A"),
+            Step::Settle => self.settle(),
             Step::Clear => self.clear(),
             Step::Depart => self.depart(),
             Step::Empty => self.empty(),
@@ -256,6 +260,12 @@ impl Writer {
             }
         }
         self.order = self.some_order();
+        self.find_if_settled();
+    }
+
+    fn settle(&mut self) {
+        self.say("A");
+        self.find_if_settled();
     }
 
     fn some_order(&mut self) -> Order {
@@ -315,11 +325,12 @@ impl Writer {
             self.say("T");
         }
         self.say("P");
+        self.find_if_settled();
     }
 
     fn settle_somehow(&mut self) {
         match self.random.one_in(3) {
-            true => self.say("A"),
+            true => self.settle(),
             false => self.drain(),
         }
         self.say("P");
@@ -336,6 +347,7 @@ impl Writer {
         self.drain();
         self.say("P");
         self.say("T");
+        self.find_if_settled();
     }
 
     fn empty(&mut self) {
@@ -343,23 +355,6 @@ impl Writer {
             self.leave();
         }
         self.clear();
-    }
-
-    fn find(&mut self) {
-        let seats = self.seats(None);
-        let start = match seats.is_empty() || self.random.one_in(12) {
-            true => self.some_seat(),
-            false => self.random.pick(&seats),
-        };
-        let number = self.some_number();
-        self.say(format!("F {start} {number}"));
-    }
-
-    fn find_from_all(&mut self) {
-        let number = self.some_number();
-        for start in self.seats(None) {
-            self.say(format!("F {start} {number}"));
-        }
     }
 
     /// A number of the pool or next to one.

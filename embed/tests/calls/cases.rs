@@ -1,6 +1,7 @@
-//! The worked cases of document 01 that speak of calls: (b) to (h), (k), (l).
+//! The worked cases of document 01 that speak of calls, (b) to (h), (k) and (l),
+//! and the scan of document 02 that waits.
 
-use crate::common::{deliver_all, q, refused};
+use crate::common::{deliver_all, q, refused, three_lots, Owned};
 use lots_record::{Counts, Found, Lot, Phase, Record, State, LEFT, RIGHT};
 
 fn find_in_q(start: u8, number: u64) -> (Option<u8>, u64) {
@@ -114,4 +115,41 @@ fn case_l_a_sole_lot_leaves() {
     assert_eq!(record.counts().unwrap().phase, Phase::Clearing);
     record.turn().unwrap();
     assert_eq!(record, Record::new());
+}
+
+/// Delivers all messages one by one; before each of them a scan is refused.
+fn deliver_all_waiting(record: &mut Owned) {
+    while record.counts().unwrap().pending > 0 {
+        a_scan_waits(record);
+        assert_eq!(record.bundle(1), Ok(1));
+    }
+}
+
+fn a_scan_waits(record: &Owned) {
+    for start in 0..3 {
+        refused(record.as_bytes(), 13, |record| {
+            record.find(start, 250).map(drop)
+        });
+    }
+}
+
+/// While messages are pending, and in phase clearing with them and without; but
+/// not for a lot that is leaving in phase open.
+#[test]
+fn a_scan_waits_for_a_settled_record() {
+    let mut record = three_lots();
+    let found = |holder, hops| {
+        let holder = Some(holder);
+        Ok(Found { holder, hops })
+    };
+    deliver_all_waiting(&mut record);
+    assert_eq!(record.find(0, 250), found(1, 1));
+    record.leave(1).unwrap();
+    assert_eq!(record.find(0, 250), found(1, 1));
+    assert_eq!(record.find(1, 250), found(1, 0));
+    record.turn().unwrap();
+    deliver_all_waiting(&mut record);
+    a_scan_waits(&record);
+    record.turn().unwrap();
+    assert_eq!(record.find(0, 250), found(0, 0));
 }

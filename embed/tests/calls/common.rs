@@ -29,15 +29,17 @@ pub fn deliver_all(record: &mut Owned) {
     assert_eq!(record.counts().unwrap().pending, 0);
 }
 
-/// The first set bit of the pending bits, by docs/RECORD.md.
+/// Where the pending bits begin, by docs/RECORD.md.
+pub const PENDING: usize = 1793;
+
+/// The first set bit of the pending bits.
 pub fn smallest_pending(bytes: &[u8]) -> Option<Message> {
-    const PENDING: usize = 1793;
     let (place, byte) = (0..).zip(&bytes[PENDING..]).find(|&(_, &byte)| byte != 0)?;
     Some(message_at(8 * place + byte.trailing_zeros()))
 }
 
 /// The message at a place of the ascending order.
-fn message_at(mut place: u32) -> Message {
+pub fn message_at(mut place: u32) -> Message {
     const SEATS: u32 = 64;
     // How many values `about`, `level` and `side` have, by kind from 1.
     const VALUES: [(u32, u32, u32); 7] = [

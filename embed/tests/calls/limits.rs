@@ -1,8 +1,8 @@
 //! The last seat, the ends of the numbers, a full record, and bytes lent in
 //! several ways.
 
-use crate::common::{deliver_all, q, smallest_pending, three_lots};
-use lots_record::{Counts, Found, Message, Phase, Record, LEFT, RIGHT, SIZE};
+use crate::common::{deliver_all, message_at, q, refused, smallest_pending, three_lots, PENDING};
+use lots_record::{Counts, Found, Message, Phase, Record, Refusal, LEFT, RIGHT, SIZE};
 
 #[test]
 fn the_last_seat_and_the_ends_of_the_numbers() {
@@ -84,6 +84,7 @@ fn a_full_record_settles_and_finds_every_holder() {
         let contact = (i > 0).then(|| lots[i / 2].0);
         record.join(seat, number, vector, contact).unwrap();
     }
+    assert_eq!(record.find(0, 0), Err(Refusal::Unsettled));
     deliver_all(&mut record);
     let counts = Counts {
         lots: 64,
@@ -96,6 +97,38 @@ fn a_full_record_settles_and_finds_every_holder() {
         for scanned in [number, number + 9] {
             assert_eq!(record.find(0, scanned).unwrap().holder, Some(seat));
         }
+    }
+    for seat in 0..64 {
+        record.leave(seat).unwrap();
+        assert_eq!(
+            record.find(seat, u64::MAX).unwrap().holder,
+            Some(lots[63].0)
+        );
+    }
+    record.turn().unwrap();
+    assert_eq!(record.find(0, 0), Err(Refusal::Unsettled));
+}
+
+/// One bit in all, the first or the last that a message of phase open has here.
+#[test]
+fn a_scan_waits_for_the_first_and_the_last_message() {
+    let mut record = Record::new();
+    record.join(0, 100, 0, None).unwrap();
+    record.join(1, 200, 128, Some(0)).unwrap();
+    record.join(63, 300, 64, Some(0)).unwrap();
+    deliver_all(&mut record);
+    assert_eq!(record.find(0, 250).unwrap().holder, Some(1));
+    let (first, last) = (Message::new(1, 0, 1, 0, 0), Message::new(3, 63, 1, 7, 1));
+    for message in [first, last] {
+        let place = (0..).find(|&place| message_at(place) == message).unwrap();
+        let mut bytes = record.as_bytes().to_vec();
+        bytes[PENDING + place as usize / 8] |= 1 << (place % 8);
+        assert_eq!(smallest_pending(&bytes), Some(message));
+        assert_eq!(Record::over(&bytes).check(), Ok(true));
+        refused(&bytes, 13, |record| record.find(0, 250).map(drop));
+        let mut delivered = Record::over(bytes);
+        delivered.bundle(u16::MAX).unwrap();
+        assert_eq!(delivered.as_bytes(), record.as_bytes());
     }
 }
 

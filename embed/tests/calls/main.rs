@@ -1,4 +1,4 @@
-//! The calls of a record against document 01.
+//! The calls of a record against documents 01 and 02.
 
 mod bundle;
 mod cases;

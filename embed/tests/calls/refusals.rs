@@ -1,6 +1,6 @@
-//! Every refusal of document 01's table, and that it changes no byte.
+//! Every refusal of documents 01 and 02, and that it changes no byte.
 
-use crate::common::{q, refused, three_lots, Owned};
+use crate::common::{deliver_all, q, refused, three_lots, Owned, PENDING};
 use lots_record::{Message, Record, Refusal, SIZE};
 
 const NO_MESSAGE: Message = Message::new(1, 0, 63, 8, 0);
@@ -26,6 +26,14 @@ const CALLS: [Call; 14] = [
     |record| record.pending_messages().map(drop),
 ];
 
+// Where entries begin.
+const ENTRY: usize = 28;
+const SEAT_0: usize = 1;
+const SEAT_1: usize = SEAT_0 + ENTRY;
+const SEAT_2: usize = SEAT_1 + ENTRY;
+const SEAT_3: usize = SEAT_2 + ENTRY;
+
+/// Messages are pending.
 fn clearing() -> Owned {
     let mut record = q();
     record.leave(1).unwrap();
@@ -61,11 +69,6 @@ fn unsound_of_every_call_but_open() {
 /// Bytes of the right size that break one clause of "Sound" each, and some that
 /// break many.
 fn unsound() -> Vec<Vec<u8>> {
-    const ENTRY: usize = 28;
-    const SEAT_0: usize = 1;
-    const SEAT_1: usize = SEAT_0 + ENTRY;
-    const SEAT_3: usize = SEAT_1 + 2 * ENTRY;
-    const PENDING: usize = 1793;
     let q = q();
     let changed = |at: usize, byte: u8| {
         assert_ne!(q.as_bytes()[at], byte);
@@ -162,6 +165,42 @@ fn empty_seat() {
     }
 }
 
+/// Records that are not settled: messages pending in either phase, clearing with
+/// nothing pending, and Q without some links, so that the check says no.
+fn unsettled() -> Vec<Vec<u8>> {
+    let mut cleared = clearing();
+    deliver_all(&mut cleared);
+    let (left, right) = (SEAT_2 + 12, SEAT_0 + 13);
+    let level_0 = [SEAT_0 + 11, SEAT_1 + 10, SEAT_1 + 11, SEAT_2 + 10];
+    let without = |places: &[usize]| {
+        let mut bytes = q().as_bytes().to_vec();
+        for &at in places {
+            assert_ne!(bytes[at], 255);
+            bytes[at] = 255;
+        }
+        assert_eq!(Record::over(&bytes).check(), Ok(false));
+        bytes
+    };
+    vec![
+        three_lots().as_bytes().to_vec(),
+        clearing().as_bytes().to_vec(),
+        cleared.as_bytes().to_vec(),
+        // A link at level 0, both at level 1, and all: three lists.
+        without(&level_0[..1]),
+        without(&[left, right]),
+        without(&[&level_0[..], &[left, right]].concat()),
+    ]
+}
+
+#[test]
+fn find_meets_3_then_8_then_13() {
+    for bytes in unsettled() {
+        for (seat, number) in [(64, 3), (9, 8), (0, 13), (2, 13)] {
+            refused(&bytes, number, |record| record.find(seat, 250).map(drop));
+        }
+    }
+}
+
 #[test]
 fn already_leaving() {
     let mut record = q();
@@ -220,6 +259,7 @@ fn a_refusal_is_an_error_with_the_tables_term() {
         "no such message",
         "messages left",
         "no such level",
+        "unsettled",
     ];
     for (number, term) in (1..).zip(terms) {
         let refusal = Refusal::from_number(number).unwrap();

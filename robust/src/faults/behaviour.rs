@@ -1,12 +1,12 @@
 //! Calls that answer wrongly, change what they must not or send too little.
 
-use super::{caught, right};
+use super::{caught, put_right, right};
 use crate::judge::Difference;
 use crate::sys::{Make, Outcome};
 use compare::call::{Answer, Call, Values, NO_VALUES};
-use compare::graph::{self, LEVELS, SEATS};
+use compare::graph::{LEVELS, SEATS};
 use compare::lent::place::*;
-use compare::lent::{self, message_at, SIZE};
+use compare::lent::{message_at, SIZE};
 use compare::model::Message;
 use std::ops::Range;
 
@@ -142,7 +142,7 @@ wrong! {
         |before, _, _, call, _, mut outcome| {
             if call == Call::Check && outcome.answer == Answer::accepted(NO_VALUES) {
                 let mut other = before.to_vec();
-                link_level_8(&mut other);
+                put_right(&mut other, LEVELS - 1..LEVELS);
                 outcome.answer = call.on_bytes(&mut other);
             }
             outcome
@@ -247,19 +247,6 @@ fn refused(number: u8) -> Outcome {
 
 fn state(bytes: &[u8], seat: u8) -> u8 {
     bytes[ENTRIES_AT + ENTRY * usize::from(seat) + STATE_AT]
-}
-
-/// Sets the links of the members at level 8 as in their graph.
-fn link_level_8(bytes: &mut [u8]) {
-    let members = lent::from_bytes(bytes)
-        .expect("the record is sound")
-        .members();
-    for (member, links) in members.iter().zip(graph::links(&members)) {
-        for (side, link) in links[LEVELS - 1].into_iter().enumerate() {
-            let at = ENTRIES_AT + ENTRY * usize::from(member.seat) + link_at(LEVELS - 1, side);
-            bytes[at] = link.unwrap_or(NO_LINK);
-        }
-    }
 }
 
 /// Takes back messages that an accepted call has sent: `(taken, sent)`.
