@@ -25,7 +25,7 @@ use Rattle.record.specs.Layout.{seats, messages, pendingFrom}
 use Rattle.record.specs.Meaning.{meaning}
 use Rattle.record.proofs.Form.{meaning-bit}
 use Rattle.messages.specs.inner.Numbers.{firstPending}
-use Rattle.messages.proofs.First.{first-pending-bit, first-smallest, first-none}
+use Rattle.messages.proofs.First.{first-pending-bit, first-smallest, first-none, first-of-all}
 use Rattle.index.specs.inner.Index.{words, parts, isNoted, noting, isSome, Exact}
 use Rattle.index.proofs.Index.{noted-same, noted-other, note-exact, none-noted, exact-none}
 use Rattle.bundle.specs.inner.Steps.{firstWord, firstNoted, Tracks, IsReady, IsBeyond}
@@ -134,17 +134,15 @@ started l x from z e h =
 
 -- the first pending message of all, at place i: its word is not after the first word, and without one nothing is pending
 module _ (l : List ℕ) {i : ℕ} (e : i ≡ firstPending l 0) where
-  at-first : IsFirst messages 0 (bitSet l pendingFrom) i
-  at-first = rw (e, ← first-pending-bit l 0 (omega arith)) (first messages 0 (bitSet l pendingFrom))
-
   pub first-place : i / 64 ≤ firstWord l
   first-place = ⊎-elim (λ h. absurd (by h)) (λ h. h) (lt-or-ge (firstWord l) (i / 64))
     where
       by : firstWord l < i / 64 → ⊥
       by h =
           let f = first words 0 (wordSet l pendingFrom) in
-          true-false (f .found (omega (arith, at-first .high)))
-          (clear-word-bits l pendingFrom (firstWord l) (λ j p. at-first .before (firstWord l * 64 + j) (omega arith) (omega arith)))
+          let all = first-of-all l e in
+          true-false (f .found (omega (arith, all .high)))
+          (clear-word-bits l pendingFrom (firstWord l) (λ j p. all .before (firstWord l * 64 + j) (omega arith) (omega arith)))
 
   pub quiet-none : i ≡ messages → smallest seats width (meaning l .pending) ≡ none
   quiet-none z = first-none l 0 (λ j h. absurd (omega arith)) (sym e ∙ z)

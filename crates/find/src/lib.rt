@@ -1,5 +1,5 @@
-// The search for the lot of a scanned number over a lent record (document 01, "Find"): from the top level toward the number, a level down
-// where the link is none or lies beyond it, and at the end the lot that is not above it.
+// The search for the lot of a scanned number over a lent record that is settled (document 01, "Find"; document 02, #102): from the top level toward
+// the number, a level down where the link is none or lies beyond it, and at the end the lot that is not above it.
 ghost use mathlib.Core.Path.{_≡_};
 ghost use mathlib.Core.Bool.{true};
 ghost use Prim.Native.Nat.{_+_, _^_, _<_};

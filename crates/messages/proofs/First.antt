@@ -1,6 +1,6 @@
 -- The first place whose message is pending, at or after a place: from the first place on whose message does not come before five numbers, its
--- message is the smallest pending one at or after them; and from a place below which nothing is pending it is the smallest of all. Assumes
--- nothing.
+-- message is the smallest pending one at or after them; and from a place below which nothing is pending it is the smallest of all. The first
+-- place of all says whether something is pending. Assumes nothing.
 use Prim.Native.Nat.{ℕ, _-_, _≤_, _<_}
 use mathlib.Core.Path.{_≡_, sym, _∙_}
 use mathlib.Core.Option.{none, some}
@@ -90,23 +90,23 @@ none-before-end l e = record { within = omega arith; clear = count-zero messages
 
 -- the first place of all: nothing is pending before it, and something is exactly if it is a place
 module _ (l : List ℕ) {i : ℕ} (e : i ≡ firstPending l 0) where
-  of-all : IsFirst messages 0 (bitSet l pendingFrom) i
-  of-all = rw (e, ← first-pending-bit l 0 (omega arith)) (first messages 0 (bitSet l pendingFrom))
+  pub first-of-all : IsFirst messages 0 (bitSet l pendingFrom) i
+  first-of-all = rw (e, ← first-pending-bit l 0 (omega arith)) (first messages 0 (bitSet l pendingFrom))
 
   pub none-before-first : NoneBefore l i
-  none-before-first = record { within = omega (arith, of-all .high); clear = λ j h. of-all .before j (omega arith) h }
+  none-before-first = record { within = omega (arith, first-of-all .high); clear = λ j h. first-of-all .before j (omega arith) h }
 
   pub quiet-pending : messages ≤ i → somePending seats width (meaning l .pending) ≡ false
   unfolding somePending
   quiet-pending h = none-any messages (λ i. meaning l .pending (messageAt seats width i))
-      (λ j p t. false-T (meaning-bit l j p ∙ of-all .before j (omega arith) (omega arith)) t)
+      (λ j p t. false-T (meaning-bit l j p ∙ first-of-all .before j (omega arith) (omega arith)) t)
 
   pub some-pending : i < messages → somePending seats width (meaning l .pending) ≡ true
   unfolding somePending
-  some-pending h = T-true (any-in messages (λ i. meaning l .pending (messageAt seats width i)) i h (true-T (meaning-bit l i h ∙ of-all .found h)))
+  some-pending h = T-true (any-in messages (λ i. meaning l .pending (messageAt seats width i)) i h (true-T (meaning-bit l i h ∙ first-of-all .found h)))
 
   pub quiet-test : eqb i messages ≡ not (somePending seats width (meaning l .pending))
   quiet-test = ⊎-elim
       (λ z. rw (eq-eqb i messages z, quiet-pending (omega arith)))
-      (λ ne. rw (ne-eqb i messages ne, some-pending (omega (arith, of-all .high, ne))))
+      (λ ne. rw (ne-eqb i messages ne, some-pending (omega (arith, first-of-all .high, ne))))
       (eq-or-ne i messages)
