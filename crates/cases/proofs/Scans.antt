@@ -27,7 +27,6 @@ use Rattle.record.specs.Meaning.{linkOf, seatsIn, meaning}
 use Rattle.record.specs.Reading.{openRefusal}
 use Rattle.record.proofs.Form.{meaning-link}
 use Rattle.record.proofs.Places.{length-bytesOf}
-use Rattle.record.proofs.Refused.{Passed}
 use Rattle.record.proofs.Round.{bytes-bytes}
 use Rattle.find.specs.Find.{FindAnswer, findRefusal}
 use Rattle.find.proofs.Scans.{wrong-refused, find-refused}

@@ -9,7 +9,7 @@ ghost use Rattle.protocol.specs.Calls.{turn as turning, accept};
 ghost use Rattle.protocol.specs.State.{leaves};
 ghost use Rattle.protocol.specs.pages.Turn.{farewell, farewells};
 ghost use Rattle.record.specs.Layout.{seats, levels, size};
-ghost use Rattle.record.specs.Meaning.{seatsIn, meaning};
+ghost use Rattle.record.specs.Meaning.{seatsIn};
 ghost use Rattle.graph.specs.Side.{sideOfNumber};
 ghost use Rattle.record.specs.Call.{callRefusal, called};
 ghost use Rattle.record.specs.Answer.{outcome, Numbered};
