@@ -29,9 +29,7 @@ use record::LEVELS;
 use record::MESSAGES;
 use record::PENDING;
 use record::SEATS;
-use record::SIZE;
 use record::WIDTH;
-use record::refusals::WRONG_SIZE;
 use rules::going;
 use rules::lend_found;
 use rules::lend_none;
@@ -39,7 +37,7 @@ use rules::meet;
 use rules::probe;
 use rules::pull;
 use rules::seek;
-use soundness::sized_refusal;
+use soundness::look;
 
 // The answer of a bundle: how many messages were delivered.
 pub enum Bundled {
@@ -150,16 +148,12 @@ fn deliver_smallest(rec: &mut [u8], limit: u16, from: usize) -> u16
 pub fn bundle(rec: &mut [u8], limit: u16) -> Bundled
     ensures { λ r. ⌜ (bundleOutcome r (now (rec .exit)) ≡ bundled (now (rec .entry)) limit) × BundleNumbered r ⌝ }
 {
-    if rec.len() != SIZE {
-        return Bundled::Refused(WRONG_SIZE);
+    let seen = look(rec);
+    if seen.refused != 0 {
+        return Bundled::Refused(seen.refused);
     }
-    let first = first_pending(rec, 0);
-    let refused = sized_refusal(rec, first);
-    if refused != 0 {
-        return Bundled::Refused(refused);
-    }
-    if first == MESSAGES {
+    if seen.first == MESSAGES {
         return Bundled::Delivered(0);
     }
-    Bundled::Delivered(deliver_smallest(rec, limit, first / WORD))
+    Bundled::Delivered(deliver_smallest(rec, limit, seen.first / WORD))
 }

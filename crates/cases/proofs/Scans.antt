@@ -55,7 +55,11 @@ scans l o = record {
     scan-clearing l o (join 0 100 0 255 ∷ leave 0 ∷ turn ∷ []) tt 0 (omega arith) refl refl,
     scan-accepted l o kCalls tt refl refl 0 tt,
   );
-  order = (scan-seat l o iCalls tt 64 (omega arith), scan-empty l o iCalls tt 3 (omega arith) refl);
+  order = (
+    scan-seat l o iCalls tt 64 (omega arith),
+    scan-empty l o iCalls tt 63 (omega arith) refl,
+    scan-accepted l o (join 63 100 0 255 ∷ []) tt refl refl 63 tt,
+  );
 }
 
 -- the three lots in phase open with some links, but without a right link of the lot on seat 0 at level k that the graph has

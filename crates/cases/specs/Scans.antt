@@ -29,8 +29,8 @@ pub record Scans (l : List ℕ) : Type 0 where
   pub clearing : (scanned l (qCalls ++ leave 1 ∷ turn ∷ []) 0 ≡ 13)
       × (scanned l (join 0 100 0 255 ∷ leave 0 ∷ turn ∷ []) 0 ≡ 13)
       × (scanned l kCalls 0 ≡ 0)
-  -- 3 and 8 before 13
-  pub order : (scanned l iCalls 64 ≡ 3) × (scanned l iCalls 3 ≡ 8)
+  -- 3 and 8 before 13: seat 64, and the last seat, which is free; a scan from a lot on the last seat
+  pub order : (scanned l iCalls 64 ≡ 3) × (scanned l iCalls 63 ≡ 8) × (scanned l (join 63 100 0 255 ∷ []) 63 ≡ 0)
 
 -- 13 where the check says no, in phase open with nothing pending: no link at all; links at level 0 alone, where 100 and 300 share a bit
 pub record ScansUnlinked : Type 0 where

@@ -19,7 +19,6 @@ pub mod freeing;
 
 use graph::LEFT;
 use graph::RIGHT;
-use messages::first_pending;
 use messages::going_place;
 use record::Answer;
 use record::CLEARING;
@@ -27,12 +26,10 @@ use record::LEVELS;
 use record::MESSAGES;
 use record::OPEN;
 use record::SEATS;
-use record::SIZE;
 use record::lots::is_leaving;
 use record::lots::link;
 use record::refusals::MESSAGES_LEFT;
-use record::refusals::WRONG_SIZE;
-use soundness::sized_refusal;
+use soundness::look;
 
 // A test as a bit.
 fn one_if(b: bool) -> u64
@@ -143,15 +140,11 @@ fn carry_out(rec: &mut [u8])
 fn turn_refusal(rec: &[u8]) -> u8
     ensures { λ r. ⌜ r ≡ callRefusal (now (rec .entry)) turning ⌝ }
 {
-    if rec.len() != SIZE {
-        return WRONG_SIZE;
+    let seen = look(rec);
+    if seen.refused != 0 {
+        return seen.refused;
     }
-    let first = first_pending(rec, 0);
-    let n = sized_refusal(rec, first);
-    if n != 0 {
-        return n;
-    }
-    if first < MESSAGES {
+    if seen.first < MESSAGES {
         return MESSAGES_LEFT;
     }
     0

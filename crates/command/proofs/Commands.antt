@@ -64,7 +64,8 @@ find-reads (a ∷ b ∷ d ∷ e ∷ f ∷ g ∷ l) = simp by-fields
 pub join-reads : (fs : List (List ℕ))
     → commandOf ((74 ∷ []) ∷ fs)
     ≡ next (read byteField fs)
-    (λ s fs₁. next (read numberField fs₁) (λ n fs₂. next (read vectorField fs₂) (λ v fs₃. ends (read byteField fs₃) (λ w. some (join s n v w)))))
+    (λ s fs₁. next (read numberField fs₁) (λ n fs₂.
+    next (read vectorField fs₂) (λ v fs₃. ends (read byteField fs₃) (λ w. some (join s n v w)))))
 unfolding commandOf read
 join-reads [] = refl
 join-reads (a ∷ []) = simp by-fields

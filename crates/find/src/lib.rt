@@ -21,17 +21,14 @@ use check_links::links_fit;
 use graph::LEFT;
 use graph::on_side;
 use graph::side_of;
-use messages::first_pending;
 use record::MESSAGES;
 use record::SEATS;
-use record::SIZE;
 use record::lots::is_clearing;
 use record::lots::is_seated;
 use record::refusals::EMPTY_SEAT;
 use record::refusals::NO_SUCH_SEAT;
 use record::refusals::UNSETTLED;
-use record::refusals::WRONG_SIZE;
-use soundness::sized_refusal;
+use soundness::look;
 
 pub enum Found {
     Refused(u8),
@@ -159,13 +156,9 @@ fn is_settled(rec: &[u8], first: usize) -> bool
 fn find_refusal(rec: &[u8], seat: u8) -> u8
     ensures { λ r. ⌜ r ≡ findRefusal (now (rec .entry)) seat ⌝ }
 {
-    if rec.len() != SIZE {
-        return WRONG_SIZE;
-    }
-    let first = first_pending(rec, 0);
-    let n = sized_refusal(rec, first);
-    if n != 0 {
-        return n;
+    let seen = look(rec);
+    if seen.refused != 0 {
+        return seen.refused;
     }
     let s = seat as usize;
     if s >= SEATS {
@@ -174,7 +167,7 @@ fn find_refusal(rec: &[u8], seat: u8) -> u8
     if !is_seated(rec, s) {
         return EMPTY_SEAT;
     }
-    if !is_settled(rec, first) {
+    if !is_settled(rec, seen.first) {
         return UNSETTLED;
     }
     0

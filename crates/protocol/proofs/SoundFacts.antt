@@ -196,7 +196,8 @@ module _ {N W : ℕ} {M : Meaning} (h : Sound N W M) where
   -- one lies on the side of the other that their numbers tell
   pub two-lt : {k x y : ℕ} → Two W (M .seats) k x y → Lt (M .seats .number) (sideOf (M .seats .number x) (M .seats .number y)) x y
   two-lt {x = x} {y = y} t =
-      let (d, l) = lt-some (M .seats .number) x y (λ e. t .apart (h .differ x y (seated-taken (M .seats) x (t .one)) (seated-taken (M .seats) y (t .two)) e)) in
+      let same = h .differ x y (seated-taken (M .seats) x (t .one)) (seated-taken (M .seats) y (t .two)) in
+      let (d, l) = lt-some (M .seats .number) x y (λ e. t .apart (same e)) in
       rw (side-of (M .seats .number) l) l
 
   -- a lot sits below N

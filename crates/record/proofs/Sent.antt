@@ -77,7 +77,8 @@ module _ (M : Meaning) (p : Msg → Bool) (m : Msg) (x : T (exists seats width m
           (λ e. hasBit-withBit-other y (c % byteBits) j b e
           ∙ ap (λ (n : ℕ). hasBit n j) old
           ∙ packed-bits byteBits (λ j. M .pending (messageAt seats width (c / byteBits * byteBits + j))) j l
-          ∙ (let i = c / byteBits * byteBits + j in sym (others (messageAt seats width i) (other i (omega (arith, place-within m x)) (λ q. e (omega arith))))))
+          ∙ (let i = c / byteBits * byteBits + j in
+          sym (others (messageAt seats width i) (other i (omega (arith, place-within m x)) (λ q. e (omega arith))))))
           (eq-or-ne j (c % byteBits))
 
       new : packed byteBits (λ j. p (messageAt seats width (place seats width m / byteBits * byteBits + j))) ≡ withBit y (c % byteBits) b

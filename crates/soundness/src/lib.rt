@@ -6,7 +6,7 @@ ghost use lib.ListN.{length};
 ghost use Rattle.base.specs.Loops.{all};
 ghost use Rattle.record.specs.Layout.{seats, size};
 ghost use Rattle.record.specs.Reading.{recordRefusal};
-ghost use Rattle.messages.specs.inner.Numbers.{NoneBefore};
+ghost use Rattle.messages.specs.inner.Numbers.{firstPending, NoneBefore};
 ghost use Rattle.soundness.specs.inner.Parts.{seatFits, entriesFit};
 ghost use Rattle.record.specs.Sound.{numbersDiffer, linksFit};
 
@@ -14,6 +14,7 @@ mod entries;
 mod links;
 mod pending;
 
+use messages::first_pending;
 use record::SEATS;
 use record::SIZE;
 use record::refusals::UNSOUND;
@@ -55,12 +56,34 @@ pub fn sized_refusal(rec: &[u8], from: usize) -> u8
     0
 }
 
-// The record's own refusal, in front of every call but open: 1 wrong size, 2 unsound, or 0.
+// What a call sees of a record at first: the record's own refusal, 1 wrong size, 2 unsound, or 0; and then the place of its first pending message.
+pub struct Seen {
+    pub refused: u8,
+    pub first: usize,
+}
+
+// The look in front of a call that asks whether something is pending: the pending bits are gone through once.
+pub fn look(rec: &[u8]) -> Seen
+    ensures refused { λ r. ⌜ r .refused ≡ recordRefusal (now (rec .entry)) ⌝ }
+    ensures first { λ r. ⌜ (r .refused ≡ 0 → r .first ≡ firstPending (now (rec .entry)) 0) ⌝ }
+{
+    if rec.len() != SIZE {
+        return Seen {
+            refused: WRONG_SIZE,
+            first: 0,
+        };
+    }
+    let first = first_pending(rec, 0);
+    let refused = sized_refusal(rec, first);
+    Seen {
+        refused: refused,
+        first: first,
+    }
+}
+
+// The record's own refusal, in front of every call but open.
 pub fn record_refusal(rec: &[u8]) -> u8
     ensures { λ r. ⌜ r ≡ recordRefusal (now (rec .entry)) ⌝ }
 {
-    if rec.len() != SIZE {
-        return WRONG_SIZE;
-    }
-    sized_refusal(rec, 0)
+    look(rec).refused
 }
