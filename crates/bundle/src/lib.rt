@@ -30,10 +30,10 @@ use record::MESSAGES;
 use record::PENDING;
 use record::SEATS;
 use record::WIDTH;
+use rules::found;
 use rules::going;
-use rules::lend_found;
-use rules::lend_none;
 use rules::meet;
+use rules::none;
 use rules::probe;
 use rules::pull;
 use rules::seek;
@@ -79,12 +79,12 @@ fn carry_out(rec: &mut [u8], index: &mut [u64], top: u64, i: usize) -> u64
     if i < NONES {
         let j = i - FOUNDS;
         let pair = j / LEVELS;
-        lend_found(rec, pair / SEATS, pair % SEATS, j % LEVELS);
+        found(rec, pair / SEATS, pair % SEATS, j % LEVELS);
         return top;
     }
     let j = i - NONES;
     let level = j / 2;
-    lend_none(rec, level / LEVELS, level % LEVELS, j % 2);
+    none(rec, level / LEVELS, level % LEVELS, j % 2);
     top
 }
 

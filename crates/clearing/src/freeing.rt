@@ -13,6 +13,7 @@ use record::FREE;
 use record::LEVELS;
 use record::NONE;
 use record::SEATS;
+use record::fields::Change;
 
 // Whether seat s is in the set.
 fn in_set(set: u64, s: usize) -> bool
@@ -37,7 +38,7 @@ fn unlink(rec: &mut [u8], set: u64, x: usize, k: usize, d: usize)
 {
     let y = record::link(rec, x, k, d) as usize;
     if parts(set, x, y) {
-        record::set_link(rec, x, k, d, NONE);
+        record::write_link(rec, x, k, d, Change::Set(NONE));
     }
 }
 

@@ -28,12 +28,11 @@ use Rattle.protocol.proofs.Local.{delivery-local, entry-local, one-entry, pendi
 use Rattle.record.specs.Layout.{seats, levels, stateOffset, numberOffset, vectorOffset, linksOffset, entrySize, entryAt, linkAt, pendingFrom, size}
 use Rattle.record.specs.Local.{AgreeBytes}
 use Rattle.record.specs.Cell.{Cell, phaseCell, stateCell, numberCell, vectorCell, linkCell, pendingCell, cellFrom, cellSize}
-use Rattle.record.specs.inner.Cell.{InRecord}
+use Rattle.record.specs.inner.Cell.{InRecord, Outside}
 use Rattle.record.specs.Meaning.{meaning, stateByte, linkByte, valueOf, bytesOf}
 use Rattle.record.proofs.Places.{getD-bytesOf}
 use Rattle.record.proofs.Form.{Form, meaning-pending, exists-pending}
 use Rattle.record.proofs.Round.{bytes-meaning, read-message}
-use Rattle.record.proofs.Cells.{Outside}
 use Rattle.record.proofs.Frame.{frame}
 use Rattle.record.proofs.Sound.{sound-is}
 use Rattle.record.proofs.Refused.{Passed, rows-passed}

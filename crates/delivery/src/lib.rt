@@ -16,10 +16,10 @@ use messages::place_of;
 use record::Answer;
 use record::MESSAGES;
 use record::refusals::NO_SUCH_MESSAGE;
+use rules::found;
 use rules::going;
-use rules::lend_found;
-use rules::lend_none;
 use rules::meet;
+use rules::none;
 use rules::probe;
 use rules::pull;
 use rules::seek;
@@ -111,7 +111,7 @@ fn deliver_found(rec: &mut [u8], to: usize, about: usize, level: usize, side: us
     if !take_named(rec, 6, to, about, level, side) {
         return Answer::Refused(NO_SUCH_MESSAGE);
     }
-    lend_found(rec, to, about, level);
+    found(rec, to, about, level);
     Answer::Done
 }
 
@@ -122,7 +122,7 @@ fn deliver_none(rec: &mut [u8], to: usize, about: usize, level: usize, side: usi
     if !take_named(rec, 7, to, about, level, side) {
         return Answer::Refused(NO_SUCH_MESSAGE);
     }
-    lend_none(rec, to, level, side);
+    none(rec, to, level, side);
     Answer::Done
 }
 

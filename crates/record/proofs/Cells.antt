@@ -17,7 +17,7 @@ use Rattle.protocol.proofs.Numbering.{sideNumber-lt}
 use Rattle.record.specs.Layout.{seats, phaseSize, stateSize, numberSize, vectorSize, linksSize, entrySize, size}
 use Rattle.record.specs.Layout.{stateOffset, numberOffset, vectorOffset, linksOffset, phaseAt, entriesFrom, entryAt, linksFrom, pendingFrom}
 use Rattle.record.specs.Cell.{Cell, phaseCell, stateCell, numberCell, vectorCell, linkCell, pendingCell, cellFrom, cellSize, entryCell, cellAt}
-use Rattle.record.specs.inner.Cell.{InRecord, cellIn, putCell, Holds}
+use Rattle.record.specs.inner.Cell.{InRecord, cellIn, putCell, Holds, Outside}
 use Rattle.record.specs.Meaning.{valueOf, byteOf, bytesOf}
 use Rattle.record.proofs.Places.{side-sideNumber, sideNumber-side, getD-bytesOf}
 
@@ -105,10 +105,6 @@ same-cell c e p q = ⊎-elim
     (λ a. inl (cell-once c e 0 0 p q (cell-first c) (cell-first e) (ap (λ (i : ℕ). i + 0) a)))
     (λ a. inr (λ f. a (ap cellFrom f)))
     (eq-or-ne (cellFrom c) (cellFrom e))
-
--- the bytes outside a range
-abbrev pub Outside : (a n i : ℕ) → Type 0
-Outside a n i = (i < a) ⊎ (a + n ≤ i)
 
 -- another cell's bytes lie outside
 pub cell-outside : (c e : Cell) → InRecord c → InRecord e → e ≢ c → (j : ℕ) → j < cellSize e

@@ -11,7 +11,7 @@ use Rattle.protocol.specs.Message.{Msg}
 use Rattle.protocol.specs.Numbering.{exists, place, messageAt}
 use Rattle.protocol.specs.State.{Meaning}
 use Rattle.protocol.proofs.Numbering.{place-lt, exists-messageAt, place-messageAt}
-use Rattle.record.specs.Layout.{seats, byteBits, messages, pendingSize, size, linksFrom, linkAt}
+use Rattle.record.specs.Layout.{seats, byteBits, messages, linksOffset, linkOffset, pendingSize, size, linksFrom, linkAt}
 use Rattle.record.specs.Meaning.{byteOf, bytesOf}
 
 -- places of messages that exist, and messages at places
@@ -42,9 +42,12 @@ sideNumber-side zero h = refl
 sideNumber-side (suc zero) h = refl
 sideNumber-side (suc (suc n)) h = absurd (omega arith)
 
--- where a link stands, by the number of its side
+-- where a link stands in its entry and in the record, by the number of its side
+pub linkOffset-number : (k d : ℕ) → d < 2 → linksOffset + 2 * k + d ≡ linkOffset k (sideOfNumber d)
+linkOffset-number k d h = ap (λ (n : ℕ). linksOffset + 2 * k + n) (sym (sideNumber-side d h))
+
 pub linkAt-number : (s k d : ℕ) → d < 2 → linksFrom s + 2 * k + d ≡ linkAt s k (sideOfNumber d)
-linkAt-number s k d h = ap (λ (n : ℕ). linksFrom s + 2 * k + n) (sym (sideNumber-side d h))
+linkAt-number s k d h = let e = linkOffset-number k d h in omega arith
 
 -- the bytes of a meaning as a list
 module _ (M : Meaning) where

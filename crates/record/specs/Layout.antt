@@ -54,6 +54,10 @@ vectorOffset = numberOffset + numberSize
 abbrev pub linksOffset : ℕ
 linksOffset = vectorOffset + vectorSize
 
+-- links level by level, left then right
+abbrev pub linkOffset : (k : ℕ) → Side → ℕ
+linkOffset k d = linksOffset + 2 * k + sideNumber d
+
 abbrev pub entrySize : ℕ
 entrySize = linksOffset + linksSize
 
@@ -92,9 +96,8 @@ numberFrom s = entryAt s + numberOffset
 abbrev pub vectorFrom : ℕ → ℕ
 vectorFrom s = entryAt s + vectorOffset
 
--- links level by level, left then right
 abbrev pub linksFrom : ℕ → ℕ
 linksFrom s = entryAt s + linksOffset
 
 abbrev pub linkAt : (s k : ℕ) → Side → ℕ
-linkAt s k d = linksFrom s + 2 * k + sideNumber d
+linkAt s k d = entryAt s + linkOffset k d

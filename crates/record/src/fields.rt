@@ -1,39 +1,25 @@
-// The fields of an entry that is lent alone, a part of the record that begins in its middle. Who is lent an entry can write no other.
+// An entry that is lent alone, a part of the record that begins in its middle: its links are written here and nowhere else. Who is lent an entry
+// can write no other.
 ghost use mathlib.Core.Path.{_≡_};
 ghost use Prim.Native.Nat.{_<_};
-ghost use lib.ListN.{length, getD, set};
-ghost use Rattle.memory.specs.Bytes.{numberAt};
+ghost use lib.ListN.{length};
 ghost use Rattle.graph.specs.Side.{sideOfNumber};
-ghost use Rattle.record.specs.Layout.{levels, numberSize, vectorSize, numberOffset, vectorOffset, entrySize};
-ghost use Rattle.record.specs.inner.Entry.{linkIn};
+ghost use Rattle.record.specs.Layout.{levels, entrySize};
+ghost use Rattle.record.specs.inner.Entry.{Written};
 
-// Its lot's number.
-pub fn number(entry: &[u8]) -> u64
-    requires { ⌜ length (now entry) ≡ entrySize ⌝ }
-    ensures { λ r. ⌜ r ≡ numberAt (now (entry .entry)) numberOffset numberSize ⌝ }
-{
-    memory::number(entry, crate::NUMBER_AT)
+// What becomes of a link: it stays, or it is set to a seat or NONE.
+pub enum Change {
+    Keep,
+    Set(u8),
 }
 
-// Its lot's vector.
-pub fn vector(entry: &[u8]) -> u8
-    requires { ⌜ length (now entry) ≡ entrySize ⌝ }
-    ensures { λ r. ⌜ r ≡ numberAt (now (entry .entry)) vectorOffset vectorSize ⌝ }
-{
-    entry[crate::VECTOR_AT]
-}
-
-// Its link at level k on side d: a seat or NONE.
-pub fn link(entry: &[u8], k: usize, d: usize) -> u8
+// A change of its link at level k on side d.
+pub fn write_link(entry: &mut [u8], k: usize, d: usize, change: Change)
     requires { ⌜ (length (now entry) ≡ entrySize) × (k < levels) × (d < 2) ⌝ }
-    ensures { λ r. ⌜ r ≡ getD (now (entry .entry)) (linkIn k (sideOfNumber d)) 0 ⌝ }
+    ensures { λ _. ⌜ Written (now (entry .entry)) (now (entry .exit)) k (sideOfNumber d) change ⌝ }
 {
-    entry[crate::LINKS_AT + 2 * k + d]
-}
-
-pub fn set_link(entry: &mut [u8], k: usize, d: usize, v: u8)
-    requires { ⌜ (length (now entry) ≡ entrySize) × (k < levels) × (d < 2) ⌝ }
-    ensures { λ _. ⌜ now (entry .exit) ≡ set (now (entry .entry)) (linkIn k (sideOfNumber d)) v ⌝ }
-{
-    entry[crate::LINKS_AT + 2 * k + d] = v;
+    match change {
+        Change::Keep => {}
+        Change::Set(v) => entry[crate::LINKS_AT + 2 * k + d] = v,
+    }
 }

@@ -9,10 +9,13 @@ ghost use Rattle.record.specs.Answer.{numberOf, Numbered};
 ghost use Rattle.graph.specs.Side.{sideOfNumber};
 ghost use Rattle.record.specs.Layout.{seats, levels, messages, numberSize, vectorSize, size};
 ghost use Rattle.record.specs.Layout.{phaseAt, stateAt, numberFrom, vectorFrom, linkAt, pendingFrom};
+ghost use Rattle.record.specs.inner.Entry.{written};
 
 pub mod fields;
 pub mod lots;
 pub mod refusals;
+
+use fields::Change;
 
 // The seats, the width of a vector, and the levels that it gives.
 pub const SEATS: usize = 64;
@@ -155,13 +158,14 @@ pub fn link(rec: &[u8], s: usize, k: usize, d: usize) -> u8
     rec[ENTRIES + ENTRY * s + LINKS_AT + 2 * k + d]
 }
 
-pub fn set_link(rec: &mut [u8], s: usize, k: usize, d: usize, v: u8)
+// A change of that link. The entry of s is lent for it, and no other.
+pub fn write_link(rec: &mut [u8], s: usize, k: usize, d: usize, change: Change)
     requires { ⌜ (length (now rec) ≡ size) × (s < seats) × (k < levels) × (d < 2) ⌝ }
-    ensures { λ _. ⌜ now (rec .exit) ≡ set (now (rec .entry)) (linkAt s k (sideOfNumber d)) v ⌝ }
+    ensures { λ _. ⌜ now (rec .exit) ≡ written (now (rec .entry)) s k (sideOfNumber d) change ⌝ }
 {
     let a = ENTRIES + ENTRY * s;
     let e = a + ENTRY;
-    fields::set_link(&mut rec[a..e], k, d, v);
+    fields::write_link(&mut rec[a..e], k, d, change);
 }
 
 // Whether the message at place i is pending.

@@ -1,5 +1,4 @@
 -- Why the handlers do what the rules say.
 pub mod Sides
 pub mod Sends
-pub mod Linked
-pub mod Written
+pub mod Meets

@@ -1,14 +1,13 @@
-// The rules of the seven kinds, one handler for each (document 01, "Messages"). Those that write, MEET's set, FOUND and NONE, are lent the
-// entry of `to` alone and write in it; the others read and send, and leave the bytes that the protocol's rule gives: specs/inner/Done.antt, of
-// `rule` in protocol's specs/pages/Deliver.antt. Those that send note the words of what they send in an index, whose top they take and give.
-// No handler asks that the record is sound.
+// The rules of the seven kinds, one handler for each (document 01, "Messages"). MEET, FOUND and NONE change a link of `to`: its entry alone is lent
+// to the one function that writes links (record's src/fields.rt); the others read and send. They leave the bytes that the protocol's rule gives:
+// specs/inner/Done.antt, of `rule` in protocol's specs/pages/Deliver.antt. Those that send note the words of what they send in an index, whose
+// top they take and give. No handler asks that the record is sound.
 ghost use mathlib.Core.Path.{_≡_};
-ghost use mathlib.Core.Bool.{not, cond};
+ghost use mathlib.Core.Bool.{not, cond, _&&_, _||_};
 ghost use mathlib.Core.List.{[], _∷_};
 ghost use Prim.Native.Nat.{_<_};
 ghost use lib.Dec.{eqb, ltb};
-ghost use lib.ListN.{length, set};
-ghost use Rattle.memory.specs.Bytes.{numberAt};
+ghost use lib.ListN.{length};
 ghost use Rattle.graph.specs.Vector.{width, bit as bitAt};
 ghost use Rattle.protocol.specs.Message.{
   meet as meetOf,
@@ -19,16 +18,14 @@ ghost use Rattle.protocol.specs.Message.{
   found as foundOf,
   none-found,
 };
-ghost use Rattle.protocol.specs.Rules.{toLink, setting as settingOf};
-ghost use Rattle.protocol.specs.State.{entry as entryOf};
+ghost use Rattle.protocol.specs.Rules.{toLink};
 ghost use Rattle.protocol.specs.pages.Deliver.{rule};
-ghost use Rattle.record.specs.Layout.{seats, levels, noLink, numberSize, numberOffset, entrySize, size};
+ghost use Rattle.record.specs.Layout.{seats, levels, size};
 ghost use Rattle.record.specs.Meaning.{meaning, linkOf};
-ghost use Rattle.graph.specs.Side.{sideOf, sideOfNumber};
-ghost use Rattle.record.specs.inner.Entry.{linkIn};
+ghost use Rattle.graph.specs.Side.{onSide, sideOfNumber};
 ghost use Rattle.index.specs.inner.Index.{parts};
 ghost use Rattle.rules.specs.inner.Done.{done, indexed, sendAll, carried};
-ghost use Rattle.rules.specs.inner.Entry.{IsSet};
+ghost use Rattle.rules.specs.inner.Told.{told};
 
 mod to_link;
 
@@ -38,44 +35,21 @@ use messages::meet_place;
 use messages::none_place;
 use messages::probe_place;
 use messages::seek_place;
-use record::ENTRIES;
-use record::ENTRY;
 use record::NONE;
 use record::SEATS;
 use record::WIDTH;
-use record::fields;
+use record::fields::Change;
 use record::lots::beyond;
 use record::lots::is_staying;
 use record::lots::link;
 use record::lots::share;
 use record::lots::side_of;
+use record::write_link;
 use to_link::meet_about_link;
 use to_link::probe_link;
 use to_link::pull_link;
 use to_link::seek_link;
 use to_link::send;
-
-// What the messages of MEET need of the entry of `to` as it was before the set: the link that was there, that on the other side, and the
-// vector.
-pub struct Before {
-    pub old: u8,
-    pub other: u8,
-    pub vector: u8,
-}
-
-// 1 MEET, in the entry of `to`: its link on side d is set to `about`.
-fn meet_set(entry: &mut [u8], about: usize, level: usize, d: usize) -> Before
-    requires { ⌜ (length (now entry) ≡ entrySize) × (about < seats) × (level < levels) × (d < 2) ⌝ }
-    ensures { λ r. ⌜ IsSet (now (entry .entry)) (now (entry .exit)) about level (sideOfNumber d) r ⌝ }
-{
-    let before = Before {
-        old: fields::link(entry, level, d),
-        other: fields::link(entry, level, 1 - d),
-        vector: fields::vector(entry),
-    };
-    fields::set_link(entry, level, d, about as u8);
-    before
-}
 
 // 1 MEET, after a set below the highest level: PROBE to `about`, and PULL to the link on the other side, along that side, for the opposite
 // of the bit of `to`.
@@ -110,8 +84,47 @@ fn spread(
     top
 }
 
-// 1 MEET, the link is set to `about`: the entry of `to` is lent for it, then the messages are sent.
-fn setting(
+// 1 MEET: whether the link `old` on side d stays: it is `about`, or nearer.
+fn stays(rec: &[u8], old: usize, about: usize, d: usize) -> bool
+    requires { ⌜ (length (now rec) ≡ size) × (about < seats) ⌝ }
+    ensures { λ r. ⌜ r ≡ (ltb old seats && (eqb old about
+        || onSide (sideOfNumber d) (meaning (now (rec .entry)) .seats .number old) (meaning (now (rec .entry)) .seats .number about))) ⌝ }
+{
+    old < SEATS && (old == about || beyond(rec, old, about, d))
+}
+
+// 1 MEET: what becomes of the link, which stays or is set to `about`.
+fn change_to(about: usize, stays: bool) -> Change
+    requires { ⌜ about < seats ⌝ }
+    ensures { λ r. ⌜ r ≡ cond stays Change.Keep (Change.Set about) ⌝ }
+{
+    if stays {
+        return Change::Keep;
+    }
+    Change::Set(about as u8)
+}
+
+// 1 MEET, the link stays: it gets the MEET, unless it is `about`.
+fn pass_on(
+    rec: &mut [u8],
+    index: &mut [u64],
+    top: u64,
+    old: usize,
+    about: usize,
+    level: usize,
+) -> u64
+    requires { ⌜ (length (now rec) ≡ size) × (length (now index) ≡ parts) × (old < seats) × (about < seats) × (level < levels) ⌝ }
+    ensures { λ r. ⌜ indexed (now (rec .exit)) (now (index .exit)) r
+        ≡ sendAll (cond (eqb old about) [] (meetOf old about level ∷ [])) (indexed (now (rec .entry)) (now (index .entry)) top) ⌝ }
+{
+    if old == about {
+        return top;
+    }
+    send(rec, index, top, meet_place(old, about, level))
+}
+
+// 1 MEET, the link was `old` and is set to `about`: what is sent. The rest of the entry is as it was.
+fn tell(
     rec: &mut [u8],
     index: &mut [u64],
     top: u64,
@@ -119,21 +132,18 @@ fn setting(
     about: usize,
     level: usize,
     d: usize,
+    old: usize,
 ) -> u64
     requires { ⌜ (length (now rec) ≡ size) × (length (now index) ≡ parts) × (to < seats) × (about < seats) × (level < levels) × (d < 2) ⌝ }
-    ensures { λ r. ⌜ indexed (now (rec .exit)) (now (index .exit)) r ≡ carried to
-        (settingOf width (meaning (now (rec .entry)) .seats .number) (meaning (now (rec .entry)) .seats .vector)
-        (entryOf (meaning (now (rec .entry))) to) to about level (sideOfNumber d))
+    ensures { λ r. ⌜ indexed (now (rec .exit)) (now (index .exit)) r
+        ≡ sendAll (told (meaning (now (rec .entry))) to about level (sideOfNumber d) (linkOf old))
         (indexed (now (rec .entry)) (now (index .entry)) top) ⌝ }
 {
-    let a = ENTRIES + ENTRY * to;
-    let e = a + ENTRY;
-    let before = meet_set(&mut rec[a..e], about, level, d);
-    let old = before.old as usize;
-    let other = before.other as usize;
     let away = 1 - d;
-    let told = send(rec, index, top, meet_place(about, to, level));
-    let handed = meet_about_link(rec, index, told, about, old, level);
+    let other = link(rec, to, level, away);
+    let vector = record::vector(rec, to);
+    let asked = send(rec, index, top, meet_place(about, to, level));
+    let handed = meet_about_link(rec, index, asked, about, old, level);
     spread(
         rec,
         index,
@@ -141,7 +151,7 @@ fn setting(
         to,
         about,
         level,
-        before.vector,
+        vector,
         other,
         away,
     )
@@ -162,15 +172,12 @@ pub fn meet(
 {
     let d = side_of(rec, to, about);
     let old = link(rec, to, level, d);
-    if old < SEATS {
-        if old == about {
-            return top;
-        }
-        if beyond(rec, old, about, d) {
-            return send(rec, index, top, meet_place(old, about, level));
-        }
+    let kept = stays(rec, old, about, d);
+    write_link(rec, to, level, d, change_to(about, kept));
+    if kept {
+        return pass_on(rec, index, top, old, about, level);
     }
-    setting(rec, index, top, to, about, level, d)
+    tell(rec, index, top, to, about, level, d, old)
 }
 
 // 2 PROBE: more bits shared than the level, MEET one level up; otherwise on to the link away from `about`.
@@ -265,41 +272,19 @@ pub fn seek(
     send(rec, index, top, none_place(about, level, d))
 }
 
-// 6 FOUND, in the entry of `to`: its link on the side of `about`, a lot with that number, is set to it.
-fn found(entry: &mut [u8], about: usize, number: u64, level: usize)
-    requires { ⌜ (length (now entry) ≡ entrySize) × (about < seats) × (level < levels) ⌝ }
-    ensures { λ _. ⌜ now (entry .exit)
-        ≡ set (now (entry .entry)) (linkIn level (sideOf (numberAt (now (entry .entry)) numberOffset numberSize) number)) about ⌝ }
-{
-    let d = graph::side_of(fields::number(entry), number);
-    fields::set_link(entry, level, d, about as u8);
-}
-
-// 7 NONE, in the entry of `to`: its link on the side is set to none.
-fn none(entry: &mut [u8], level: usize, side: usize)
-    requires { ⌜ (length (now entry) ≡ entrySize) × (level < levels) × (side < 2) ⌝ }
-    ensures { λ _. ⌜ now (entry .exit) ≡ set (now (entry .entry)) (linkIn level (sideOfNumber side)) noLink ⌝ }
-{
-    fields::set_link(entry, level, side, NONE);
-}
-
-// FOUND, lent the entry of `to` alone.
-pub fn lend_found(rec: &mut [u8], to: usize, about: usize, level: usize)
+// 6 FOUND: the link on the side of `about` is set to it.
+pub fn found(rec: &mut [u8], to: usize, about: usize, level: usize)
     requires { ⌜ (length (now rec) ≡ size) × (to < seats) × (about < seats) × (level < levels) ⌝ }
     ensures { λ _. ⌜ now (rec .exit) ≡ done to (rule width (meaning (now (rec .entry))) (foundOf to about level)) (now (rec .entry)) ⌝ }
 {
-    let number = record::number(rec, about);
-    let a = ENTRIES + ENTRY * to;
-    let e = a + ENTRY;
-    found(&mut rec[a..e], about, number, level);
+    let d = side_of(rec, to, about);
+    write_link(rec, to, level, d, Change::Set(about as u8));
 }
 
-// NONE, lent the entry of `to` alone.
-pub fn lend_none(rec: &mut [u8], to: usize, level: usize, side: usize)
+// 7 NONE: the link on the side is set to none.
+pub fn none(rec: &mut [u8], to: usize, level: usize, side: usize)
     requires { ⌜ (length (now rec) ≡ size) × (to < seats) × (level < levels) × (side < 2) ⌝ }
     ensures { λ _. ⌜ now (rec .exit) ≡ done to (rule width (meaning (now (rec .entry))) (none-found to level (sideOfNumber side))) (now (rec .entry)) ⌝ }
 {
-    let a = ENTRIES + ENTRY * to;
-    let e = a + ENTRY;
-    none(&mut rec[a..e], level, side);
+    write_link(rec, to, level, side, Change::Set(NONE));
 }

@@ -82,8 +82,8 @@ returns-5 c =
     let h = s .before .before .before in
     rw (at-place (seek-at (h .before .if4 .left) (h .if5 .taken))) (s .seek .ensures)
 
-lend-found-requires : tie.Need-lend-found-requires
-lend-found-requires c κs = search needs
+found-requires : tie.Need-found-requires
+found-requires c κs = search needs
 
 same-length-11 : tie.Need-same-length-11
 same-length-11 c = search needs
@@ -93,10 +93,10 @@ unfolding rule effect
 returns-6 c =
     let s = c .before .before in
     let h = s .before .before in
-    rw (at-place (found-at (h .before .if5 .left) (h .if6 .taken))) (carried-silent _ _ _ _ _ refl (s .lend-found .ensures))
+    rw (at-place (found-at (h .before .if5 .left) (h .if6 .taken))) (carried-silent _ _ _ _ _ refl (s .found .ensures))
 
-lend-none-requires : tie.Need-lend-none-requires
-lend-none-requires c κs = search needs
+none-requires : tie.Need-none-requires
+none-requires c κs = search needs
 
 same-length-12 : tie.Need-same-length-12
 same-length-12 c = search needs
@@ -107,7 +107,7 @@ returns-7 c =
     let s = c .before .before in
     let h = s .before .before in
     let b = h .before .before .before .before .before .before .before .before in
-    rw (at-place (none-at (h .if6 .left) (b .pre .2))) (carried-silent _ _ _ _ _ refl (s .lend-none .ensures))
+    rw (at-place (none-at (h .if6 .left) (b .pre .2))) (carried-silent _ _ _ _ _ refl (s .none .ensures))
 
 pub carry-out-spec : {M : Type 1} → statement M
 carry-out-spec =
@@ -133,9 +133,9 @@ carry-out-spec =
     same-length-9
     same-length-10
     returns-5
-    lend-found-requires
+    found-requires
     same-length-11
     returns-6
-    lend-none-requires
+    none-requires
     same-length-12
     returns-7)

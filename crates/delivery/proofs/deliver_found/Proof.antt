@@ -22,8 +22,8 @@ returns c =
     let a = b .args in
     idle (a .rec .now) (b .pre) (name 6 (a .to) (a .about) (a .level) (a .side)) (t .take-named .ensures) (not-true _ (c .if1 .taken))
 
-lend-found-requires : tie.Need-lend-found-requires
-lend-found-requires c κs =
+found-requires : tie.Need-found-requires
+found-requires c κs =
     let t = c .before .before .before .before in
     let b = t .before .before .before in
     let a = b .args in
@@ -44,7 +44,7 @@ returns-2 c =
     let a = b .args in
     let k = found-kind (a .to) (a .about) (a .level) (a .side) in
     carried-out (a .rec .now) (b .pre) k (t .take-named .ensures) (not-false _ (r .before .before .if1 .left))
-    (λ j. omega (arith, t .before .before .slice-known .given j)) (r .lend-found .ensures)
+    (λ j. omega (arith, t .before .before .slice-known .given j)) (r .found .ensures)
 
 pub deliver-found-spec : {M : Type 1} → statement M
-deliver-found-spec = tie.close (tie.spec take-named-requires same-length returns lend-found-requires same-length-2 returns-2)
+deliver-found-spec = tie.close (tie.spec take-named-requires same-length returns found-requires same-length-2 returns-2)

@@ -22,8 +22,8 @@ returns c =
     let a = b .args in
     idle (a .rec .now) (b .pre) (name 7 (a .to) (a .about) (a .level) (a .side)) (t .take-named .ensures) (not-true _ (c .if1 .taken))
 
-lend-none-requires : tie.Need-lend-none-requires
-lend-none-requires c κs =
+none-requires : tie.Need-none-requires
+none-requires c κs =
     let t = c .before .before .before .before in
     let b = t .before .before .before in
     let a = b .args in
@@ -44,7 +44,7 @@ returns-2 c =
     let a = b .args in
     let k = none-kind (a .to) (a .about) (a .level) (a .side) in
     carried-out (a .rec .now) (b .pre) k (t .take-named .ensures) (not-false _ (r .before .before .if1 .left))
-    (λ j. omega (arith, t .before .before .slice-known .given j)) (r .lend-none .ensures)
+    (λ j. omega (arith, t .before .before .slice-known .given j)) (r .none .ensures)
 
 pub deliver-none-spec : {M : Type 1} → statement M
-deliver-none-spec = tie.close (tie.spec take-named-requires same-length returns lend-none-requires same-length-2 returns-2)
+deliver-none-spec = tie.close (tie.spec take-named-requires same-length returns none-requires same-length-2 returns-2)

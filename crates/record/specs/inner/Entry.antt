@@ -1,8 +1,28 @@
--- An entry that is lent alone, a part of the record that begins in its middle: where its links stand. Assumes nothing.
-use Prim.Native.Nat.{ℕ, _+_, _*_}
-use Rattle.graph.specs.Side.{Side, sideNumber}
-use Rattle.record.specs.Layout.{linksOffset}
+-- An entry that is lent alone, a part of the record that begins in its middle: what the writing of a link leaves of it, and of the record that
+-- it is a part of. Assumes nothing.
+use Prim.Native.Nat.{ℕ}
+use mathlib.Core.Path.{_≡_}
+use mathlib.Core.List.{List}
+use lib.ListN.{length, getD, set}
+use Rattle.memory.specs.Bytes.{numberAt}
+use Rattle.graph.specs.Side.{Side}
+use Rattle.record.specs.Layout.{linkSize, linkOffset, linkAt}
+use Rattle.record.specs.inner.Cell.{Outside}
+use Rattle.record.specs.declared.fields.Change.{Change}
+use Rattle.record.specs.declared.fields.Change.the-variants.{Keep, Set}
 
--- the byte of the link at a level on a side
-abbrev pub linkIn : (level : ℕ) → Side → ℕ
-linkIn k d = linksOffset + 2 * k + sideNumber d
+-- entry e has become e′: the bytes of the link at a level on side d hold v, and every other byte is as it was
+pub record LinkSet (e e′ : List ℕ) (level : ℕ) (d : Side) (v : ℕ) : Type 0 where
+  pub sized : length e′ ≡ length e
+  pub link : numberAt e′ (linkOffset level d) linkSize ≡ v
+  pub others : (j : ℕ) → Outside (linkOffset level d) linkSize j → getD e′ j 0 ≡ getD e j 0
+
+-- what a change of that link leaves of an entry: where the link stays, every byte is as it was
+abbrev pub Written : (e e′ : List ℕ) (level : ℕ) → Side → Change → Type 0
+Written e e′ k d Keep = e′ ≡ e
+Written e e′ k d (Set v) = LinkSet e e′ k d v
+
+-- and of the record, where it is the entry of seat s
+abbrev pub written : List ℕ → (s level : ℕ) → Side → Change → List ℕ
+written l s k d Keep = l
+written l s k d (Set v) = set l (linkAt s k d) v

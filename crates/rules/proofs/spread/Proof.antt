@@ -2,7 +2,7 @@
 use borrow.Author.Tests.{le-ltb}
 use borrow.Author.Needs.{needs}
 use Rattle.rules.specs.inner.Done.{sendAll}
-use Rattle.rules.proofs.Linked.{spread-sent}
+use Rattle.rules.proofs.Meets.{spread-sent}
 use Rattle.rules.proofs.spread.Statement.{statement}
 use Rattle.rules.proofs.spread.Tie as tie
 

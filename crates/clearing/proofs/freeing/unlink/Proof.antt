@@ -16,8 +16,8 @@ cast-y c = search needs
 parts-requires : tie.Need-parts-requires
 parts-requires c κs = search needs
 
-set-link-requires : tie.Need-set-link-requires
-set-link-requires c κs = search needs
+write-link-requires : tie.Need-write-link-requires
+write-link-requires c κs = search needs
 
 same-length : tie.Need-same-length
 same-length c = search needs
@@ -27,7 +27,7 @@ returns c = λ M f e.
     let a = c .before .before .before .before .before in
     let b = a .before in
     let s = b .before .before .before .args in
-    c .before .before .set-link .ensures
+    c .before .before .write-link .ensures
     ∙ cut-link (s .set) (s .x + 1) (s .x) (s .k) (omega arith) (omega arith) M f (s .d) (b .link .result) (omega arith) e (b .link .ensures)
     (sym (a .parts .ensures) ∙ c .before .before .before .before .if1 .taken)
 
@@ -49,7 +49,7 @@ unlink-spec =
     link-requires
     cast-y
     parts-requires
-    set-link-requires
+    write-link-requires
     same-length
     returns
     same-length-2

@@ -1,0 +1,125 @@
+-- MEET: from what its handlers read and did, step by step, to the effect of the rule on the bytes. Assumes nothing.
+use Prim.Native.Nat.{ℕ, _-_, _≤_, _<_}
+use mathlib.Core.Path.{_≡_, refl, sym, ap, _∙_}
+use mathlib.Core.Logic.{inl}
+use mathlib.Core.Option.{none, some}
+use mathlib.Core.Bool.{Bool, true, false, not, cond, _&&_, _||_}
+use mathlib.Core.List.{List, [], _∷_}
+use native.Mathlib.Omega.{arith}
+use borrow.Author.Tests.{ltb-true, lt-ltb}
+use lib.Dec.{eqb, ltb}
+use lib.ListN.{length, getD, set}
+use lib.Seq.{getD-set-other}
+use Rattle.memory.specs.Bytes.{numberAt}
+use Rattle.memory.proofs.Bytes.{numberAt-set-other}
+use Rattle.base.proofs.Cases.{and-left}
+use Rattle.graph.specs.Side.{Side, left, right, opp, onSide, sideOf, sideOfNumber}
+use Rattle.graph.specs.Vector.{width, bit}
+use Rattle.protocol.specs.Message.{Msg, meet, probe, pull}
+use Rattle.protocol.specs.Numbering.{place}
+use Rattle.protocol.specs.Rules.{Entry, Effect, toLink, sending, setting, meeting, effect}
+use Rattle.protocol.specs.State.{entry}
+use Rattle.protocol.specs.pages.Deliver.{rule}
+use Rattle.record.specs.Layout.{seats, levels, vectorSize, size, linkAt, vectorFrom}
+use Rattle.record.specs.Meaning.{meaning, linkOf}
+use Rattle.record.proofs.Form.{meaning-vector, meaning-link}
+use Rattle.record.specs.inner.Entry.{written}
+use Rattle.record.specs.declared.fields.Change.{Change}
+use Rattle.record.specs.declared.fields.Change.the-variants.{Keep, Set}
+use Rattle.record.proofs.Links.{side-opp}
+use Rattle.rules.specs.inner.Done.{changed, Indexed, indexed, sendAt, sendAll, carried}
+use Rattle.rules.specs.inner.Told.{told}
+use Rattle.rules.proofs.Sends.{send-more, send-append}
+use Rattle.rules.proofs.Sides.{bit-not}
+
+-- PROBE and PULL after a set below the highest level: b is the bit of `to`, x the record with the PROBE sent, y with the PULL
+pub spread-sent : (l : List ℕ) (to about v other d : ℕ) (n : List ℕ) (u : ℕ) {x y : Indexed} {level i b : ℕ} → level < width
+    → i ≡ place seats width (probe about to level)
+    → x ≡ sendAt i (indexed l n u)
+    → eqb b 1 ≡ bit width level v
+    → b < 2
+    → y ≡ sendAll (toLink (linkOf other) (λ z. pull z (eqb (1 - b) 1) level (sideOfNumber d))) x
+    → y ≡ sendAll (cond (ltb level width)
+    (probe about to level ∷ toLink (linkOf other) (λ z. pull z (not (bit width level v)) level (sideOfNumber d))) []) (indexed l n u)
+spread-sent l to about v other d n u h ei ex eb hb ey = rw (lt-ltb _ _ h, send-more, ← ei, ← ex, ← eb, ← bit-not _ hb) ey
+
+-- what is sent after a set, one after the other: x is the record with the MEET about `to`, y with that about the old link, z with the rest
+pub told-sent : (l n : List ℕ) (u to about level old other d v : ℕ) {x y z : Indexed} {i : ℕ} → to < seats
+    → d < 2
+    → linkOf other ≡ meaning l .link to level (sideOfNumber (1 - d))
+    → v ≡ numberAt l (vectorFrom to) vectorSize
+    → i ≡ place seats width (meet about to level)
+    → x ≡ sendAt i (indexed l n u)
+    → y ≡ sendAll (toLink (linkOf old) (λ o. meet about o level)) x
+    → z ≡ sendAll (cond (ltb level width)
+    (probe about to level ∷ toLink (linkOf other) (λ o. pull o (not (bit width level v)) level (sideOfNumber (1 - d)))) []) y
+    → z ≡ sendAll (told (meaning l) to about level (sideOfNumber d) (linkOf old)) (indexed l n u)
+unfolding told
+told-sent l n u to about level old other d v ht hd eo ev ei ex ey ez =
+    rw (send-more, send-append, ← side-opp d hd, ← eo, meaning-vector l to ht, ← ev, ← ei, ← ex, ← ey) ez
+
+-- a link written leaves the link on the other side and the vector
+module _ (l : List ℕ) (to level : ℕ) (d : Side) (v : ℕ) (ht : to < seats) (hl : level < levels) where
+  apart : (d : Side) → linkAt to level (opp d) ≡ linkAt to level d → ⊥
+  apart left e = omega arith
+  apart right e = omega arith
+
+  same-other : meaning (set l (linkAt to level d) v) .link to level (opp d) ≡ meaning l .link to level (opp d)
+  same-other =
+      meaning-link _ to level (opp d) ht hl
+      ∙ ap linkOf (getD-set-other l (linkAt to level d) (linkAt to level (opp d)) v 0 (apart d))
+      ∙ sym (meaning-link l to level (opp d) ht hl)
+
+  same-vector : meaning (set l (linkAt to level d) v) .seats .vector to ≡ meaning l .seats .vector to
+  same-vector =
+      meaning-vector _ to ht
+      ∙ numberAt-set-other l (linkAt to level d) v (vectorFrom to) vectorSize (inl (omega arith))
+      ∙ sym (meaning-vector l to ht)
+
+-- two tests in front of an effect
+two-tests : (b c : Bool) (x y : List Msg) (z : Effect) → cond b (sending x) (cond c (sending y) z) ≡ cond (b || c) (sending (cond b x y)) z
+two-tests true c x y z = refl
+two-tests false true x y z = refl
+two-tests false false x y z = refl
+
+-- what the rule does, by the byte of the link
+meeting-is : (num vec : ℕ → ℕ) (e : Entry) (to about level : ℕ) (d : Side) (old : ℕ) → meeting width num vec e to about level d (linkOf old)
+    ≡ cond (ltb old seats && (eqb old about || onSide d (num old) (num about)))
+    (sending (cond (eqb old about) [] (meet old about level ∷ []))) (setting width num vec e to about level d)
+unfolding meeting linkOf
+meeting-is num vec e to about level d old = by (ltb old seats)
+  where
+    by : (b : Bool) → meeting width num vec e to about level d (cond b (some old) none)
+        ≡ cond (b && (eqb old about || onSide d (num old) (num about)))
+        (sending (cond (eqb old about) [] (meet old about level ∷ []))) (setting width num vec e to about level d)
+    by true = two-tests (eqb old about) (onSide d (num old) (num about)) [] (meet old about level ∷ []) (setting width num vec e to about level d)
+    by false = refl
+
+-- a link that stays is a seat
+pub kept-seat : (old : ℕ) (c : Bool) {b : Bool} → b ≡ (ltb old seats && c) → b ≡ true → old < seats
+kept-seat old c e t = ltb-true old seats (and-left (ltb old seats) c (sym e ∙ t))
+
+-- old is the byte of the link, b whether it stays, c what becomes of it, w the record after the writing and x all that is left
+module _ (l n : List ℕ) (u to about level old d : ℕ) {b : Bool} {c : Change} {w : List ℕ}
+    (es : sideOfNumber d ≡ sideOf (meaning l .seats .number to) (meaning l .seats .number about))
+    (eo : linkOf old ≡ meaning l .link to level (sideOfNumber d))
+    (eb : b ≡ (ltb old seats && (eqb old about || onSide (sideOfNumber d) (meaning l .seats .number old) (meaning l .seats .number about))))
+    (ec : c ≡ cond b Keep (Set about))
+    (ew : w ≡ written l to level (sideOfNumber d) c) where
+  rule-is : rule width (meaning l) (meet to about level)
+      ≡ cond b (sending (cond (eqb old about) [] (meet old about level ∷ [])))
+      (setting width (meaning l .seats .number) (meaning l .seats .vector) (entry (meaning l) to) to about level (sideOfNumber d))
+  unfolding rule effect
+  rule-is = rw (← es, ← eo, eb) (meeting-is _ _ _ to about level (sideOfNumber d) old)
+
+  pub kept-done : {x : Indexed} → b ≡ true → x ≡ sendAll (cond (eqb old about) [] (meet old about level ∷ [])) (indexed w n u)
+      → x ≡ carried to (rule width (meaning l) (meet to about level)) (indexed l n u)
+  unfolding carried changed
+  kept-done t ex = rw (rule-is, t) (rw (ew, ec, t) at ex)
+
+  pub set-done : {x : Indexed} → b ≡ false → to < seats → level < levels
+      → x ≡ sendAll (told (meaning w) to about level (sideOfNumber d) (linkOf old)) (indexed w n u)
+      → x ≡ carried to (rule width (meaning l) (meet to about level)) (indexed l n u)
+  unfolding carried changed setting told
+  set-done t ht hl ex =
+      rw (rule-is, t, ← eo, ← same-other l to level (sideOfNumber d) about ht hl, ← same-vector l to level (sideOfNumber d) about ht hl) (rw (ew, ec, t) at ex)
