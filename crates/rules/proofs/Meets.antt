@@ -3,10 +3,10 @@ use Prim.Native.Nat.{ℕ, _-_, _≤_, _<_}
 use mathlib.Core.Path.{_≡_, refl, sym, ap, _∙_}
 use mathlib.Core.Logic.{inl}
 use mathlib.Core.Option.{none, some}
-use mathlib.Core.Bool.{Bool, true, false, not, cond, _&&_, _||_}
+use mathlib.Core.Bool.{Bool, true, false, not, cond, _&&_}
 use mathlib.Core.List.{List, [], _∷_}
 use native.Mathlib.Omega.{arith}
-use borrow.Author.Tests.{ltb-true, lt-ltb}
+use borrow.Author.Tests.{ltb-true, lt-ltb, eq-eqb, ne-eqb}
 use lib.Dec.{eqb, ltb}
 use lib.ListN.{length, getD, set}
 use lib.Seq.{getD-set-other}
@@ -15,9 +15,9 @@ use Rattle.memory.proofs.Bytes.{numberAt-set-other}
 use Rattle.base.proofs.Cases.{and-left}
 use Rattle.graph.specs.Side.{Side, left, right, opp, onSide, sideOf, sideOfNumber}
 use Rattle.graph.specs.Vector.{width, bit}
-use Rattle.protocol.specs.Message.{Msg, meet, probe, pull}
+use Rattle.protocol.specs.Message.{meet, probe, pull}
 use Rattle.protocol.specs.Numbering.{place}
-use Rattle.protocol.specs.Rules.{Entry, Effect, toLink, sending, setting, meeting, effect}
+use Rattle.protocol.specs.Rules.{Entry, toLink, sending, setting, meeting, effect}
 use Rattle.protocol.specs.State.{entry}
 use Rattle.protocol.specs.pages.Deliver.{rule}
 use Rattle.record.specs.Layout.{seats, levels, vectorSize, size, linkAt, vectorFrom}
@@ -26,7 +26,7 @@ use Rattle.record.proofs.Form.{meaning-vector, meaning-link}
 use Rattle.record.specs.inner.Entry.{written}
 use Rattle.record.specs.declared.fields.Change.{Change}
 use Rattle.record.specs.declared.fields.Change.the-variants.{Keep, Set}
-use Rattle.record.proofs.Links.{side-opp}
+use Rattle.record.proofs.Links.{side-opp, linkOf-some}
 use Rattle.rules.specs.inner.Done.{changed, Indexed, indexed, sendAt, sendAll, carried}
 use Rattle.rules.specs.inner.Told.{told}
 use Rattle.rules.proofs.Sends.{send-more, send-append}
@@ -76,50 +76,55 @@ module _ (l : List ℕ) (to level : ℕ) (d : Side) (v : ℕ) (ht : to < seats) 
       ∙ numberAt-set-other l (linkAt to level d) v (vectorFrom to) vectorSize (inl (omega arith))
       ∙ sym (meaning-vector l to ht)
 
--- two tests in front of an effect
-two-tests : (b c : Bool) (x y : List Msg) (z : Effect) → cond b (sending x) (cond c (sending y) z) ≡ cond (b || c) (sending (cond b x y)) z
-two-tests true c x y z = refl
-two-tests false true x y z = refl
-two-tests false false x y z = refl
+-- what the rule does, by the byte of the link: it is `about`, or another
+module _ (num vec : ℕ → ℕ) (e : Entry) (to about level : ℕ) (d : Side) where
+  meeting-same : about < seats → meeting width num vec e to about level d (linkOf about) ≡ sending []
+  unfolding meeting
+  meeting-same h = rw (linkOf-some about h, eq-eqb about about refl)
 
--- what the rule does, by the byte of the link
-meeting-is : (num vec : ℕ → ℕ) (e : Entry) (to about level : ℕ) (d : Side) (old : ℕ) → meeting width num vec e to about level d (linkOf old)
-    ≡ cond (ltb old seats && (eqb old about || onSide d (num old) (num about)))
-    (sending (cond (eqb old about) [] (meet old about level ∷ []))) (setting width num vec e to about level d)
-unfolding meeting linkOf
-meeting-is num vec e to about level d old = by (ltb old seats)
-  where
-    by : (b : Bool) → meeting width num vec e to about level d (cond b (some old) none)
-        ≡ cond (b && (eqb old about || onSide d (num old) (num about)))
-        (sending (cond (eqb old about) [] (meet old about level ∷ []))) (setting width num vec e to about level d)
-    by true = two-tests (eqb old about) (onSide d (num old) (num about)) [] (meet old about level ∷ []) (setting width num vec e to about level d)
-    by false = refl
+  meeting-other : (old : ℕ) → (old ≡ about → ⊥) → meeting width num vec e to about level d (linkOf old)
+      ≡ cond (ltb old seats && onSide d (num old) (num about)) (sending (meet old about level ∷ [])) (setting width num vec e to about level d)
+  unfolding meeting linkOf
+  meeting-other old ne = by (ltb old seats)
+    where
+      by : (b : Bool) → meeting width num vec e to about level d (cond b (some old) none)
+          ≡ cond (b && onSide d (num old) (num about)) (sending (meet old about level ∷ [])) (setting width num vec e to about level d)
+      by true = rw (ne-eqb old about ne)
+      by false = refl
 
--- a link that stays is a seat
-pub kept-seat : (old : ℕ) (c : Bool) {b : Bool} → b ≡ (ltb old seats && c) → b ≡ true → old < seats
-kept-seat old c e t = ltb-true old seats (and-left (ltb old seats) c (sym e ∙ t))
+-- a nearer link is a seat
+pub nearer-seat : (old : ℕ) (c : Bool) {b : Bool} → b ≡ (ltb old seats && c) → b ≡ true → old < seats
+nearer-seat old c e t = ltb-true old seats (and-left (ltb old seats) c (sym e ∙ t))
 
--- old is the byte of the link, b whether it stays, c what becomes of it, w the record after the writing and x all that is left
-module _ (l n : List ℕ) (u to about level old d : ℕ) {b : Bool} {c : Change} {w : List ℕ}
+-- old is the byte of the link
+module _ (l n : List ℕ) (u to about level old d : ℕ)
     (es : sideOfNumber d ≡ sideOf (meaning l .seats .number to) (meaning l .seats .number about))
-    (eo : linkOf old ≡ meaning l .link to level (sideOfNumber d))
-    (eb : b ≡ (ltb old seats && (eqb old about || onSide (sideOfNumber d) (meaning l .seats .number old) (meaning l .seats .number about))))
-    (ec : c ≡ cond b Keep (Set about))
-    (ew : w ≡ written l to level (sideOfNumber d) c) where
-  rule-is : rule width (meaning l) (meet to about level)
-      ≡ cond b (sending (cond (eqb old about) [] (meet old about level ∷ [])))
-      (setting width (meaning l .seats .number) (meaning l .seats .vector) (entry (meaning l) to) to about level (sideOfNumber d))
-  unfolding rule effect
-  rule-is = rw (← es, ← eo, eb) (meeting-is _ _ _ to about level (sideOfNumber d) old)
+    (eo : linkOf old ≡ meaning l .link to level (sideOfNumber d)) where
+  -- it is `about`
+  pub same-done : old ≡ about → about < seats → indexed l n u ≡ carried to (rule width (meaning l) (meet to about level)) (indexed l n u)
+  unfolding carried sendAll changed rule effect
+  same-done e h = rw (← es, ← eo, e, meeting-same _ _ _ to about level (sideOfNumber d) h)
 
-  pub kept-done : {x : Indexed} → b ≡ true → x ≡ sendAll (cond (eqb old about) [] (meet old about level ∷ [])) (indexed w n u)
-      → x ≡ carried to (rule width (meaning l) (meet to about level)) (indexed l n u)
-  unfolding carried changed
-  kept-done t ex = rw (rule-is, t) (rw (ew, ec, t) at ex)
+  -- it is another: b is whether it is nearer, c what becomes of it, w the record after the writing and x all that is left
+  module _ {b : Bool} {c : Change} {w : List ℕ} (ne : old ≡ about → ⊥)
+      (eb : b ≡ (ltb old seats && onSide (sideOfNumber d) (meaning l .seats .number old) (meaning l .seats .number about)))
+      (ec : c ≡ cond b Keep (Set about))
+      (ew : w ≡ written l to level (sideOfNumber d) c) where
+    rule-is : rule width (meaning l) (meet to about level)
+        ≡ cond b (sending (meet old about level ∷ []))
+        (setting width (meaning l .seats .number) (meaning l .seats .vector) (entry (meaning l) to) to about level (sideOfNumber d))
+    unfolding rule effect
+    rule-is = rw (← es, ← eo, eb) (meeting-other _ _ _ to about level (sideOfNumber d) old ne)
 
-  pub set-done : {x : Indexed} → b ≡ false → to < seats → level < levels
-      → x ≡ sendAll (told (meaning w) to about level (sideOfNumber d) (linkOf old)) (indexed w n u)
-      → x ≡ carried to (rule width (meaning l) (meet to about level)) (indexed l n u)
-  unfolding carried changed setting told
-  set-done t ht hl ex =
-      rw (rule-is, t, ← eo, ← same-other l to level (sideOfNumber d) about ht hl, ← same-vector l to level (sideOfNumber d) about ht hl) (rw (ew, ec, t) at ex)
+    pub passed-done : {x : Indexed} {i : ℕ} → b ≡ true → i ≡ place seats width (meet old about level) → x ≡ sendAt i (indexed w n u)
+        → x ≡ carried to (rule width (meaning l) (meet to about level)) (indexed l n u)
+    unfolding carried changed sendAll
+    passed-done t ei ex = rw (rule-is, t) (rw (ew, ec, t, ei) at ex)
+
+    pub set-done : {x : Indexed} → b ≡ false → to < seats → level < levels
+        → x ≡ sendAll (told (meaning w) to about level (sideOfNumber d) (linkOf old)) (indexed w n u)
+        → x ≡ carried to (rule width (meaning l) (meet to about level)) (indexed l n u)
+    unfolding carried changed setting told
+    set-done t ht hl ex =
+        let D = sideOfNumber d in
+        rw (rule-is, t, ← eo, ← same-other l to level D about ht hl, ← same-vector l to level D about ht hl) (rw (ew, ec, t) at ex)

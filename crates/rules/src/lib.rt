@@ -3,7 +3,7 @@
 // specs/inner/Done.antt, of `rule` in protocol's specs/pages/Deliver.antt. Those that send note the words of what they send in an index, whose
 // top they take and give. No handler asks that the record is sound.
 ghost use mathlib.Core.Path.{_≡_};
-ghost use mathlib.Core.Bool.{not, cond, _&&_, _||_};
+ghost use mathlib.Core.Bool.{not, cond, _&&_};
 ghost use mathlib.Core.List.{[], _∷_};
 ghost use Prim.Native.Nat.{_<_};
 ghost use lib.Dec.{eqb, ltb};
@@ -84,16 +84,16 @@ fn spread(
     top
 }
 
-// 1 MEET: whether the link `old` on side d stays: it is `about`, or nearer.
-fn stays(rec: &[u8], old: usize, about: usize, d: usize) -> bool
+// 1 MEET: whether there is a link `old` on side d and it is nearer than `about`.
+fn nearer(rec: &[u8], old: usize, about: usize, d: usize) -> bool
     requires { ⌜ (length (now rec) ≡ size) × (about < seats) ⌝ }
-    ensures { λ r. ⌜ r ≡ (ltb old seats && (eqb old about
-        || onSide (sideOfNumber d) (meaning (now (rec .entry)) .seats .number old) (meaning (now (rec .entry)) .seats .number about))) ⌝ }
+    ensures { λ r. ⌜ r ≡ (ltb old seats
+        && onSide (sideOfNumber d) (meaning (now (rec .entry)) .seats .number old) (meaning (now (rec .entry)) .seats .number about)) ⌝ }
 {
-    old < SEATS && (old == about || beyond(rec, old, about, d))
+    old < SEATS && beyond(rec, old, about, d)
 }
 
-// 1 MEET: what becomes of the link, which stays or is set to `about`.
+// 1 MEET: what becomes of a link that is not `about`: it stays, or is set to it.
 fn change_to(about: usize, stays: bool) -> Change
     requires { ⌜ about < seats ⌝ }
     ensures { λ r. ⌜ r ≡ cond stays Change.Keep (Change.Set about) ⌝ }
@@ -102,25 +102,6 @@ fn change_to(about: usize, stays: bool) -> Change
         return Change::Keep;
     }
     Change::Set(about as u8)
-}
-
-// 1 MEET, the link stays: it gets the MEET, unless it is `about`.
-fn pass_on(
-    rec: &mut [u8],
-    index: &mut [u64],
-    top: u64,
-    old: usize,
-    about: usize,
-    level: usize,
-) -> u64
-    requires { ⌜ (length (now rec) ≡ size) × (length (now index) ≡ parts) × (old < seats) × (about < seats) × (level < levels) ⌝ }
-    ensures { λ r. ⌜ indexed (now (rec .exit)) (now (index .exit)) r
-        ≡ sendAll (cond (eqb old about) [] (meetOf old about level ∷ [])) (indexed (now (rec .entry)) (now (index .entry)) top) ⌝ }
-{
-    if old == about {
-        return top;
-    }
-    send(rec, index, top, meet_place(old, about, level))
 }
 
 // 1 MEET, the link was `old` and is set to `about`: what is sent. The rest of the entry is as it was.
@@ -172,10 +153,13 @@ pub fn meet(
 {
     let d = side_of(rec, to, about);
     let old = link(rec, to, level, d);
-    let kept = stays(rec, old, about, d);
-    write_link(rec, to, level, d, change_to(about, kept));
-    if kept {
-        return pass_on(rec, index, top, old, about, level);
+    if old == about {
+        return top;
+    }
+    let stays = nearer(rec, old, about, d);
+    write_link(rec, to, level, d, change_to(about, stays));
+    if stays {
+        return send(rec, index, top, meet_place(old, about, level));
     }
     tell(rec, index, top, to, about, level, d, old)
 }

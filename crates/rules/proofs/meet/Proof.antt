@@ -1,8 +1,8 @@
 -- `rules::meet` meets its contract. Assumes nothing.
-use Rattle.rules.proofs.Meets.{kept-seat, kept-done, set-done}
 use Prim.Native.Nat.{_<_}
-use borrow.Author.Needs.{needs}
 use Rattle.record.specs.Layout.{seats}
+use Rattle.rules.proofs.Meets.{nearer-seat, same-done, passed-done, set-done}
+use borrow.Author.Needs.{needs}
 use Rattle.rules.proofs.meet.Statement.{statement}
 use Rattle.rules.proofs.meet.Tie as tie
 
@@ -12,8 +12,22 @@ side-of-requires c κs = search needs
 link-requires : tie.Need-link-requires
 link-requires c κs = search needs
 
-stays-requires : tie.Need-stays-requires
-stays-requires c κs = search needs
+same-length : tie.Need-same-length
+same-length c = search needs
+
+returns : tie.Need-returns
+returns c =
+    let k = c .before in
+    let b = k .before .before .before .before .before .before in
+    let a = b .args in
+    same-done (a .rec .now) (a .index .now) (a .top) (a .to) (a .about) (a .level) (k .link .result) (k .before .before .side-of .result)
+    (k .before .before .side-of .ensures .0)
+    (k .link .ensures)
+    (c .if1 .taken)
+    (b .pre .3)
+
+nearer-requires : tie.Need-nearer-requires
+nearer-requires c κs = search needs
 
 change-to-requires : tie.Need-change-to-requires
 change-to-requires c κs = search needs
@@ -21,55 +35,61 @@ change-to-requires c κs = search needs
 write-link-requires : tie.Need-write-link-requires
 write-link-requires c κs = search needs
 
-pass-on-requires : tie.Need-pass-on-requires
-pass-on-requires c κs =
+meet-place-requires : tie.Need-meet-place-requires
+meet-place-requires c κs =
     let s = c .before .before .before .before .before .before .before .before in
-    let h : s .before .before .link .result < seats = kept-seat (s .before .before .link .result) _ (s .stays .ensures) (c .before .before .if1 .taken) in
+    let h : s .before .before .before .link .result < seats = nearer-seat (s .before .before .before .link .result) _ (s .nearer .ensures) (c .before .before .if2 .taken) in
     search (needs, h)
 
-same-length : tie.Need-same-length
-same-length c = search needs
+send-requires : tie.Need-send-requires
+send-requires c κs = search needs
 
 same-length-2 : tie.Need-same-length-2
 same-length-2 c = search needs
 
-returns : tie.Need-returns
-returns c =
-    let w = c .before .before .before .before .before .before .before .before .before .before in
-    let k = w .before .before .before .before .before in
+same-length-3 : tie.Need-same-length-3
+same-length-3 c = search needs
+
+returns-2 : tie.Need-returns-2
+returns-2 c =
+    let w = c .before .before .before .before .before .before .before .before .before .before .before in
+    let k = w .before .before .before .before .before .before in
     let b = k .before .before .before .before .before .before in
     let a = b .args in
-    kept-done (a .rec .now) (a .index .now) (a .top) (a .to) (a .about) (a .level) (k .link .result) (k .before .before .side-of .result)
+    passed-done (a .rec .now) (a .index .now) (a .top) (a .to) (a .about) (a .level) (k .link .result) (k .before .before .side-of .result)
     (k .before .before .side-of .ensures .0)
     (k .link .ensures)
-    (w .before .before .before .stays .ensures)
+    (w .before .before .before .before .before .if1 .left)
+    (w .before .before .before .nearer .ensures)
     (w .before .change-to .ensures)
     (w .write-link .ensures)
-    (c .before .before .before .before .before .before .before .if1 .taken)
-    (c .before .before .before .before .pass-on .ensures)
+    (c .before .before .before .before .before .before .before .before .if2 .taken)
+    (c .before .before .before .before .before .meet-place .ensures .0)
+    (c .before .before .before .before .send .ensures)
 
 tell-requires : tie.Need-tell-requires
 tell-requires c κs = search needs
 
-same-length-3 : tie.Need-same-length-3
-same-length-3 c = search needs
-
 same-length-4 : tie.Need-same-length-4
 same-length-4 c = search needs
 
-returns-2 : tie.Need-returns-2
-returns-2 c =
+same-length-5 : tie.Need-same-length-5
+same-length-5 c = search needs
+
+returns-3 : tie.Need-returns-3
+returns-3 c =
     let w = c .before .before .before .before .before .before .before .before .before .before in
-    let k = w .before .before .before .before .before in
+    let k = w .before .before .before .before .before .before in
     let b = k .before .before .before .before .before .before in
     let a = b .args in
     set-done (a .rec .now) (a .index .now) (a .top) (a .to) (a .about) (a .level) (k .link .result) (k .before .before .side-of .result)
     (k .before .before .side-of .ensures .0)
     (k .link .ensures)
-    (w .before .before .before .stays .ensures)
+    (w .before .before .before .before .before .if1 .left)
+    (w .before .before .before .nearer .ensures)
     (w .before .change-to .ensures)
     (w .write-link .ensures)
-    (c .before .before .before .before .before .before .before .if1 .left)
+    (c .before .before .before .before .before .before .before .if2 .left)
     (b .pre .2)
     (b .pre .4)
     (c .before .before .before .before .tell .ensures)
@@ -80,14 +100,17 @@ meet-spec =
     (tie.spec
     side-of-requires
     link-requires
-    stays-requires
+    same-length
+    returns
+    nearer-requires
     change-to-requires
     write-link-requires
-    pass-on-requires
-    same-length
+    meet-place-requires
+    send-requires
     same-length-2
-    returns
-    tell-requires
     same-length-3
+    returns-2
+    tell-requires
     same-length-4
-    returns-2)
+    same-length-5
+    returns-3)
