@@ -93,14 +93,6 @@ applied-frame t (set l s o) L x k d = by (dec-T (eqb x t && (eqb k l && sameSide
         inr (o, eqb→eq x t (and-fst (eqb x t) (eqb k l && sameSide d s) u), λ i. set (sym e i) (sym f i) o)
     by (no n) = let f : (eqb x t && (eqb k l && sameSide d s)) ≡ false = not-T-false n in inl (rw f)
 
--- another lot's links stay
-pub applied-other : (t : ℕ) (c : Change) (L : Links) (x k : ℕ) (d : Side) → x ≢ t → applied t c L x k d ≡ L x k d
-applied-other t c L x k d ne = by (applied-frame t c L x k d)
-  where
-    by : (applied t c L x k d ≡ L x k d) ⊎ ((o : Option ℕ) × (x ≡ t) × (c ≡ set k d o)) → applied t c L x k d ≡ L x k d
-    by (inl e) = e
-    by (inr q) = absurd (ne (q .1))
-
 -- n is in a list of refusals, and each of them is above 0
 abbrev lists : List ℕ → ℕ → Bool
 lists [] n = false

@@ -1,8 +1,9 @@
 -- A delivery is local (document 01, "Messages"): its rule follows from the entry of `to`, the message, and the number and vector of the
--- lots that these name; it changes no other entry; and exactly what the rule sends becomes pending. Assumes nothing, not even soundness.
+-- lots that these name; it changes no link but the one that the rule sets; and exactly what the rule sends becomes pending. Assumes nothing, not even
+-- soundness.
 use Prim.Native.Nat.{ℕ}
 use mathlib.Core.Path.{_≡_, refl, sym, _∙_, ap}
-use mathlib.Core.Logic.{_≢_}
+use mathlib.Core.Logic.{_⊎_, inl, inr, ⊎-elim}
 use mathlib.Core.Option.{Option, none, some}
 use mathlib.Core.Bool.{not, cond, _&&_, _||_}
 use lib.Dec.{eqb}
@@ -16,7 +17,7 @@ use Rattle.protocol.specs.pages.Deliver.{rule, deliverySends, sameSide, 
 use Rattle.protocol.specs.Page.{isTaken, pendingAfter}
 use Rattle.protocol.specs.Local.{Names, by-link, by-meet, by-probe, by-seek, by-found, AgreeFor}
 use Rattle.protocol.proofs.Message.{named-name}
-use Rattle.protocol.proofs.Calls.{applied-other}
+use Rattle.protocol.proofs.Calls.{applied-at, applied-frame}
 
 module _ (W : ℕ) (num num′ vec vec′ : ℕ → ℕ) (e : Entry) where
   meeting-local : (t a l : ℕ) (d : Side) (o : Option ℕ) → num a ≡ num′ a → ((z : ℕ) → o ≡ some z → num z ≡ num′ z)
@@ -65,15 +66,18 @@ module _ (N W : ℕ) (M : Meaning) (m : Msg) where
   unfolding accept sends takes deliverySends pendingAfter isTaken
   pending-exactly n = rw (named-name m)
 
-  -- no other entry changes
-  pub one-entry : (x : ℕ) → x ≢ nameOf m .to → entry (accept N W M (deliver (nameOf m))) x ≡ entry M x
-  unfolding accept seatsAfter
-  one-entry x ne = λ i. record {
-    state = M .seats .state x;
-    number = M .seats .number x;
-    vector = M .seats .vector x;
-    link = λ k d. (links-exactly x k d ∙ applied-other (nameOf m .to) (rule W M m .change) (M .link) x k d ne) i;
-  }
+  -- no link changes but the one that the rule sets, and that is set
+  pub one-link : (x k : ℕ) (d : Side) → (accept N W M (deliver (nameOf m)) .link x k d ≡ M .link x k d)
+      ⊎ ((o : Option ℕ) × (x ≡ nameOf m .to) × (rule W M m .change ≡ set k d o))
+  one-link x k d = ⊎-elim
+      (λ e. inl (links-exactly x k d ∙ e))
+      (λ q. inr q)
+      (applied-frame (nameOf m .to) (rule W M m .change) (M .link) x k d)
+
+  pub link-set : (k : ℕ) (d : Side) (o : Option ℕ) → rule W M m .change ≡ set k d o
+      → accept N W M (deliver (nameOf m)) .link (nameOf m .to) k d ≡ o
+  link-set k d o q = let t = nameOf m .to in
+      links-exactly t k d ∙ ap (λ (c : Change). applied t c (M .link) t k d) q ∙ applied-at t k d o (M .link)
 
 -- the same entry of `to` is left
 pub entry-local : (N W : ℕ) (M M′ : Meaning) (m : Msg) → AgreeFor M M′ m

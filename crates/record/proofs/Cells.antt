@@ -17,7 +17,8 @@ use Rattle.protocol.proofs.Numbering.{sideNumber-lt}
 use Rattle.record.specs.Layout.{seats, phaseSize, stateSize, numberSize, vectorSize, linksSize, entrySize, size}
 use Rattle.record.specs.Layout.{stateOffset, numberOffset, vectorOffset, linksOffset, phaseAt, entriesFrom, entryAt, linksFrom, pendingFrom}
 use Rattle.record.specs.Cell.{Cell, phaseCell, stateCell, numberCell, vectorCell, linkCell, pendingCell, cellFrom, cellSize, entryCell, cellAt}
-use Rattle.record.specs.inner.Cell.{InRecord, cellIn, putCell, Holds, Outside}
+use Rattle.record.specs.Local.{Outside}
+use Rattle.record.specs.inner.Cell.{InRecord, cellIn, putCell, Holds}
 use Rattle.record.specs.Meaning.{valueOf, byteOf, bytesOf}
 use Rattle.record.proofs.Places.{side-sideNumber, sideNumber-side, getD-bytesOf}
 

@@ -13,7 +13,7 @@ use Rattle.base.proofs.Cases.{lt-or-ge, eq-or-ne}
 use Rattle.graph.specs.Side.{Side}
 use Rattle.protocol.proofs.Numbering.{sideNumber-lt}
 use Rattle.record.specs.Layout.{seats, levels, linkOffset, entrySize, entryAt, size, linkAt}
-use Rattle.record.specs.inner.Cell.{Outside}
+use Rattle.record.specs.Local.{Outside}
 use Rattle.record.specs.inner.Entry.{LinkSet, Written, written}
 use Rattle.record.specs.declared.fields.Change.{Change}
 use Rattle.record.specs.declared.fields.Change.the-variants.{Keep, Set}

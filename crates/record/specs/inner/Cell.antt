@@ -1,7 +1,6 @@
 -- Which cells a record has, the number in a cell, and the bytes with another number in it. Assumes nothing.
-use Prim.Native.Nat.{ℕ, _+_, _≤_, _<_}
+use Prim.Native.Nat.{ℕ, _+_, _<_}
 use mathlib.Core.Path.{_≡_}
-use mathlib.Core.Logic.{_⊎_}
 use mathlib.Core.List.{List}
 use lib.ListN.{getD}
 use Rattle.memory.specs.Bytes.{numberAt, putNumber, digit}
@@ -27,7 +26,3 @@ putCell l c v = putNumber l (cellFrom c) (cellSize c) v
 -- the bytes of a cell are those of the number v
 abbrev pub Holds : List ℕ → Cell → (v : ℕ) → Type 0
 Holds l c v = (j : ℕ) → j < cellSize c → getD l (cellFrom c + j) 0 ≡ digit (cellSize c) v j
-
--- byte i is none of the n bytes from a on
-abbrev pub Outside : (a n i : ℕ) → Type 0
-Outside a n i = (i < a) ⊎ (a + n ≤ i)

@@ -7,7 +7,7 @@ use lib.ListN.{length, getD, set}
 use Rattle.memory.specs.Bytes.{numberAt}
 use Rattle.graph.specs.Side.{Side}
 use Rattle.record.specs.Layout.{linkSize, linkOffset, linkAt}
-use Rattle.record.specs.inner.Cell.{Outside}
+use Rattle.record.specs.Local.{Outside}
 use Rattle.record.specs.declared.fields.Change.{Change}
 use Rattle.record.specs.declared.fields.Change.the-variants.{Keep, Set}
 
