@@ -1,29 +1,31 @@
 -- An entry lent alone, a part of the record that begins in its middle: whatever is written in it, no byte of another entry changes; and a link
 -- that is written in it is written in the record. Assumes nothing.
-use Prim.Native.Nat.{ℕ, _+_, _-_, _*_, _≤_, _<_}
-use mathlib.Core.Path.{_≡_, refl, sym, ap, _∙_}
+use Prim.Native.Nat.{ℕ, _+_, _-_, _≤_, _<_}
+use mathlib.Core.Path.{_≡_, sym, ap, _∙_}
 use mathlib.Core.Logic.{_≢_, ⊎-elim, inl, inr}
 use mathlib.Core.List.{List, _++_}
 use native.Mathlib.Omega.{arith}
 use lib.ListN.{length, length-set, getD, set, take, drop, List·getD-append}
 use lib.Seq.{length-take-le, getD-take, getD-drop, getD-append-add, getD-set-same, getD-set-other, ext-getD}
 use borrow.Rule.Slice.PartMut.{midOf, putMid, postOf, mid-len, same-len-mid, put-same, take-put, drop-put}
+use Rattle.memory.specs.Bytes.{numberAt}
 use Rattle.memory.proofs.Bytes.{numberAt-one}
 use Rattle.base.proofs.Cases.{lt-or-ge, eq-or-ne}
 use Rattle.graph.specs.Side.{Side}
 use Rattle.protocol.proofs.Numbering.{sideNumber-lt}
-use Rattle.record.specs.Layout.{seats, levels, linkOffset, entrySize, entryAt, size, linkAt}
+use Rattle.record.specs.Layout.{seats, levels, linkSize, linkOffset, entrySize, entryAt, size, linkAt}
 use Rattle.record.specs.Local.{Outside}
 use Rattle.record.specs.inner.Entry.{LinkSet, Written, written}
 use Rattle.record.specs.declared.fields.Change.{Change}
 use Rattle.record.specs.declared.fields.Change.the-variants.{Keep, Set}
 
--- the byte of a link set in an entry
-pub link-set : (e : List ℕ) (k : ℕ) (d : Side) (v : ℕ) → length e ≡ entrySize → k < levels → LinkSet e (set e (linkOffset k d) v) k d v
-link-set e k d v z h = record {
-  sized = length-set e (linkOffset k d) v;
-  link = numberAt-one _ (linkOffset k d) ∙ getD-set-same e (linkOffset k d) v 0 (let o = sideNumber-lt d in omega arith);
-  others = λ j o. getD-set-other e (linkOffset k d) j v 0 (λ q. ⊎-elim (λ p. omega arith) (λ p. omega arith) o);
+-- the byte of a link set in an entry, at i
+pub link-set : (e : List ℕ) (k : ℕ) (d : Side) (v i : ℕ) → length e ≡ entrySize → k < levels → i ≡ linkOffset k d → LinkSet e (set e i v) k d v
+link-set e k d v i z h r = record {
+  sized = length-set e i v;
+  link = ap (λ (j : ℕ). numberAt (set e i v) j linkSize) (sym r) ∙ numberAt-one (set e i v) i
+      ∙ getD-set-same e i v 0 (let o = sideNumber-lt d in omega arith);
+  others = λ j o. getD-set-other e i j v 0 (λ q. ⊎-elim (λ p. omega arith) (λ p. omega arith) o);
 }
 
 -- the entry of seat s as the code lends it, and the record with another in its place

@@ -125,17 +125,7 @@ fn tell(
     let vector = record::vector(rec, to);
     let asked = send(rec, index, top, meet_place(about, to, level));
     let handed = meet_about_link(rec, index, asked, about, old, level);
-    spread(
-        rec,
-        index,
-        handed,
-        to,
-        about,
-        level,
-        vector,
-        other,
-        away,
-    )
+    spread(rec, index, handed, to, about, level, vector, other, away)
 }
 
 // 1 MEET: the link is `about`, nothing; it is nearer, it gets the MEET; otherwise it is set.

@@ -1,6 +1,4 @@
 -- `record::fields::write_link` meets its contract: the side is given by its number. Assumes nothing.
-use Prim.Native.Nat.{ℕ}
-use mathlib.Core.Path.{refl, sym, subst}
 use Rattle.graph.specs.Side.{sideOfNumber}
 use Rattle.record.proofs.Places.{linkOffset-number}
 use Rattle.record.proofs.Lent.{link-set}
@@ -36,7 +34,8 @@ returns-2 : tie.Need-returns-2
 returns-2 c =
     let b = c .before .before .before in
     let a = b .args in
-    rw (c .before .change .given .1, linkOffset-number (a .k) (a .d) (b .pre .2)) (link-set (a .entry .now) (a .k) (sideOfNumber (a .d)) _ (b .pre .0) (b .pre .1))
+    rw (c .before .change .given .1)
+    (link-set (a .entry .now) (a .k) (sideOfNumber (a .d)) _ _ (b .pre .0) (b .pre .1) (linkOffset-number (a .k) (a .d) (b .pre .2)))
 
 pub write-link-spec : {M : Type 1} → statement M
 write-link-spec =
