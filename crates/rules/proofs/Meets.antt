@@ -1,5 +1,5 @@
 -- MEET: from what its handlers read and did, step by step, to the effect of the rule on the bytes. Assumes nothing.
-use Prim.Native.Nat.{ℕ, _-_, _≤_, _<_}
+use Prim.Native.Nat.{ℕ, _-_, _<_}
 use mathlib.Core.Path.{_≡_, refl, sym, ap, _∙_}
 use mathlib.Core.Logic.{inl}
 use mathlib.Core.Option.{none, some}
@@ -8,7 +8,7 @@ use mathlib.Core.List.{List, [], _∷_}
 use native.Mathlib.Omega.{arith}
 use borrow.Author.Tests.{ltb-true, lt-ltb, eq-eqb, ne-eqb}
 use lib.Dec.{eqb, ltb}
-use lib.ListN.{length, getD, set}
+use lib.ListN.{set}
 use lib.Seq.{getD-set-other}
 use Rattle.memory.specs.Bytes.{numberAt}
 use Rattle.memory.proofs.Bytes.{numberAt-set-other}
@@ -20,7 +20,7 @@ use Rattle.protocol.specs.Numbering.{place}
 use Rattle.protocol.specs.Rules.{Entry, toLink, sending, setting, meeting, effect}
 use Rattle.protocol.specs.State.{entry}
 use Rattle.protocol.specs.pages.Deliver.{rule}
-use Rattle.record.specs.Layout.{seats, levels, vectorSize, size, linkAt, vectorFrom}
+use Rattle.record.specs.Layout.{seats, levels, vectorSize, linkAt, vectorFrom}
 use Rattle.record.specs.Meaning.{meaning, linkOf}
 use Rattle.record.proofs.Form.{meaning-vector, meaning-link}
 use Rattle.record.specs.inner.Entry.{written}

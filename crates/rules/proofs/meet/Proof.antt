@@ -38,7 +38,8 @@ write-link-requires c κs = search needs
 meet-place-requires : tie.Need-meet-place-requires
 meet-place-requires c κs =
     let s = c .before .before .before .before .before .before .before .before in
-    let h : s .before .before .before .link .result < seats = nearer-seat (s .before .before .before .link .result) _ (s .nearer .ensures) (c .before .before .if2 .taken) in
+    let o = s .before .before .before .link .result in
+    let h : o < seats = nearer-seat o _ (s .nearer .ensures) (c .before .before .if2 .taken) in
     search (needs, h)
 
 send-requires : tie.Need-send-requires
