@@ -9,3 +9,4 @@ pub mod OneByte
 pub mod SoundExamples
 pub mod Refusals
 pub mod Scans
+pub mod Writings

@@ -5,3 +5,4 @@ pub mod Small
 pub mod SoundExamples
 pub mod Refusals
 pub mod Scans
+pub mod Writings
