@@ -1,12 +1,13 @@
 //! Each fault of document 01's "Faults that pass a first trial", each bundle that
-//! is not #101's and each search that is not #102's, put into the model, is caught
-//! by a self check on some script; or, where scripts cannot show it, by the calls
-//! on lent bytes on records that no calls lead to.
+//! is not #101's, each search that is not #102's and each meeting that writes a link
+//! wrongly, #103, put into the model, is caught by a self check on some script; or,
+//! where scripts cannot show it, by the calls on lent bytes on records that no calls
+//! lead to.
 
 use crate::graph::SEATS;
 use crate::inputs;
 use crate::lent::{self, from_bytes};
-use crate::model::{Fault, Model, WrongBundle, WrongFind};
+use crate::model::{Fault, Model, WrongBundle, WrongFind, WrongMeet};
 use crate::random::Random;
 use crate::script;
 use crate::selfcheck::{run_on, Failure};
@@ -179,4 +180,29 @@ fn searches_on_records_that_no_calls_lead_to() {
         let ways = BTreeSet::from_iter(ways.iter().copied());
         assert_eq!(ways_shown(wrong), ways, "{wrong:?}");
     }
+}
+
+fn meeting_caught_as(wrong: WrongMeet) -> &'static str {
+    caught_as(Fault::Meet(wrong))
+}
+
+/// A left link names a lot on the right; and two lots of which one never links to
+/// the other tell each other of themselves again and again.
+#[test]
+fn a_meeting_writes_one_place_beside() {
+    let what = meeting_caught_as(WrongMeet::OnePlaceBeside);
+    let ways = ["the record is not sound", "deliveries do not end"];
+    assert!(ways.contains(&what), "{what}");
+}
+
+#[test]
+fn a_meeting_clears_the_opposite_link() {
+    let what = meeting_caught_as(WrongMeet::OppositeCleared);
+    assert_eq!(what, "settled links are not the graph of the members");
+}
+
+#[test]
+fn a_meeting_sets_the_link_though_it_is_passed_on() {
+    let what = meeting_caught_as(WrongMeet::SetThoughPassedOn);
+    assert_eq!(what, "settled links are not the graph of the members");
 }

@@ -13,6 +13,8 @@ mod sound;
 mod wrong_bundle;
 #[cfg(test)]
 mod wrong_find;
+#[cfg(test)]
+mod wrong_meet;
 
 use crate::graph::{Held, Links, Member, Side, LEVELS, NO_LINKS, SEATS, SIDES};
 use crate::rules::{Entries, Rules};
@@ -29,6 +31,8 @@ pub(crate) use fault::Fault;
 pub(crate) use wrong_bundle::WrongBundle;
 #[cfg(test)]
 pub(crate) use wrong_find::WrongFind;
+#[cfg(test)]
+pub(crate) use wrong_meet::WrongMeet;
 
 /// The contact of the first lot.
 pub const NO_CONTACT: u8 = 255;
@@ -176,13 +180,21 @@ impl Model {
             return Err(Refusal::NoSuchMessage);
         }
         let effect = self.effect(message);
+        #[cfg(test)]
+        let effect = self.wrong_meet(message, effect);
         if let Some((side, link)) = effect.set {
-            let lot = self.lots[usize::from(message.to)].as_mut();
-            let lot = lot.expect("a pending message names seated lots");
-            lot.links[usize::from(message.level)][side as usize] = link;
+            let links = self.links_mut(message.to);
+            links[usize::from(message.level)][side as usize] = link;
         }
         self.pending.extend(effect.sends);
         Ok(())
+    }
+
+    /// The links of the lot that a pending message is sent to.
+    fn links_mut(&mut self, to: u8) -> &mut Links {
+        let lot = self.lots[usize::from(to)].as_mut();
+        let lot = lot.expect("a pending message names seated lots");
+        &mut lot.links
     }
 
     /// Delivers the smallest pending message, then the smallest of what is

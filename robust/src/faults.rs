@@ -4,6 +4,7 @@
 mod behaviour;
 mod blind;
 mod bundles;
+mod meetings;
 mod searches;
 
 use crate::judge::{Difference, Judge, Memory};

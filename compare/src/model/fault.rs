@@ -1,11 +1,13 @@
 //! The faults of document 01's "Faults that pass a first trial", bundles that
-//! are not #101's and searches that are not #102's. Only a test can switch one
-//! on, to see that it is caught.
+//! are not #101's, searches that are not #102's and meetings that write a link
+//! wrongly, #103. Only a test can switch one on, to see that it is caught.
 
 #[cfg(test)]
 use super::wrong_bundle::WrongBundle;
 #[cfg(test)]
 use super::wrong_find::WrongFind;
+#[cfg(test)]
+use super::wrong_meet::WrongMeet;
 use super::Model;
 
 #[derive(Clone, Copy, PartialEq, Eq, Debug)]
@@ -19,6 +21,8 @@ pub(crate) enum Fault {
     Bundle(WrongBundle),
     #[cfg(test)]
     Find(WrongFind),
+    #[cfg(test)]
+    Meet(WrongMeet),
 }
 
 impl Model {
