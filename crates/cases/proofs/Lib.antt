@@ -1,4 +1,4 @@
--- Document 01's proved cases, and the examples of the table and of soundness.
+-- Document 01's proved cases, and the examples.
 pub mod View
 pub mod Seen
 pub mod Answers

@@ -15,11 +15,11 @@ writings = record {
   sets = (
     link-set bytes 0 left 63 10 refl (omega arith) refl,
     link-set bytes 8 right 63 27 refl (omega arith) refl,
-    link-set bytes 2 left 63 14 refl (omega arith) refl
+    link-set bytes 2 left 63 14 refl (omega arith) refl,
   );
   beside = (
     λ w. let e = sym (numberAt-one _ 10) ∙ w .link in omega arith,
-    λ w. let e = sym (numberAt-one _ 10) ∙ w .link in omega arith
+    λ w. let e = sym (numberAt-one _ 10) ∙ w .link in omega arith,
   );
   opposite = λ w. let e = w .others 15 (inr (omega arith)) in omega arith;
   same = link-set bytes 2 left 14 14 refl (omega arith) refl;

@@ -1,4 +1,5 @@
--- Document 01's proved cases over the definitions of the crates below, and examples of the table of refusals and of soundness on small records.
+-- Document 01's proved cases over the definitions of the crates below, and examples: the table of refusals, soundness on small records, scans that wait, a
+-- link written.
 pub mod Lists
 pub mod Cases
 pub mod Small
