@@ -1,16 +1,18 @@
 -- The examples of a link written hold. Assumes nothing.
 use Prim.Native.Nat.{ℕ}
-use mathlib.Core.Path.{_≡_, refl, sym, ap, _∙_}
-use mathlib.Core.Logic.{inl, inr}
+use mathlib.Core.Path.{refl, sym, ap, _∙_}
+use mathlib.Core.Logic.{inr}
 use mathlib.Core.List.{List}
 use native.Mathlib.Omega.{arith}
 use lib.ListN.{getD}
 use Rattle.memory.proofs.Bytes.{numberAt-one}
+use Rattle.base.specs.Loops.{tabulateFrom}
 use Rattle.graph.specs.Side.{left, right}
 use Rattle.record.proofs.Lent.{link-set}
 use Rattle.cases.specs.Writings.{bytes, Writings}
 
 pub writings : Writings
+unfolding tabulateFrom
 writings = record {
   sets = (
     link-set bytes 0 left 63 10 refl (omega arith) refl,

@@ -1,16 +1,16 @@
 -- Examples of a link written in an entry that is lent (document 02, #103), and beside them bytes that no such writing leaves: an entry of 28 bytes,
 -- each its own place, whose links are bytes 10 to 27. Assumes nothing.
 use Prim.Native.Nat.{ℕ}
-use mathlib.Core.List.{List, [], _∷_}
+use mathlib.Core.List.{List}
 use lib.ListN.{set}
+use Rattle.base.specs.Loops.{tabulate}
 use Rattle.graph.specs.Side.{left, right}
-use Rattle.record.specs.Layout.{noLink}
+use Rattle.record.specs.Layout.{noLink, entrySize}
 use Rattle.record.specs.inner.Entry.{Written}
 use Rattle.record.specs.declared.fields.Change.the-variants.{Keep, Set}
 
 abbrev pub bytes : List ℕ
-bytes =
-    0 ∷ 1 ∷ 2 ∷ 3 ∷ 4 ∷ 5 ∷ 6 ∷ 7 ∷ 8 ∷ 9 ∷ 10 ∷ 11 ∷ 12 ∷ 13 ∷ 14 ∷ 15 ∷ 16 ∷ 17 ∷ 18 ∷ 19 ∷ 20 ∷ 21 ∷ 22 ∷ 23 ∷ 24 ∷ 25 ∷ 26 ∷ 27 ∷ []
+bytes = tabulate entrySize (λ j. j)
 
 pub record Writings : Type 0 where
   -- the first link, the last, and one between

@@ -129,7 +129,8 @@ module _ (l : List ℕ) (b : AreBytes l) (m : Msg) (e : called l (deliver (nameO
       apart : (k : ℕ) (d : Side) → k < levels → Outside (linkAt (nameOf m .to) k d) linkSize i
       apart k d g = let u = sideNumber-lt d in ⊎-elim (λ v. inl (omega arith)) (λ v. inr (omega arith)) o
 
-  pub kept-bytes : rule width (meaning l) m .change ≡ keep → (i : ℕ) → i < pendingFrom → getD (called l (deliver (nameOf m)) .after) i 0 ≡ getD l i 0
+  pub kept-bytes : rule width (meaning l) m .change ≡ keep → (i : ℕ) → i < pendingFrom
+      → getD (called l (deliver (nameOf m)) .after) i 0 ≡ getD l i 0
   kept-bytes q i h = beside-link i h (λ k d o r. keep-set (sym q ∙ r))
 
   -- those bytes hold it

@@ -20,7 +20,8 @@ use Rattle.record.specs.declared.fields.Change.{Change}
 use Rattle.record.specs.declared.fields.Change.the-variants.{Keep, Set}
 
 -- the byte of a link set in an entry, at i
-pub link-set : (e : List ℕ) (k : ℕ) (d : Side) (v i : ℕ) → length e ≡ entrySize → k < levels → i ≡ linkOffset k d → LinkSet e (set e i v) k d v
+pub link-set : (e : List ℕ) (k : ℕ) (d : Side) (v i : ℕ) → length e ≡ entrySize → k < levels → i ≡ linkOffset k d
+    → LinkSet e (set e i v) k d v
 link-set e k d v i z h r = record {
   sized = length-set e i v;
   link = ap (λ (j : ℕ). numberAt (set e i v) j linkSize) (sym r) ∙ numberAt-one (set e i v) i

@@ -92,39 +92,50 @@ module _ (num vec : ℕ → ℕ) (e : Entry) (to about level : ℕ) (d : Side) w
       by true = rw (ne-eqb old about ne)
       by false = refl
 
--- a nearer link is a seat
-pub nearer-seat : (old : ℕ) (c : Bool) {b : Bool} → b ≡ (ltb old seats && c) → b ≡ true → old < seats
-nearer-seat old c e t = ltb-true old seats (and-left (ltb old seats) c (sym e ∙ t))
+-- the link is `about`: old is its byte
+pub same-done : (l n : List ℕ) (u to about level old d : ℕ)
+    → sideOfNumber d ≡ sideOf (meaning l .seats .number to) (meaning l .seats .number about)
+    → linkOf old ≡ meaning l .link to level (sideOfNumber d)
+    → old ≡ about
+    → about < seats
+    → indexed l n u ≡ carried to (rule width (meaning l) (meet to about level)) (indexed l n u)
+unfolding carried sendAll changed rule effect
+same-done l n u to about level old d es eo e h = rw (← es, ← eo, e, meeting-same _ _ _ to about level (sideOfNumber d) h)
 
--- old is the byte of the link
-module _ (l n : List ℕ) (u to about level old d : ℕ)
-    (es : sideOfNumber d ≡ sideOf (meaning l .seats .number to) (meaning l .seats .number about))
-    (eo : linkOf old ≡ meaning l .link to level (sideOfNumber d)) where
-  -- it is `about`
-  pub same-done : old ≡ about → about < seats → indexed l n u ≡ carried to (rule width (meaning l) (meet to about level)) (indexed l n u)
-  unfolding carried sendAll changed rule effect
-  same-done e h = rw (← es, ← eo, e, meeting-same _ _ _ to about level (sideOfNumber d) h)
+-- what was read and written where it is another: b is whether it is nearer, c what becomes of it, and w the record after the writing
+pub record Met (l : List ℕ) (to about level old d : ℕ) (b : Bool) (c : Change) (w : List ℕ) : Type 0 where
+  pub side : sideOfNumber d ≡ sideOf (meaning l .seats .number to) (meaning l .seats .number about)
+  pub link : linkOf old ≡ meaning l .link to level (sideOfNumber d)
+  pub other : old ≡ about → ⊥
+  pub nearer : b ≡ (ltb old seats && onSide (sideOfNumber d) (meaning l .seats .number old) (meaning l .seats .number about))
+  pub change : c ≡ cond b Keep (Set about)
+  pub wrote : w ≡ written l to level (sideOfNumber d) c
 
-  -- it is another: b is whether it is nearer, c what becomes of it, w the record after the writing and x all that is left
-  module _ {b : Bool} {c : Change} {w : List ℕ} (ne : old ≡ about → ⊥)
-      (eb : b ≡ (ltb old seats && onSide (sideOfNumber d) (meaning l .seats .number old) (meaning l .seats .number about)))
-      (ec : c ≡ cond b Keep (Set about))
-      (ew : w ≡ written l to level (sideOfNumber d) c) where
-    rule-is : rule width (meaning l) (meet to about level)
-        ≡ cond b (sending (meet old about level ∷ []))
-        (setting width (meaning l .seats .number) (meaning l .seats .vector) (entry (meaning l) to) to about level (sideOfNumber d))
-    unfolding rule effect
-    rule-is = rw (← es, ← eo, eb) (meeting-other _ _ _ to about level (sideOfNumber d) old ne)
+-- x is all that is left
+module _ {l : List ℕ} {to about level old d : ℕ} {b : Bool} {c : Change} {w : List ℕ} (m : Met l to about level old d b c w) where
+  -- a nearer link is a seat
+  pub nearer-seat : b ≡ true → old < seats
+  nearer-seat t = ltb-true old seats (and-left (ltb old seats) _ (sym (m .nearer) ∙ t))
 
-    pub passed-done : {x : Indexed} {i : ℕ} → b ≡ true → i ≡ place seats width (meet old about level) → x ≡ sendAt i (indexed w n u)
-        → x ≡ carried to (rule width (meaning l) (meet to about level)) (indexed l n u)
-    unfolding carried changed sendAll
-    passed-done t ei ex = rw (rule-is, t) (rw (ew, ec, t, ei) at ex)
+  rule-is : rule width (meaning l) (meet to about level)
+      ≡ cond b (sending (meet old about level ∷ []))
+      (setting width (meaning l .seats .number) (meaning l .seats .vector) (entry (meaning l) to) to about level (sideOfNumber d))
+  unfolding rule effect
+  rule-is = rw (← m .side, ← m .link, m .nearer) (meeting-other _ _ _ to about level (sideOfNumber d) old (m .other))
 
-    pub set-done : {x : Indexed} → b ≡ false → to < seats → level < levels
-        → x ≡ sendAll (told (meaning w) to about level (sideOfNumber d) (linkOf old)) (indexed w n u)
-        → x ≡ carried to (rule width (meaning l) (meet to about level)) (indexed l n u)
-    unfolding carried changed setting told
-    set-done t ht hl ex =
-        let D = sideOfNumber d in
-        rw (rule-is, t, ← eo, ← same-other l to level D about ht hl, ← same-vector l to level D about ht hl) (rw (ew, ec, t) at ex)
+  pub passed-done : (n : List ℕ) (u : ℕ) {x : Indexed} {i : ℕ} → b ≡ true
+      → i ≡ place seats width (meet old about level)
+      → x ≡ sendAt i (indexed w n u)
+      → x ≡ carried to (rule width (meaning l) (meet to about level)) (indexed l n u)
+  unfolding carried changed sendAll
+  passed-done n u t ei ex = rw (rule-is, t) (rw (m .wrote, m .change, t, ei) at ex)
+
+  pub set-done : (n : List ℕ) (u : ℕ) {x : Indexed} → b ≡ false
+      → to < seats
+      → level < levels
+      → x ≡ sendAll (told (meaning w) to about level (sideOfNumber d) (linkOf old)) (indexed w n u)
+      → x ≡ carried to (rule width (meaning l) (meet to about level)) (indexed l n u)
+  unfolding carried changed setting told
+  set-done n u t ht hl ex =
+      let D = sideOfNumber d in
+      rw (rule-is, t, ← m .link, ← same-other l to level D about ht hl, ← same-vector l to level D about ht hl) (rw (m .wrote, m .change, t) at ex)

@@ -1,7 +1,7 @@
 -- `rules::meet` meets its contract. Assumes nothing.
 use Prim.Native.Nat.{_<_}
 use Rattle.record.specs.Layout.{seats}
-use Rattle.rules.proofs.Meets.{nearer-seat, same-done, passed-done, set-done}
+use Rattle.rules.proofs.Meets.{same-done, Met, nearer-seat, passed-done, set-done}
 use borrow.Author.Needs.{needs}
 use Rattle.rules.proofs.meet.Statement.{statement}
 use Rattle.rules.proofs.meet.Tie as tie
@@ -35,11 +35,25 @@ change-to-requires c κs = search needs
 write-link-requires : tie.Need-write-link-requires
 write-link-requires c κs = search needs
 
+-- where the link is another
+met : (w : tie.After-write-link)
+    → let k = w .before .before .before .before .before .before in
+    let a = k .before .before .before .before .before .before .args in
+    Met (a .rec .now) (a .to) (a .about) (a .level) (k .link .result) (k .before .before .side-of .result) (w .before .before .before .nearer .result)
+    (w .before .change-to .result) (w .write-link .last .0)
+met w = let k = w .before .before .before .before .before .before in record {
+  side = k .before .before .side-of .ensures .0;
+  link = k .link .ensures;
+  other = w .before .before .before .before .before .if1 .left;
+  nearer = w .before .before .before .nearer .ensures;
+  change = w .before .change-to .ensures;
+  wrote = w .write-link .ensures;
+}
+
 meet-place-requires : tie.Need-meet-place-requires
 meet-place-requires c κs =
-    let s = c .before .before .before .before .before .before .before .before in
-    let o = s .before .before .before .link .result in
-    let h : o < seats = nearer-seat o _ (s .nearer .ensures) (c .before .before .if2 .taken) in
+    let w = c .before .before .before .before .before in
+    let h : w .before .before .before .before .before .before .link .result < seats = nearer-seat (met w) (c .before .before .if2 .taken) in
     search (needs, h)
 
 send-requires : tie.Need-send-requires
@@ -54,19 +68,9 @@ same-length-3 c = search needs
 returns-2 : tie.Need-returns-2
 returns-2 c =
     let w = c .before .before .before .before .before .before .before .before .before .before .before in
-    let k = w .before .before .before .before .before .before in
-    let b = k .before .before .before .before .before .before in
-    let a = b .args in
-    passed-done (a .rec .now) (a .index .now) (a .top) (a .to) (a .about) (a .level) (k .link .result) (k .before .before .side-of .result)
-    (k .before .before .side-of .ensures .0)
-    (k .link .ensures)
-    (w .before .before .before .before .before .if1 .left)
-    (w .before .before .before .nearer .ensures)
-    (w .before .change-to .ensures)
-    (w .write-link .ensures)
-    (c .before .before .before .before .before .before .before .before .if2 .taken)
-    (c .before .before .before .before .before .meet-place .ensures .0)
-    (c .before .before .before .before .send .ensures)
+    let a = w .before .before .before .before .before .before .before .before .before .before .before .before .args in
+    let s = c .before .before .before .before in
+    passed-done (met w) (a .index .now) (a .top) (s .before .before .before .before .if2 .taken) (s .before .meet-place .ensures .0) (s .send .ensures)
 
 tell-requires : tie.Need-tell-requires
 tell-requires c κs = search needs
@@ -80,20 +84,9 @@ same-length-5 c = search needs
 returns-3 : tie.Need-returns-3
 returns-3 c =
     let w = c .before .before .before .before .before .before .before .before .before .before in
-    let k = w .before .before .before .before .before .before in
-    let b = k .before .before .before .before .before .before in
-    let a = b .args in
-    set-done (a .rec .now) (a .index .now) (a .top) (a .to) (a .about) (a .level) (k .link .result) (k .before .before .side-of .result)
-    (k .before .before .side-of .ensures .0)
-    (k .link .ensures)
-    (w .before .before .before .before .before .if1 .left)
-    (w .before .before .before .nearer .ensures)
-    (w .before .change-to .ensures)
-    (w .write-link .ensures)
-    (c .before .before .before .before .before .before .before .if2 .left)
-    (b .pre .2)
-    (b .pre .4)
-    (c .before .before .before .before .tell .ensures)
+    let b = w .before .before .before .before .before .before .before .before .before .before .before .before in
+    let t = c .before .before .before .before in
+    set-done (met w) (b .args .index .now) (b .args .top) (t .before .before .before .if2 .left) (b .pre .2) (b .pre .4) (t .tell .ensures)
 
 pub meet-spec : {M : Type 1} → statement M
 meet-spec =
