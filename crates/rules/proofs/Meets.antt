@@ -2,9 +2,9 @@
 use Prim.Native.Nat.{ℕ, _-_, _<_}
 use mathlib.Core.Path.{_≡_, refl, sym, ap, _∙_}
 use mathlib.Core.Logic.{inl}
-use mathlib.Core.Option.{none, some}
+use mathlib.Core.Option.{Option, none, some}
 use mathlib.Core.Bool.{Bool, true, false, not, cond, _&&_}
-use mathlib.Core.List.{List, [], _∷_}
+use mathlib.Core.List.{List, [], _∷_, _++_}
 use native.Mathlib.Omega.{arith}
 use borrow.Author.Tests.{ltb-true, lt-ltb, eq-eqb, ne-eqb}
 use lib.Dec.{eqb, ltb}
@@ -18,8 +18,8 @@ use Rattle.graph.specs.Vector.{width, bit}
 use Rattle.protocol.specs.Message.{meet, probe, pull}
 use Rattle.protocol.specs.Numbering.{place}
 use Rattle.protocol.specs.Rules.{Entry, toLink, sending, setting, meeting, effect}
-use Rattle.protocol.specs.State.{entry}
-use Rattle.protocol.specs.pages.Deliver.{rule}
+use Rattle.protocol.specs.State.{Meaning, entry}
+use Rattle.protocol.specs.pages.Deliver.{rule, applied}
 use Rattle.record.specs.Layout.{seats, levels, vectorSize, linkAt, vectorFrom}
 use Rattle.record.specs.Meaning.{meaning, linkOf}
 use Rattle.record.proofs.Form.{meaning-vector, meaning-link}
@@ -43,7 +43,15 @@ pub spread-sent : (l : List ℕ) (to about v other d : ℕ) (n : List ℕ) (u : 
     (probe about to level ∷ toLink (linkOf other) (λ z. pull z (not (bit width level v)) level (sideOfNumber d))) []) (indexed l n u)
 spread-sent l to about v other d n u h ei ex eb hb ey = rw (lt-ltb _ _ h, send-more, ← ei, ← ex, ← eb, ← bit-not _ hb) ey
 
--- what is sent after a set, one after the other: x is the record with the MEET about `to`, y with that about the old link, z with the rest
+-- what is sent after a set, by the link that was there
+told-is : (M : Meaning) (to about level : ℕ) (d : Side) (old : Option ℕ) → told M to about level d old
+    ≡ meet about to level ∷ (toLink old (λ o. meet about o level) ++ cond (ltb level width)
+    (probe about to level ∷ toLink (M .link to level (opp d)) (λ z. pull z (not (bit width level (M .seats .vector to))) level (opp d))) [])
+unfolding told setting applied
+told-is M to about level left old = rw (eq-eqb to to refl, eq-eqb level level refl)
+told-is M to about level right old = rw (eq-eqb to to refl, eq-eqb level level refl)
+
+-- one after the other: x is the record with the MEET about `to`, y with that about the old link, z with the rest
 pub told-sent : (l n : List ℕ) (u to about level old other d v : ℕ) {x y z : Indexed} {i : ℕ} → to < seats
     → d < 2
     → linkOf other ≡ meaning l .link to level (sideOfNumber (1 - d))
@@ -54,9 +62,8 @@ pub told-sent : (l n : List ℕ) (u to about level old other d v : ℕ) {x y z :
     → z ≡ sendAll (cond (ltb level width)
     (probe about to level ∷ toLink (linkOf other) (λ o. pull o (not (bit width level v)) level (sideOfNumber (1 - d)))) []) y
     → z ≡ sendAll (told (meaning l) to about level (sideOfNumber d) (linkOf old)) (indexed l n u)
-unfolding told
 told-sent l n u to about level old other d v ht hd eo ev ei ex ey ez =
-    rw (send-more, send-append, ← side-opp d hd, ← eo, meaning-vector l to ht, ← ev, ← ei, ← ex, ← ey) ez
+    rw (told-is, send-more, send-append, ← side-opp d hd, ← eo, meaning-vector l to ht, ← ev, ← ei, ← ex, ← ey) ez
 
 -- a link written leaves the link on the other side and the vector
 module _ (l : List ℕ) (to level : ℕ) (d : Side) (v : ℕ) (ht : to < seats) (hl : level < levels) where
@@ -135,7 +142,8 @@ module _ {l : List ℕ} {to about level old d : ℕ} {b : Bool} {c : Change} {w 
       → level < levels
       → x ≡ sendAll (told (meaning w) to about level (sideOfNumber d) (linkOf old)) (indexed w n u)
       → x ≡ carried to (rule width (meaning l) (meet to about level)) (indexed l n u)
-  unfolding carried changed setting told
+  unfolding carried changed setting
   set-done n u t ht hl ex =
       let D = sideOfNumber d in
-      rw (rule-is, t, ← m .link, ← same-other l to level D about ht hl, ← same-vector l to level D about ht hl) (rw (m .wrote, m .change, t) at ex)
+      let e = rw (m .wrote, m .change, t, told-is) at ex in
+      rw (rule-is, t, ← m .link, ← same-other l to level D about ht hl, ← same-vector l to level D about ht hl) e
