@@ -15,20 +15,19 @@ use Rattle.graph.specs.Side.{Side}
 use Rattle.graph.specs.Vector.{width}
 use Rattle.graph.specs.Graph.{graph}
 use Rattle.protocol.specs.Refusals.{unsettled}
-use Rattle.protocol.specs.State.{open-phase, Seats, seated, member, oneComponent, members}
-use Rattle.protocol.proofs.SoundFacts.{seated-below}
+use Rattle.protocol.specs.State.{open-phase, Seats, seated, stays, member, oneComponent, members}
+use Rattle.protocol.proofs.SoundFacts.{stays-seated, seated-below}
 use Rattle.record.specs.Layout.{seats}
 use Rattle.record.specs.Meaning.{seatsIn, meaning}
 use Rattle.record.proofs.Refused.{Passed}
 use Rattle.record.proofs.Sound.{sound-is}
-use Rattle.search.specs.Walk.{find}
 use Rattle.search.specs.Right.{RightHolder}
 use Rattle.search.proofs.Check.{checked-holder}
 use Rattle.check_links.specs.Settled.{settled}
 use Rattle.check_links.proofs.Facts.{link-wrong-no}
 use Rattle.check_links.proofs.Settled.{Settled, settled-is, unsettled-exactly}
 use Rattle.check_links.proofs.Whole.{lots-laws}
-use Rattle.find.specs.Find.{FindAnswer, searched, findRefusal, findIn}
+use Rattle.find.specs.Find.{FindAnswer, searched, scanOf, findRefusal, findIn}
 use Rattle.find.proofs.Refused.{Accepted, accepted, waits, answers}
 
 -- all lots are members in phase open
@@ -59,7 +58,7 @@ module _ (l : List ℕ) (b : AreBytes l) where
       unsettled-refused p (unsettled-exactly l .1 (inr (inr (link-wrong-no l (p .sized) b (p .fine) y k d m h wrong)))) s x t
 
 -- an accepted scan is the search on the meaning
-pub find-says : (l : List ℕ) (s x : ℕ) → findRefusal l s ≡ 0 → findIn l s x ≡ searched (find (seatsIn l .number) (meaning l .link) x seats width s)
+pub find-says : (l : List ℕ) (s x : ℕ) → findRefusal l s ≡ 0 → findIn l s x ≡ searched (scanOf l s x)
 unfolding findIn
 find-says l s x e = rw e
 
@@ -67,17 +66,15 @@ pub find-refused : (l : List ℕ) (s x : ℕ) → findIn l s x .refused ≡ find
 unfolding findIn
 find-refused l s x = by (findRefusal l s)
   where
-    by : (n : ℕ) → cond (eqb n 0) (searched (find (seatsIn l .number) (meaning l .link) x seats width s))
-        (record { refused = n; holder = none; hops = 0 }) .refused ≡ n
+    by : (n : ℕ) → cond (eqb n 0) (searched (scanOf l s x)) (record { refused = n; holder = none; hops = 0 }) .refused ≡ n
     by zero = refl
     by (suc n) = rw (ne-eqb (suc n) 0 (λ e. omega arith))
 
--- EVERY ACCEPTED SCAN: the holder is the lot with the largest number that is not above the scanned one, and none exactly if there is none
+-- EVERY ACCEPTED SCAN: the holder is the staying lot with the largest number that is not above the scanned one, and none exactly if there is
+-- none (`none-exactly`, search Holder)
 pub accepted-holder : (l : List ℕ) → AreBytes l → (s x : ℕ) → findIn l s x .refused ≡ 0
-    → RightHolder (seated (seatsIn l)) (seatsIn l .number) x (findIn l s x .holder)
-accepted-holder l b s x e =
-    rw (ap (λ (f : FindAnswer). f .holder) (find-says l s x no-row))
-    (subst (λ (t : ℕ → Bool). RightHolder t (seatsIn l .number) x (find (seatsIn l .number) (meaning l .link) x seats width s .holder)) all held)
+    → RightHolder (stays (seatsIn l)) (seatsIn l .number) x (findIn l s x .holder)
+accepted-holder l b s x e = rw (ap (λ (f : FindAnswer). f .holder) (find-says l s x no-row)) held
   where
     no-row : findRefusal l s ≡ 0
     no-row = sym (find-refused l s x) ∙ e
@@ -91,5 +88,6 @@ accepted-holder l b s x e =
     all : member (seatsIn l) ≡ seated (seatsIn l)
     all = seated-members (seatsIn l) (S .opens)
 
-    held : RightHolder (member (seatsIn l)) (seatsIn l .number) x (find (seatsIn l .number) (meaning l .link) x seats width s .holder)
-    held = checked-holder (lots-laws l (S .passed .sized) b (S .passed .fine)) (λ y z u v. refl) width (meaning l .link) (S .right) x s (rw all (A .lot))
+    held : RightHolder (stays (seatsIn l)) (seatsIn l .number) x (scanOf l s x .holder)
+    held = checked-holder (lots-laws l (S .passed .sized) b (S .passed .fine)) (λ y z u v. refl) width (meaning l .link) (S .right)
+        (stays (seatsIn l)) (λ z t. rw all (stays-seated (seatsIn l) z t)) x s (rw all (A .lot))

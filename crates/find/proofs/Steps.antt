@@ -1,7 +1,7 @@
 -- The walk step by step, as the code takes it. Assumes nothing.
 use Prim.Native.Nat.{ℕ, suc, _+_, _-_, _^_, _≤_, _<_}
-use mathlib.Core.Path.{_≡_, refl, _∙_, ap, subst}
-use mathlib.Core.Bool.{true, false}
+use mathlib.Core.Path.{_≡_, refl, sym, _∙_, ap, subst}
+use mathlib.Core.Bool.{true, false, cond}
 use mathlib.Core.Option.{Option, none, some}
 use mathlib.Core.List.{List, [], _∷_}
 use native.Mathlib.Omega.{arith}
@@ -10,20 +10,23 @@ use lib.ListN.{length}
 use borrow.Author.Tests.{lt-ltb, le-ltb, eq-eqb, ne-eqb}
 use Rattle.memory.specs.Bytes.{AreBytes}
 use Rattle.memory.proofs.Bytes.{numberAt-lt}
-use Rattle.graph.specs.Side.{Side, onSide, sideOf, sideNumber, sideOfNumber}
+use Rattle.graph.specs.Side.{Side, left, onSide, sideOf, sideNumber, sideOfNumber}
 use Rattle.graph.specs.Graph.{Links}
 use Rattle.graph.specs.Vector.{width}
-use Rattle.protocol.specs.State.{seated}
+use Rattle.protocol.specs.State.{seated, stays}
 use Rattle.record.specs.Layout.{seats, numberSize, numberFrom}
 use Rattle.record.specs.Meaning.{seatsIn, meaning}
 use Rattle.record.proofs.Places.{side-sideNumber}
-use Rattle.search.specs.Walk.{stop, move, drop, along, stepAt, holderAt, find}
+use Rattle.search.specs.Walk.{stop, move, drop, along, stepAt, printable, leftSteps}
 use Rattle.base.proofs.Count.{count-le}
 use Rattle.search.specs.inner.Search.{Search, found, moves, drops, ends, gap}
-use Rattle.search.proofs.Search.{move-nearer, search-find}
+use Rattle.search.proofs.Ordered.{rank-bound}
+use Rattle.search.proofs.Search.{move-nearer, search-path}
 use Rattle.search.proofs.Hops.{search-seated, search-hops}
+use Rattle.search.proofs.Left.{find-by}
 use Rattle.find.specs.declared.Walk.{Walk}
-use Rattle.find.specs.inner.Steps.{asStep, Fit, remains, Ready, Walked}
+use Rattle.find.specs.Find.{scanOf}
+use Rattle.find.specs.inner.Steps.{asStep, Fit, remains, Ready, Went, Walked, ReadyLeft, toHolder}
 
 -- along a link y that does not lie beyond x, one that does, and none
 module _ (number : ℕ → ℕ) (L : Links) (x y : ℕ) (d : Side) {o : Option ℕ} where
@@ -38,6 +41,13 @@ module _ (number : ℕ → ℕ) (L : Links) (x y : ℕ) (d : Side) {o : Option �
   pub along-none : o ≡ none → along number L x d o ≡ asStep seats
   unfolding along
   along-none e = rw e
+
+-- no step, and a step onto seat y before a path
+pub here : {w : Walk} → Went [] w w
+here = record { seat = refl; hops = omega arith }
+
+pub onto : {y k : ℕ} {p : List ℕ} {w r : Walk} → Went p (record { seat = y; level = k; hops = w .hops + 1 }) r → Went (y ∷ p) w r
+onto v = record { seat = v .seat; hops = omega (arith, v .hops) }
 
 -- a number that is not x: the step goes along the side of x
 pub step-side : (number : ℕ → ℕ) (L : Links) (x s k d r : ℕ) → (number s ≡ x → ⊥) → d ≡ sideNumber (sideOf (number s) x)
@@ -61,7 +71,7 @@ module _ (l : List ℕ) (x : ℕ) (w : Walk) (h : Ready l x w) where
   unfolding stepAt
   stop-walked e =
       let t : stepAt number L x (w .seat) (w .level) ≡ stop = rw (eq-eqb (number (w .seat)) x e) in
-      record { path = []; search = found t; seat = refl; hops = omega arith }
+      record { path = []; search = found t; went = here }
 
   -- a move to seat y
   module _ (y : ℕ) (p : y < seats) (t : stepAt number L x (w .seat) (w .level) ≡ asStep y) where
@@ -85,7 +95,7 @@ module _ (l : List ℕ) (x : ℕ) (w : Walk) (h : Ready l x w) where
     move-fits = omega (arith, nearer .1, h .room)
 
     pub move-walked : (r : Walk) → Walked l x moved r → Walked l x w r
-    move-walked r v = record { path = y ∷ v .path; search = moves to-move (v .search); seat = v .seat; hops = omega (arith, v .hops) }
+    move-walked r v = record { path = y ∷ v .path; search = moves to-move (v .search); went = onto (v .went) }
 
   -- no move: a level down, or the end
   pub to-drop : (y : ℕ) → seats ≤ y → stepAt number L x (w .seat) (w .level) ≡ asStep y → stepAt number L x (w .seat) (w .level) ≡ drop
@@ -93,7 +103,7 @@ module _ (l : List ℕ) (x : ℕ) (w : Walk) (h : Ready l x w) where
 
   module _ (t : stepAt number L x (w .seat) (w .level) ≡ drop) where
     pub end-walked : w .level ≡ 0 → Walked l x w w
-    end-walked e = record { path = []; search = rw e (ends (rw e at t)); seat = refl; hops = omega arith }
+    end-walked e = record { path = []; search = rw e (ends (rw e at t)); went = here }
 
     module _ (n : w .level ≡ 0 → ⊥) where
       abbrev dropped : Walk
@@ -108,8 +118,7 @@ module _ (l : List ℕ) (x : ℕ) (w : Walk) (h : Ready l x w) where
           record {
             path = v .path;
             search = subst (λ (k : ℕ). Search number L x (w .seat) k (v .path)) e (drops (rw e t) (v .search));
-            seat = v .seat;
-            hops = v .hops;
+            went = record { seat = v .went .seat; hops = v .went .hops };
           }
 
 -- the number of a lot fits, so a walk from it has room for its hops
@@ -130,16 +139,27 @@ module _ (l : List ℕ) (x s : ℕ) (f : Fit l) (m : T (seated (seatsIn l) s)) w
     start-ready b p = record { fit = f; lot = m; level = omega arith; room = omega (arith, start-room l x s b start-seat p) }
 
     module _ (e : Walk) (v : Walked l x start e) where
-      pub end-seat : e .seat < seats
-      end-seat = f .ordered .seat (e .seat) (rw (v .seat) (search-seated (f .ordered) m low (v .search)))
+      -- it ends at a lot, with room for left steps
+      pub end-ready : ReadyLeft l e
+      end-ready = record {
+        fit = f;
+        lot = rw (v .went .seat) (search-seated (f .ordered) m low (v .search));
+        room = omega (
+          arith,
+          v .went .hops,
+          search-hops (f .ordered) m low (v .search),
+          count-le seats (seated (seatsIn l)),
+          rank-bound seats (seated (seatsIn l)) (seatsIn l .number) left (e .seat),
+        );
+      }
 
-      -- fewer hops than lots
-      pub end-hops : e .hops < seats
-      end-hops = omega (arith, v .hops, search-hops (f .ordered) m low (v .search), count-le seats (seated (seatsIn l)))
-
-  -- from the top level it is the search of specs/
-  pub end-found : (e : Walk) → Walked l x (record { seat = s; level = width; hops = 0 }) e
-      → find (seatsIn l .number) (meaning l .link) x seats width s ≡ holderAt (seatsIn l .number) (meaning l .link) x (e .seat) (e .hops)
-  end-found e v =
-      let q : length (v .path) ≡ e .hops = omega (arith, v .hops) in
-      search-find (f .ordered) m (v .search) ∙ rw (v .seat, q)
+  -- from the top level, and then to the holder, it is the search of specs/
+  pub end-found : (e r : Walk) → Walked l x (record { seat = s; level = width; hops = 0 }) e → Went (toHolder l x e) e r
+      → scanOf l s x ≡ record { holder = cond (printable (stays (seatsIn l)) (seatsIn l .number) x (r .seat)) (some (r .seat)) none; hops = r .hops }
+  end-found e r v u =
+      find-by (stays (seatsIn l)) (seatsIn l .number) (meaning l .link) x seats width s (search-path (f .ordered) m (v .search))
+      (ap (leftSteps (stays (seatsIn l)) (seatsIn l .number) (meaning l .link) x seats) (sym (v .went .seat)))
+      ∙ rw (← v .went .seat, ← u .seat, hops)
+    where
+      hops : length (v .path) + length (toHolder l x e) ≡ r .hops
+      hops = omega (arith, v .went .hops, u .hops)

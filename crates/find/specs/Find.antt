@@ -1,5 +1,5 @@
--- Find on the bytes (document 01, "Find"; document 02, #102): the refusal number, 1, 2, 3, 8, 13, or 0; the holder and the hops of the search
--- on the meaning. A refused answer has none and 0. Assumes nothing.
+-- Find on the bytes (document 01, "Find"; document 02, #102 and #104): the refusal number, 1, 2, 3, 8, 13, or 0; the holder and the hops of the
+-- search on the meaning, for the lots that stay. A refused answer has none and 0. Assumes nothing.
 use Prim.Native.Nat.{ℕ}
 use mathlib.Core.Bool.{not, cond}
 use mathlib.Core.Option.{Option, none}
@@ -7,6 +7,7 @@ use mathlib.Core.List.{List, [], _∷_}
 use lib.Dec.{eqb}
 use Rattle.graph.specs.Vector.{width}
 use Rattle.protocol.specs.Refusals.{unsettled, Row, row, first}
+use Rattle.protocol.specs.State.{stays}
 use Rattle.record.specs.Layout.{seats}
 use Rattle.record.specs.Meaning.{seatsIn, meaning}
 use Rattle.record.specs.Reading.{sizeRow, soundRow, seatRow, emptyRow}
@@ -22,6 +23,10 @@ pub record FindAnswer : Type 0 where
 abbrev pub searched : Found → FindAnswer
 searched f = record { refused = 0; holder = f .holder; hops = f .hops }
 
+-- the search for x from the lot on seat s, on the meaning
+abbrev pub scanOf : List ℕ → (s x : ℕ) → Found
+scanOf l s x = find (stays (seatsIn l)) (seatsIn l .number) (meaning l .link) x seats width s
+
 -- unsettled: the phase is clearing, messages are pending, or the check says no
 abbrev pub unsettledRow : List ℕ → Row
 unsettledRow l = row unsettled (not (settled l))
@@ -30,8 +35,8 @@ unsettledRow l = row unsettled (not (settled l))
 unfoldable pub findRefusal : List ℕ → (s : ℕ) → ℕ
 findRefusal l s = first (sizeRow l ∷ soundRow l ∷ seatRow s ∷ emptyRow l s ∷ unsettledRow l ∷ [])
 
--- the search for x from the lot on seat s
+-- what find answers to a scan of x from the lot on seat s
 unfoldable pub findIn : List ℕ → (s x : ℕ) → FindAnswer
 findIn l s x =
     let n = findRefusal l s in
-    cond (eqb n 0) (searched (find (seatsIn l .number) (meaning l .link) x seats width s)) (record { refused = n; holder = none; hops = 0 })
+    cond (eqb n 0) (searched (scanOf l s x)) (record { refused = n; holder = none; hops = 0 })

@@ -1,22 +1,21 @@
-// The search for the lot of a scanned number over a lent record that is settled (document 01, "Find"; document 02, #102): from the top level toward
-// the number, a level down where the link is none or lies beyond it, and at the end the lot that is not above it.
+// The search for the lot of a scanned number over a lent record that is settled (document 01, "Find"; document 02, #102 and #104): from the top level
+// toward the number, a level down where the link is none or lies beyond it, and at the end to the left, to a staying lot that is not above it.
 ghost use mathlib.Core.Path.{_≡_};
 ghost use mathlib.Core.Bool.{true};
-ghost use Prim.Native.Nat.{_+_, _^_, _<_};
+ghost use Prim.Native.Nat.{_<_};
 ghost use lib.Dec.{T};
-ghost use Rattle.graph.specs.Vector.{width};
-ghost use Rattle.protocol.specs.State.{seated};
+ghost use Rattle.protocol.specs.State.{seated, stays};
 ghost use lib.ListN.{length};
 ghost use Rattle.record.specs.Layout.{seats, levels, size};
 ghost use Rattle.record.specs.Sound.{sound};
 ghost use Rattle.record.specs.Meaning.{seatsIn, meaning};
 ghost use Rattle.graph.specs.Side.{sideOfNumber};
-ghost use Rattle.search.specs.Walk.{along as alongOf, stepAt, drop, holderAt, find as findOf};
+ghost use Rattle.search.specs.Walk.{along as alongOf, stepAt, drop, printable};
 ghost use Rattle.messages.specs.inner.Numbers.{firstPending};
 ghost use Rattle.check_links.specs.Settled.{settled};
-ghost use Rattle.find.specs.Find.{searched, findRefusal, findIn};
+ghost use Rattle.find.specs.Find.{searched, scanOf, findRefusal, findIn};
 ghost use Rattle.find.specs.Answer.{foundNumbers, FoundNumbered};
-ghost use Rattle.find.specs.inner.Steps.{asStep, Fit, Ready, Walked};
+ghost use Rattle.find.specs.inner.Steps.{asStep, Fit, Ready, Walked, Went, ReadyLeft, WentLeft, toHolder};
 use check_links::links_fit;
 use graph::LEFT;
 use graph::on_side;
@@ -25,6 +24,7 @@ use record::MESSAGES;
 use record::SEATS;
 use record::lots::is_clearing;
 use record::lots::is_seated;
+use record::lots::is_staying;
 use record::refusals::EMPTY_SEAT;
 use record::refusals::NO_SUCH_SEAT;
 use record::refusals::UNSETTLED;
@@ -66,6 +66,14 @@ fn step(rec: &[u8], s: usize, k: usize, x: u64) -> usize
 {
     let d = side_of(record::number(rec, s), x);
     along(rec, s, k, d, x)
+}
+
+// Whether the lot on seat s may be printed on a label for x: it stays, and its number is not above x.
+fn is_printable(rec: &[u8], s: usize, x: u64) -> bool
+    requires { ⌜ (length (now rec) ≡ size) × (s < seats) ⌝ }
+    ensures { λ r. ⌜ r ≡ printable (stays (seatsIn (now (rec .entry)))) (seatsIn (now (rec .entry)) .number) x s ⌝ }
+{
+    is_staying(rec, s) && record::number(rec, s) <= x
 }
 
 impl Walk {
@@ -111,29 +119,43 @@ impl Walk {
         };
         w.advance(rec, x)
     }
-}
 
-// From the end of the walk on seat s after h hops: the lot there if it is not above x, else its left neighbour.
-fn held(rec: &[u8], s: usize, h: u64, x: u64) -> Found
-    requires { ⌜ (length (now rec) ≡ size) × (s < seats) × (h + 1 < 2 ^ 64) ⌝ }
-    ensures { λ r. ⌜ (foundNumbers r ≡ searched (holderAt (seatsIn (now (rec .entry)) .number) (meaning (now (rec .entry)) .link) x s h))
-        × FoundNumbered r ⌝ }
-{
-    if record::number(rec, s) <= x {
-        return Found::Holder(s as u8, h);
+    // Onto the level-0 left link and on along these, to the first staying lot or as far as they lead.
+    fn leftward(self, rec: &[u8]) -> Walk
+        requires { ⌜ ReadyLeft (now rec) self ⌝ }
+        ensures { λ r. ⌜ WentLeft (now (rec .entry)) self r ⌝ }
+    {
+        let y = record::link(rec, self.seat, 0, LEFT) as usize;
+        if y >= SEATS {
+            return self;
+        }
+        let w = Walk {
+            seat: y,
+            level: 0,
+            hops: self.hops + 1,
+        };
+        if is_staying(rec, y) {
+            return w;
+        }
+        w.leftward(rec)
     }
-    let y = record::link(rec, s, 0, LEFT);
-    if (y as usize) < SEATS {
-        return Found::Holder(y, h + 1);
+
+    // From the end of the walk to where the holder of x is: no step if the lot may be printed.
+    fn to_holder(self, rec: &[u8], x: u64) -> Walk
+        requires { ⌜ ReadyLeft (now rec) self ⌝ }
+        ensures { λ r. ⌜ Went (toHolder (now (rec .entry)) x self) self r ⌝ }
+    {
+        if is_printable(rec, self.seat, x) {
+            return self;
+        }
+        self.leftward(rec)
     }
-    Found::Nobody(h)
 }
 
 // The search from the lot on seat s.
 fn search(rec: &[u8], s: usize, x: u64) -> Found
     requires { ⌜ Fit (now rec) × T (seated (seatsIn (now rec)) s) ⌝ }
-    ensures { λ r. ⌜ (foundNumbers r ≡ searched (findOf (seatsIn (now (rec .entry)) .number) (meaning (now (rec .entry)) .link) x seats width s))
-        × FoundNumbered r ⌝ }
+    ensures { λ r. ⌜ (foundNumbers r ≡ searched (scanOf (now (rec .entry)) s x)) × FoundNumbered r ⌝ }
 {
     let w = Walk {
         seat: s,
@@ -141,7 +163,11 @@ fn search(rec: &[u8], s: usize, x: u64) -> Found
         hops: 0,
     };
     let e = w.advance(rec, x);
-    held(rec, e.seat, e.hops, x)
+    let r = e.to_holder(rec, x);
+    if is_printable(rec, r.seat, x) {
+        return Found::Holder(r.seat as u8, r.hops);
+    }
+    Found::Nobody(r.hops)
 }
 
 // Whether a sound record is settled, where `first` is the place of its first pending message.

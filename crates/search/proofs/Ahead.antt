@@ -13,7 +13,8 @@ use Rattle.graph.specs.Graph.{Lots, Links, Laws}
 use Rattle.graph.proofs.Shared.{same-eq, eq-same}
 use Rattle.graph.proofs.Walk.{Walk, here, there, walk-zero, Sorted}
 use Rattle.search.specs.inner.LinkCheck.{ahead, aheadOf}
-use Rattle.search.proofs.Ordered.{sorted-ordered, rank, rank-less, rank-bound}
+use Rattle.search.specs.inner.Ordered.{rank}
+use Rattle.search.proofs.Ordered.{sorted-ordered, rank-less, rank-bound}
 
 -- the first lot right of u at level k that has bit k as b, or none
 pub data FirstWith (W : ℕ) (G : Lots) (L : Links) (k : ℕ) (b : Bool) (u : ℕ) : Option ℕ → Type 0 where

@@ -75,7 +75,8 @@ pub check-constraints : {N W : ℕ} {G : Lots} {L : Links} → Laws N G → (che
 check-constraints laws = let (to, back) = check-graph (laws .seat) in
     (λ e. skip-graph laws .1 (to e), λ c. back (skip-graph laws .0 c))
 
--- where the check says yes, the holder is right
+-- where the check says yes, the holder is right: of those members that stay
 pub checked-holder : {N : ℕ} {G : Lots} → Laws N G → OneComponent G → (W : ℕ) (L : Links) → check N W G L ≡ true
-    → (x s : ℕ) → T (G .member s) → RightHolder (G .member) (G .number) x (find (G .number) L x N W s .holder)
-checked-holder laws one W L e x s m = find-holder laws (check-graph (laws .seat) .0 e) one x s m
+    → (staying : ℕ → Bool) → ((z : ℕ) → T (staying z) → T (G .member z))
+    → (x s : ℕ) → T (G .member s) → RightHolder staying (G .number) x (find staying (G .number) L x N W s .holder)
+checked-holder laws one W L e staying within x s m = find-holder laws (check-graph (laws .seat) .0 e) one staying within x s m

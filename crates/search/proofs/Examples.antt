@@ -1,39 +1,58 @@
--- Evaluated facts of document 01: cases (b) to (e) on the settled record Q, and the check on right and wrong links. Assumes nothing.
+-- Evaluated facts of document 01: cases (b) to (e) on the settled record Q, scans past leaving lots, and the check on right and wrong links.
+-- Assumes nothing.
 use Prim.Native.Nat.{ℕ, _+_, _*_, _/_}
 use mathlib.Core.Path.{_≡_, refl}
 use mathlib.Core.Option.{none, some}
 use mathlib.Core.List.{[], _∷_}
-use mathlib.Core.Bool.{Bool, true, false, cond, _&&_}
+use mathlib.Core.Bool.{Bool, true, false, not, cond, _&&_}
 use lib.Dec.{eqb, ltb}
 use lib.ListN.{getD}
 use Rattle.graph.specs.Side.{left, right, onSide, sideOf}
 use Rattle.graph.specs.Vector.{bit, equalBits, shared}
 use Rattle.graph.specs.Graph.{Lots, Links, inList, beside, nearer, nearest, graph}
 use Rattle.graph.proofs.Examples.{settledQ, linkQ}
-use Rattle.search.specs.Walk.{Found, along, stepAt, walk, path, holderAt, find}
+use Rattle.search.specs.Walk.{Found, along, stepAt, walk, path, printable, toStaying, leftSteps, route, find}
 use Rattle.base.specs.Loops.{all, count}
 use Rattle.search.specs.Check.{sameLink, levelRight, check}
 use Rattle.search.specs.inner.LinkCheck.{backOf, backsOk, startsAt, ahead, aboveOk, lotBacks, lotAboves, constraintsOk, linksOk}
 
--- F start number, in Q
-abbrev findQ : (s x : ℕ) → Found
-findQ s x = find (settledQ .number) linkQ x 4 8 s
+-- F start number, in Q with some lots marked
+abbrev findQ : (marked : ℕ → Bool) (s x : ℕ) → Found
+findQ marked s x = find (λ z. settledQ .member z && not (marked z)) (settledQ .number) linkQ x 4 8 s
 
-pub case-b : findQ 0 99 ≡ record { holder = none; hops = 0 }
-unfolding find path walk stepAt along holderAt graph nearest nearer beside inList onSide sideOf shared equalBits bit
+pub case-b : findQ (λ z. false) 0 99 ≡ record { holder = none; hops = 0 }
+unfolding find route leftSteps toStaying printable path walk stepAt along graph nearest nearer beside inList onSide sideOf shared equalBits bit
 case-b = refl
 
-pub case-c : findQ 0 300 ≡ record { holder = some 2; hops = 1 }
-unfolding find path walk stepAt along holderAt graph nearest nearer beside inList onSide sideOf shared equalBits bit
+pub case-c : findQ (λ z. false) 0 300 ≡ record { holder = some 2; hops = 1 }
+unfolding find route leftSteps toStaying printable path walk stepAt along graph nearest nearer beside inList onSide sideOf shared equalBits bit
 case-c = refl
 
-pub case-d : findQ 2 250 ≡ record { holder = some 1; hops = 1 }
-unfolding find path walk stepAt along holderAt graph nearest nearer beside inList onSide sideOf shared equalBits bit
+pub case-d : findQ (λ z. false) 2 250 ≡ record { holder = some 1; hops = 1 }
+unfolding find route leftSteps toStaying printable path walk stepAt along graph nearest nearer beside inList onSide sideOf shared equalBits bit
 case-d = refl
 
-pub case-e : findQ 2 100 ≡ record { holder = some 0; hops = 1 }
-unfolding find path walk stepAt along holderAt graph nearest nearer beside inList onSide sideOf shared equalBits bit
+pub case-e : findQ (λ z. false) 2 100 ≡ record { holder = some 0; hops = 1 }
+unfolding find route leftSteps toStaying printable path walk stepAt along graph nearest nearer beside inList onSide sideOf shared equalBits bit
 case-e = refl
+
+-- document 02, #104: with 1 marked
+pub case-k : findQ (λ z. eqb z 1) 0 250 ≡ record { holder = some 0; hops = 2 }
+unfolding find route leftSteps toStaying printable path walk stepAt along graph nearest nearer beside inList onSide sideOf shared equalBits bit
+case-k = refl
+
+-- with 1 and 2, two in a row; with all three; and with 0, the left link of lot 200, where a walk from 300 to 150 ends
+pub two-leaving : findQ (λ z. ltb 0 z) 0 350 ≡ record { holder = some 0; hops = 3 }
+unfolding find route leftSteps toStaying printable path walk stepAt along graph nearest nearer beside inList onSide sideOf shared equalBits bit
+two-leaving = refl
+
+pub all-leaving : findQ (λ z. true) 0 250 ≡ record { holder = none; hops = 2 }
+unfolding find route leftSteps toStaying printable path walk stepAt along graph nearest nearer beside inList onSide sideOf shared equalBits bit
+all-leaving = refl
+
+pub left-leaving : findQ (λ z. eqb z 0) 2 150 ≡ record { holder = none; hops = 2 }
+unfolding find route leftSteps toStaying printable path walk stepAt along graph nearest nearer beside inList onSide sideOf shared equalBits bit
+left-leaving = refl
 
 -- the check of specs/ and the one of the code both say b
 abbrev Checked : Lots → Links → Bool → Type 0

@@ -1,44 +1,47 @@
 -- On the graph of the members, find names the right holder. Assumes the laws of the lots, one component, and links that are the graph's.
 use Prim.Native.Nat.{ℕ, _≤_, _<_}
-use mathlib.Core.Path.{_≡_, refl, ap, subst}
+use mathlib.Core.Path.{_≡_, refl, sym, ap, _∙_, subst}
 use mathlib.Core.Logic.{_↔_, _⊎_, inl, inr}
 use mathlib.Core.Option.{Option, none, some}
 use mathlib.Core.List.{List}
-use mathlib.Core.Bool.{Bool}
+use mathlib.Core.Bool.{Bool, true, false, cond}
 use native.Mathlib.Omega.{arith}
-use native.Mathlib.Decide.{decLt, decLe}
+use native.Mathlib.Decide.{ℕ-discrete, decLt, decLe}
 use lib.Dec.{T}
 use Rattle.graph.specs.Side.{Side, left}
 use Rattle.graph.specs.Graph.{Lots, Links, Laws, IsGraph}
-use Rattle.base.proofs.Tests.{none-some, some-inj}
+use Rattle.base.proofs.Cases.{true-or-false}
+use Rattle.base.proofs.Tests.{T-true, true-T, false-T, true-false, none-some, some-inj}
 use Rattle.graph.specs.inner.Order.{Lt, toL, toR}
 use Rattle.graph.proofs.Order.{lt-asym, lt-irr, lt-side}
 use Rattle.graph.proofs.Neighbour.{InList, Nearest, nobody-there, nearest-first, nearest-list, nearest-side}
 use Rattle.graph.proofs.SkipGraph.{link-nearest}
-use Rattle.search.specs.Walk.{stop, drop, lastOf, Found, find}
+use Rattle.search.specs.Walk.{stop, drop, lastOf, printable, leftSteps, find}
 use Rattle.search.specs.Right.{Holds, RightHolder, holds, nobody}
 use Rattle.search.proofs.Ordered.{OneComponent, graph-ordered}
 use Rattle.search.proofs.Step.{Beyond, Upto, uptoL, uptoR, upto-not, Stepped, is-found, is-past, is-last, at-stepped}
-use Rattle.search.proofs.Step.{Held, is-end, is-left, is-none, at-held}
-use Rattle.search.specs.inner.Search.{Search, found, moves, drops, ends}
+use Rattle.search.specs.inner.Ordered.{Ordered}
+use Rattle.search.specs.inner.Search.{Search, found, moves, drops, ends, Leftward, nowhere, arrives, passes}
 use Rattle.search.proofs.Search.{path-search}
 use Rattle.search.proofs.Hops.{search-seated}
+use Rattle.search.proofs.Left.{is-printable, printable-is, stands, goes-left, find-by}
 
 -- none exactly if there is none
-pub none-exactly : {member : ℕ → Bool} {number : ℕ → ℕ} {x : ℕ} {o : Option ℕ} → RightHolder member number x o
-    → (o ≡ none) ↔ ((z : ℕ) → T (member z) → number z ≤ x → ⊥)
-none-exactly (holds {h = h} r) = (λ e. none-some e refl, λ f. absurd (f h (r .seated) (r .below)))
+pub none-exactly : {staying : ℕ → Bool} {number : ℕ → ℕ} {x : ℕ} {o : Option ℕ} → RightHolder staying number x o
+    → (o ≡ none) ↔ ((z : ℕ) → T (staying z) → number z ≤ x → ⊥)
+none-exactly (holds {h = h} r) = (λ e. none-some e refl, λ f. absurd (f h (r .stays) (r .below)))
 none-exactly (nobody f) = (λ e. f, λ g. refl)
 
--- a seat exactly if it is the holder
-pub some-exactly : {N x : ℕ} {G : Lots} {o : Option ℕ} → Laws N G → RightHolder (G .member) (G .number) x o
-    → (h : ℕ) → (o ≡ some h) ↔ Holds (G .member) (G .number) x h
-some-exactly {x = x} {G = G} laws (holds {h = g} r) h = (
-  (λ e. subst (Holds (G .member) (G .number) x) (some-inj e) r),
-  (λ q. ap some (laws .differ g h (r .seated) (q .seated)
-      (omega (arith, r .largest h (q .seated) (q .below), q .largest g (r .seated) (r .below))))),
+-- a seat exactly if it is the holder; the numbers of staying lots differ
+pub some-exactly : {staying : ℕ → Bool} {number : ℕ → ℕ} {x : ℕ} {o : Option ℕ}
+    → ((y z : ℕ) → T (staying y) → T (staying z) → number y ≡ number z → y ≡ z) → RightHolder staying number x o
+    → (h : ℕ) → (o ≡ some h) ↔ Holds staying number x h
+some-exactly {staying} {number} {x} differ (holds {h = g} r) h = (
+  (λ e. subst (Holds staying number x) (some-inj e) r),
+  (λ q. ap some (differ g h (r .stays) (q .stays)
+      (omega (arith, r .largest h (q .stays) (q .below), q .largest g (r .stays) (r .below))))),
 )
-some-exactly laws (nobody f) h = (λ e. none-some refl e, λ q. absurd (f h (q .seated) (q .below)))
+some-exactly differ (nobody f) h = (λ e. none-some refl e, λ q. absurd (f h (q .stays) (q .below)))
 
 -- where the walk ends x is found, or there is no step more at level 0
 data End (number : ℕ → ℕ) (L : Links) (x e : ℕ) : Type 0 where
@@ -59,6 +62,9 @@ lt-upto {number} {x} {a} (toL l) (uptoL u) = toL {x = number a} {y = x} (omega a
 lt-upto {number} {x} {a} (toR l) (uptoR u) = toR {x = number a} {y = x} (omega arith)
 
 module _ {N W : ℕ} {G : Lots} {L : Links} (laws : Laws N G) (g : IsGraph N W G L) (one : OneComponent G) where
+  o : Ordered N W (G .member) (G .number) L
+  o = graph-ordered laws g
+
   listed : (e z : ℕ) → T (G .member e) → T (G .member z) → InList W G 0 e z
   listed e z m n = record { member = n; same = one e z m n; bits = omega arith }
 
@@ -79,38 +85,93 @@ module _ {N W : ℕ} {G : Lots} {L : Links} (laws : Laws N G) (g : IsGraph N W G
       by (inl r) = upto-not (rw r at u) (rw q at w)
       by (inr t) = lt-asym (lt-upto t u) (rw q at w)
 
-  right-holder : {x e h : ℕ} {a : Found} → T (G .member e) → End (G .number) L x e → Held (G .number) L x e h a
-      → RightHolder (G .member) (G .number) x (a .holder)
-  right-holder {x} {e} m c (is-end l) =
-      holds (record { seated = m; below = l; largest = λ z n q. by z n q (decLt (G .number e) (G .number z)) })
+  -- so the end of the walk is not below a lot that is not above x
+  end-most : {x e : ℕ} → T (G .member e) → End (G .number) L x e → (z : ℕ) → T (G .member z) → G .number z ≤ x → G .number z ≤ G .number e
+  end-most {x} {e} m c z n q = by (decLt (G .number e) (G .number z))
     where
-      by : (z : ℕ) → T (G .member z) → G .number z ≤ x → Dec (G .number e < G .number z) → G .number z ≤ G .number e
-      by z n q (yes t) = absurd (clear m c n (toR t) (uptoR q))
-      by z n q (no t) = omega arith
-  right-holder {x} {e} m c (is-none l f) = nobody (λ z n q.
-      let t : G .number z < G .number e = omega arith in
-      nobody-there (link-nearest laws g {k = 0} m (omega arith) f) z (listed e z m n) (toL t))
-  right-holder {x} {e} m c (is-left {y = y} l f) = holds (record {
-    seated = nearest-list near .member;
-    below = under (decLe x (G .number y));
-    largest = λ z n q. let t : G .number z < G .number e = omega arith in by z (nearest-first near z (listed e z m n) (toL t));
-  })
-    where
-      near : Nearest W G 0 e left (some y)
-      near = link-nearest laws g m (omega arith) f
+      by : Dec (G .number e < G .number z) → G .number z ≤ G .number e
+      by (yes t) = absurd (clear m c n (toR t) (uptoR q))
+      by (no t) = omega arith
 
-      under : Dec (x ≤ G .number y) → G .number y ≤ x
-      under (yes q) = absurd (clear m c (nearest-list near .member) (nearest-side near) (uptoL q))
-      under (no q) = omega arith
+  module _ (staying : ℕ → Bool) (within : (z : ℕ) → T (staying z) → T (G .member z)) (x : ℕ) where
+    -- all staying lots that are not above x lie left of s
+    abbrev AllLeft : ℕ → Type 0
+    AllLeft s = (z : ℕ) → T (staying z) → G .number z ≤ x → G .number z < G .number s
 
-      by : (z : ℕ) → (z ≡ y) ⊎ Lt (G .number) left y z → G .number z ≤ G .number y
-      by z (inl r) = rw r (omega arith)
-      by z (inr (toL t)) = omega arith
+    -- the lot h if it may be printed
+    abbrev printed : ℕ → Option ℕ
+    printed h = cond (printable staying (G .number) x h) (some h) none
 
-  -- the answer of find is the right one
-  pub find-holder : (x s : ℕ) → T (G .member s) → RightHolder (G .member) (G .number) x (find (G .number) L x N W s .holder)
-  unfolding find
-  find-holder x s m =
-      let o = graph-ordered laws g in
-      let r = path-search {x = x} o m in
-      right-holder (search-seated o m (omega arith) r) (search-end r) (at-held (G .number) L x _ _)
+    not-printable : {s : ℕ} → staying s ≡ false → printable staying (G .number) x s ≡ false
+    unfolding printable
+    not-printable e = rw e
+
+    -- of such a lot the left link: each of them is it, or lies left of it
+    link-next : {s y : ℕ} → T (G .member s) → AllLeft s → L s 0 left ≡ some y → (z : ℕ) → T (staying z) → G .number z ≤ x
+        → (z ≡ y) ⊎ Lt (G .number) left y z
+    link-next {s} m all e z n q = nearest-first (link-nearest laws g m (omega arith) e) z (listed s z m (within z n)) (toL (all z n q))
+
+    -- from such a lot, if its left link is not above x, the left steps lead to the right answer
+    left-holder : (s : ℕ) {o : Option ℕ} {p : List ℕ} → T (G .member s) → AllLeft s → ((y : ℕ) → L s 0 left ≡ some y → G .number y ≤ x)
+        → printable staying (G .number) x s ≡ false → L s 0 left ≡ o → Leftward staying L o p
+        → RightHolder staying (G .number) x (printed (lastOf s p))
+    left-holder s m all under t e nowhere = rw t (nobody (λ z n q.
+        nobody-there (link-nearest laws g {k = 0} m (omega arith) e) z (listed s z m (within z n)) (toL (all z n q))))
+    left-holder s m all under t e (arrives {y} q) = rw (is-printable staying (G .number) x y q (under y e)) (holds (record {
+      stays = true-T q;
+      below = under y e;
+      largest = λ z n l. by z (link-next m all e z n l);
+    }))
+      where
+        by : (z : ℕ) → (z ≡ y) ⊎ Lt (G .number) left y z → G .number z ≤ G .number y
+        by z (inl r) = rw r (omega arith)
+        by z (inr (toL r)) = omega arith
+    left-holder s m all under t e (passes {y} q r) =
+        left-holder y n (λ z k l. by z k (link-next m all e z k l)) (λ z f. below z (nearest-side (link-nearest laws g n (omega arith) f)))
+        (not-printable q) refl r
+      where
+        n : T (G .member y)
+        n = nearest-list (link-nearest laws g m (omega arith) e) .member
+
+        by : (z : ℕ) → T (staying z) → (z ≡ y) ⊎ Lt (G .number) left y z → G .number z < G .number y
+        by z k (inl w) = false-T q (rw w at k)
+        by z k (inr (toL w)) = w
+
+        below : (z : ℕ) → Lt (G .number) left y z → G .number z ≤ x
+        below z (toL w) = omega (arith, under y e)
+
+    -- from the end of the walk
+    end-holder : {e : ℕ} → T (G .member e) → End (G .number) L x e → {q : List ℕ} → leftSteps staying (G .number) L x N e ≡ q
+        → RightHolder staying (G .number) x (printed (lastOf e q))
+    end-holder {e} m c {q} s = by (true-or-false (printable staying (G .number) x e))
+      where
+        all : printable staying (G .number) x e ≡ false → AllLeft e
+        all t z n l = apart (ℕ-discrete (G .number z) (G .number e))
+          where
+            apart : Dec (G .number z ≡ G .number e) → G .number z < G .number e
+            apart (yes w) =
+                let u : T (staying e) = rw (← laws .differ z e (within z n) m w) n in
+                true-false (is-printable staying (G .number) x e (T-true u) (rw (← w) l)) t
+            apart (no w) = omega (arith, end-most m c z (within z n) l)
+
+        under : (y : ℕ) → L e 0 left ≡ some y → G .number y ≤ x
+        under y f = above (decLe x (G .number y))
+          where
+            near : Nearest W G 0 e left (some y)
+            near = link-nearest laws g m (omega arith) f
+
+            above : Dec (x ≤ G .number y) → G .number y ≤ x
+            above (yes w) = absurd (clear m c (nearest-list near .member) (nearest-side near) (uptoL w))
+            above (no w) = omega arith
+
+        by : (printable staying (G .number) x e ≡ true) ⊎ (printable staying (G .number) x e ≡ false)
+            → RightHolder staying (G .number) x (printed (lastOf e q))
+        by (inl t) = let (u, v) = printable-is staying (G .number) x e t in
+            rw (sym s ∙ stands o staying x e m t) (rw t (holds (record { stays = true-T u; below = v; largest = λ z n l. end-most m c z (within z n) l })))
+        by (inr t) = left-holder e m (all t) under t refl (subst (Leftward staying L (L e 0 left)) s (goes-left o staying x e m t))
+
+    -- the answer of find is the right one
+    pub find-holder : (s : ℕ) → T (G .member s) → RightHolder staying (G .number) x (find staying (G .number) L x N W s .holder)
+    find-holder s m =
+        let r = path-search {x = x} o m in
+        rw (find-by staying (G .number) L x N W s refl refl) (end-holder (search-seated o m (omega arith) r) (search-end r) refl)

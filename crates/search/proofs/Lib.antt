@@ -4,6 +4,7 @@ pub mod Ordered
 pub mod Step
 pub mod Search
 pub mod Hops
+pub mod Left
 pub mod Holder
 pub mod Check
 pub mod Ahead

@@ -18,7 +18,8 @@ use Rattle.graph.proofs.SkipGraph.{skip-graph}
 use Rattle.search.specs.Check.{check}
 use Rattle.search.specs.inner.LinkCheck.{startsAt, constraintsOk, linksOk}
 use Rattle.search.proofs.Count.{test-eq, count-one}
-use Rattle.search.proofs.Ordered.{OneComponent, sorted-ordered, rank, rank-less}
+use Rattle.search.specs.inner.Ordered.{rank}
+use Rattle.search.proofs.Ordered.{OneComponent, sorted-ordered, rank-less}
 use Rattle.search.proofs.Check.{check-graph}
 use Rattle.search.proofs.LinkTests.{Backs, start-test}
 use Rattle.search.proofs.LinkCheck.{Sided, walk-back, constraints-backs, constraints-checked}

@@ -1,5 +1,5 @@
--- What the search needs of a record, and every sound record has: links that keep to their side. The rank of a lot, which each link lowers.
--- Assumes nothing.
+-- What the search needs of a record, and every sound record has: links that keep to their side. Each link lowers the rank of a lot. Assumes
+-- nothing.
 use Prim.Native.Nat.{ℕ, _≤_, _<_}
 use mathlib.Core.Path.{_≡_, refl}
 use mathlib.Core.Bool.{Bool, _&&_}
@@ -12,7 +12,7 @@ use Rattle.graph.proofs.Order.{lt-trans, lt-irr, on-lt, lt-on}
 use Rattle.graph.proofs.Laws.{twoSeated, laws-two}
 use Rattle.graph.proofs.Walk.{Sorted, constraints-sorted}
 use Rattle.graph.proofs.SkipGraph.{graph-constraints}
-use Rattle.search.specs.inner.Ordered.{Ordered}
+use Rattle.search.specs.inner.Ordered.{Ordered, rank}
 use Rattle.base.specs.Loops.{count}
 use Rattle.base.proofs.Count.{count-le}
 use Rattle.search.proofs.Count.{count-less}
@@ -30,10 +30,6 @@ ordered-two W = graph-ordered laws-two (record { link = λ x k d m l. refl })
 -- all members are in one component, as document 01 has it
 abbrev pub OneComponent : Lots → Type 0
 OneComponent G = (x y : ℕ) → T (G .member x) → T (G .member y) → G .component x ≡ G .component y
-
--- how many seated lots lie on side d of x
-unfoldable pub rank : (N : ℕ) (seated : ℕ → Bool) (number : ℕ → ℕ) (d : Side) (x : ℕ) → ℕ
-rank N seated number d x = count N (λ z. seated z && onSide d (number x) (number z))
 
 pub rank-bound : (N : ℕ) (seated : ℕ → Bool) (number : ℕ → ℕ) (d : Side) (x : ℕ) → rank N seated number d x ≤ N
 unfolding rank

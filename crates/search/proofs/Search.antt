@@ -11,11 +11,11 @@ use lib.ListN.{length}
 use Rattle.graph.specs.Side.{Side}
 use Rattle.graph.specs.Graph.{Links}
 use Rattle.graph.specs.inner.Order.{Lt, toL, toR}
-use Rattle.search.specs.Walk.{Step, stop, move, drop, lastOf, stepAt, walk, path, holderAt, find}
+use Rattle.search.specs.Walk.{Step, stop, move, drop, stepAt, walk, path}
 use Rattle.search.specs.inner.Search.{Search, found, moves, drops, ends, gap}
 use Rattle.base.proofs.Count.{count-le}
-use Rattle.search.specs.inner.Ordered.{Ordered}
-use Rattle.search.proofs.Ordered.{rank, rank-less, rank-most}
+use Rattle.search.specs.inner.Ordered.{Ordered, rank}
+use Rattle.search.proofs.Ordered.{rank-less, rank-most}
 use Rattle.search.proofs.Step.{Upto, uptoL, uptoR, upto-some, upto-side, Stepped, is-move, at-stepped}
 
 module _ (number : ℕ → ℕ) (L : Links) (x : ℕ) where
@@ -93,12 +93,6 @@ module _ {N W : ℕ} {seated : ℕ → Bool} {number : ℕ → ℕ} {L : Links} 
 
   pub search-path : {s : ℕ} {p : List ℕ} → T (seated s) → Search number L x s W p → path number L x N W s ≡ p
   search-path m r = search-unique (path-search m) r
-
-  -- what a search finds is what `find` of specs/ answers
-  pub search-find : {s : ℕ} {p : List ℕ} → T (seated s) → Search number L x s W p
-      → find number L x N W s ≡ holderAt number L x (lastOf s p) (length p)
-  unfolding find
-  search-find m r = rw (search-path m r)
 
 -- a move goes nearer to x
 pub move-nearer : {N W : ℕ} {seated : ℕ → Bool} {number : ℕ → ℕ} {L : Links} → Ordered N W seated number L → (x s : ℕ) {k y : ℕ}

@@ -1,19 +1,18 @@
--- One step of the walk by comparisons, as code makes it, and the last one, to the holder: what `stepAt` and `holderAt` of specs/ are in each
--- case. Assumes nothing.
-use Prim.Native.Nat.{ℕ, suc, _≤_, _<_}
+-- One step of the walk by comparisons, as code makes it: what `stepAt` of specs/ is in each case. Assumes nothing.
+use Prim.Native.Nat.{ℕ, _≤_, _<_}
 use mathlib.Core.Path.{_≡_, refl, sym, ap, _∙_, subst}
 use mathlib.Core.Logic.{_⊎_, inl, inr}
 use mathlib.Core.Option.{Option, none, some}
 use mathlib.Core.Bool.{Bool, true, false, cond}
 use native.Mathlib.Omega.{arith}
 use native.Mathlib.Decide.{ℕ-discrete, decLt}
-use borrow.Author.Tests.{eq-eqb, ne-eqb, le-leb, lt-leb}
+use borrow.Author.Tests.{eq-eqb, ne-eqb}
 use Rattle.graph.specs.Side.{Side, left, right, onSide}
 use Rattle.graph.specs.Graph.{Links}
 use Rattle.base.proofs.Tests.{T-true, not-T-false}
 use Rattle.graph.specs.inner.Order.{Lt, toL, toR}
 use Rattle.graph.proofs.Order.{lt-irr, lt-some, on-lt, lt-on, side-of}
-use Rattle.search.specs.Walk.{Step, stop, move, drop, along, stepAt, Found, holderAt}
+use Rattle.search.specs.Walk.{Step, stop, move, drop, along, stepAt}
 
 -- number b lies on side d of number a
 abbrev pub Beyond : Side → ℕ → ℕ → Type 0
@@ -110,29 +109,3 @@ module _ {number : ℕ → ℕ} {L : Links} {x s k : ℕ} where
   -- and no other
   pub at-stepped : {t : Step} → stepAt number L x s k ≡ t → Stepped number L x s k t
   at-stepped e = let (t, r) = stepped number L x s k in subst (Stepped number L x s k) (sym (stepped-at r) ∙ e) r
-
--- what is found from the end e of the walk, after h hops
-pub data Held (number : ℕ → ℕ) (L : Links) (x e h : ℕ) : Found → Type 0 where
-  is-end : number e ≤ x → Held number L x e h (record { holder = some e; hops = h })
-  is-left : {y : ℕ} → x < number e → L e 0 left ≡ some y → Held number L x e h (record { holder = some y; hops = suc h })
-  is-none : x < number e → L e 0 left ≡ none → Held number L x e h (record { holder = none; hops = h })
-
-pub held-at : {number : ℕ → ℕ} {L : Links} {x e h : ℕ} {r : Found} → Held number L x e h r → holderAt number L x e h ≡ r
-unfolding holderAt
-held-at {number} {x = x} {e = e} (is-end l) = rw (le-leb (number e) x l)
-held-at {number} {x = x} {e = e} (is-left l f) = rw (lt-leb (number e) x l, f)
-held-at {number} {x = x} {e = e} (is-none l f) = rw (lt-leb (number e) x l, f)
-
-pub at-held : (number : ℕ → ℕ) (L : Links) (x e h : ℕ) → Held number L x e h (holderAt number L x e h)
-at-held number L x e h = by (decLt x (number e))
-  where
-    put : {r : Found} → Held number L x e h r → Held number L x e h (holderAt number L x e h)
-    put r = rw (held-at r) r
-
-    linked : x < number e → (o : Option ℕ) → L e 0 left ≡ o → Held number L x e h (holderAt number L x e h)
-    linked l none f = put (is-none l f)
-    linked l (some y) f = put (is-left l f)
-
-    by : Dec (x < number e) → Held number L x e h (holderAt number L x e h)
-    by (yes l) = linked l (L e 0 left) refl
-    by (no l) = put (is-end (omega arith))

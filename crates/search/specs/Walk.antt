@@ -1,9 +1,9 @@
--- The search of document 000 (section 3.1) from the top level, with document 01's comparisons ("Find"): the path as a list of lots,
--- the holder and the hops. Assumes nothing.
+-- The search of document 000 (section 3.1) from the top level, with document 01's comparisons ("Find"), and after it the left steps to a
+-- staying holder (document 02, #104): the lots that are stepped onto as lists, the holder and the hops. Assumes nothing.
 use Prim.Native.Nat.{ℕ, zero, suc, _+_}
 use mathlib.Core.Option.{Option, none, some}
-use mathlib.Core.List.{List, [], _∷_}
-use mathlib.Core.Bool.{cond}
+use mathlib.Core.List.{List, [], _∷_, _++_}
+use mathlib.Core.Bool.{Bool, cond, _&&_}
 use lib.Dec.{eqb, leb}
 use lib.ListN.{length}
 use Rattle.graph.specs.Side.{Side, left, onSide, sideOf}
@@ -45,14 +45,30 @@ module _ (number : ℕ → ℕ) (L : Links) (x : ℕ) where
   unfoldable pub path : (N W s : ℕ) → List ℕ
   path N W s = walk (N + W + 1) s W
 
-  -- a last step to the left, one hop more, or none
-  abbrev pub leftStep : Option ℕ → ℕ → Found
-  leftStep none h = record { holder = none; hops = h }
-  leftStep (some y) h = record { holder = some y; hops = suc h }
+-- Where the walk leads (document 01, "Find"; document 02, #104): to the holder, and on to one that stays.
+-- Lot s may be printed on a label for x: it stays, and its number is not above x
+unfoldable pub printable : (staying : ℕ → Bool) (number : ℕ → ℕ) (x s : ℕ) → Bool
+printable staying number x s = staying s && leb (number s) x
 
-  -- the end is the holder if it is not above x, else its level-0 left link
-  unfoldable pub holderAt : (e h : ℕ) → Found
-  holderAt e h = cond (leb (number e) x) (record { holder = some e; hops = h }) (leftStep (L e 0 left) h)
+-- onto lot o, if there is one, and on along level-0 left links to the first staying lot: the lots that are stepped onto, at most f
+unfoldable pub toStaying : (staying : ℕ → Bool) → Links → (f : ℕ) → Option ℕ → List ℕ
+toStaying staying L zero o = []
+toStaying staying L (suc f) none = []
+toStaying staying L (suc f) (some y) = y ∷ cond (staying y) [] (toStaying staying L f (L y 0 left))
 
+module _ (staying : ℕ → Bool) (number : ℕ → ℕ) (L : Links) (x : ℕ) where
+  -- the left steps from the end e of the walk: none if e is not above x and stays; else to its level-0 left link, which is the holder if e is
+  -- above x, and from a leaving holder on to the first staying lot
+  unfoldable pub leftSteps : (N e : ℕ) → List ℕ
+  leftSteps N e = cond (printable staying number x e) [] (toStaying staying L N (L e 0 left))
+
+  -- all lots that are stepped onto: those that the walk moves to, then the left steps
+  unfoldable pub route : (N W s : ℕ) → List ℕ
+  route N W s = let p = path number L x N W s in p ++ leftSteps N (lastOf s p)
+
+  -- the lot where that ends is the holder if it may be printed, else there is none; each step onto a lot is a hop
   unfoldable pub find : (N W s : ℕ) → Found
-  find N W s = let p = path N W s in holderAt (lastOf s p) (length p)
+  find N W s =
+      let p = route N W s in
+      let h = lastOf s p in
+      record { holder = cond (printable staying number x h) (some h) none; hops = length p }

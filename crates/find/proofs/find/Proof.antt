@@ -7,13 +7,10 @@ use native.Mathlib.Omega.{arith}
 use borrow.Author.Needs.{needs}
 use lib.Dec.{T}
 use borrow.Author.Tests.{ne-eqb}
-use Rattle.graph.specs.Vector.{width}
 use Rattle.protocol.specs.State.{seated}
-use Rattle.record.specs.Layout.{seats}
-use Rattle.record.specs.Meaning.{seatsIn, meaning}
-use Rattle.search.specs.Walk.{find}
+use Rattle.record.specs.Meaning.{seatsIn}
 use Rattle.find.specs.declared.Found.the-variants.{Refused}
-use Rattle.find.specs.Find.{searched, findRefusal, findIn}
+use Rattle.find.specs.Find.{searched, scanOf, findRefusal, findIn}
 use Rattle.find.specs.Answer.{foundNumbers}
 use Rattle.find.specs.inner.Steps.{Fit}
 use Rattle.find.proofs.Fits.{sound-fit}
@@ -25,7 +22,7 @@ refusing : (l : List ℕ) (s x n : ℕ) → n ≡ findRefusal l s → n ≢ 0 �
 unfolding findIn
 refusing l s x n e h = rw (← e, ne-eqb n 0 h)
 
-accepting : (l : List ℕ) (s x : ℕ) → findRefusal l s ≡ 0 → searched (find (seatsIn l .number) (meaning l .link) x seats width s) ≡ findIn l s x
+accepting : (l : List ℕ) (s x : ℕ) → findRefusal l s ≡ 0 → searched (scanOf l s x) ≡ findIn l s x
 unfolding findIn
 accepting l s x e = rw e
 

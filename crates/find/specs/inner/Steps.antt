@@ -1,17 +1,18 @@
--- What the inner functions of find promise: a step of the walk, and the walk from where it stands. Assumes nothing.
+-- What the inner functions of find promise: a step of the walk, the walk from where it stands, and the left steps. Assumes nothing.
 use Prim.Native.Nat.{ℕ, _+_, _*_, _^_, _<_}
 use mathlib.Core.Path.{_≡_}
 use mathlib.Core.Bool.{cond}
 use mathlib.Core.List.{List}
 use lib.Dec.{T, ltb}
 use lib.ListN.{length}
+use Rattle.graph.specs.Side.{left}
 use Rattle.graph.specs.Vector.{width}
-use Rattle.protocol.specs.State.{seated}
+use Rattle.protocol.specs.State.{seated, stays}
 use Rattle.record.specs.Layout.{seats, levels, size}
 use Rattle.record.specs.Meaning.{seatsIn, meaning}
-use Rattle.search.specs.Walk.{Step, move, drop, lastOf}
-use Rattle.search.specs.inner.Ordered.{Ordered}
-use Rattle.search.specs.inner.Search.{Search, gap}
+use Rattle.search.specs.Walk.{Step, move, drop, lastOf, leftSteps}
+use Rattle.search.specs.inner.Ordered.{Ordered, rank}
+use Rattle.search.specs.inner.Search.{Search, gap, Leftward}
 use Rattle.find.specs.declared.Walk.{Walk}
 
 -- a seat to move to, or above the last one a drop
@@ -37,9 +38,33 @@ pub record Ready (l : List ℕ) (x : ℕ) (w : Walk) : Type 0 where
   pub level : w .level < levels
   pub room : w .hops + far l x w < 2 ^ 64
 
--- the walk from w ends at r, and its hops are the moves made
+-- from w to r by the lots of a path, each one hop
+pub record Went (path : List ℕ) (w r : Walk) : Type 0 where
+  pub seat : r .seat ≡ lastOf (w .seat) path
+  pub hops : r .hops ≡ w .hops + length path
+
+-- the walk from w ends at r
 pub record Walked (l : List ℕ) (x : ℕ) (w r : Walk) : Type 0 where
   pub path : List ℕ
   pub search : Search (seatsIn l .number) (meaning l .link) x (w .seat) (w .level) path
-  pub seat : r .seat ≡ lastOf (w .seat) path
-  pub hops : r .hops ≡ w .hops + length path
+  pub went : Went path w r
+
+-- how many seated lots lie left of where the walk stands
+abbrev pub leftOf : List ℕ → Walk → ℕ
+leftOf l w = rank seats (seated (seatsIn l)) (seatsIn l .number) left (w .seat)
+
+-- the walk can take left steps
+pub record ReadyLeft (l : List ℕ) (w : Walk) : Type 0 where
+  pub fit : Fit l
+  pub lot : T (seated (seatsIn l) (w .seat))
+  pub room : w .hops + leftOf l w < 2 ^ 64
+
+-- left steps from w to the first staying lot, or as far as they lead, end at r
+pub record WentLeft (l : List ℕ) (w r : Walk) : Type 0 where
+  pub path : List ℕ
+  pub leftward : Leftward (stays (seatsIn l)) (meaning l .link) (meaning l .link (w .seat) 0 left) path
+  pub went : Went path w r
+
+-- where the way of a scan for x ends
+abbrev pub toHolder : List ℕ → (x : ℕ) → Walk → List ℕ
+toHolder l x w = leftSteps (stays (seatsIn l)) (seatsIn l .number) (meaning l .link) x seats (w .seat)
