@@ -12,7 +12,7 @@ use Rattle.graph.specs.Vector.{width}
 use Rattle.base.proofs.Tests.{and-fst, and-snd}
 use Rattle.protocol.specs.Message.{Msg, among}
 use Rattle.protocol.specs.Numbering.{somePending}
-use Rattle.protocol.specs.State.{open-phase, clearing, isClearing, Seats, Meaning, seated}
+use Rattle.protocol.specs.State.{open-phase, clearing, isClearing, Seats, Meaning, seated, stays}
 use Rattle.protocol.specs.Refusals.{noSuchSeat, emptySeat, unsettled}
 use Rattle.protocol.specs.Calls.{Call, join, leave, deliver, turn, Outcome}
 use Rattle.protocol.specs.Sound.{Sound, numberBits}
@@ -146,7 +146,7 @@ module _ (l : List ℕ) (e : openRefusal l ≡ 0) (cs : List Call) (t : T (fits 
         (ap (λ (a : CountAnswer). a .pending) counts-seen) (ap (λ (a : CountAnswer). a .phase) counts-seen)
 
     pub find-seen : (s x : ℕ) → T (seated (v .seats) s)
-        → findIn (bytesRun l cs .now) s x ≡ searched (find (v .seats .number) (v .link) x seats width s)
+        → findIn (bytesRun l cs .now) s x ≡ searched (find (stays (v .seats)) (v .seats .number) (v .link) x seats width s)
     find-seen s x m = at (λ b. findIn b s x) ∙ find-bytes (meant v) h (sym (at settled) ∙ settled-seen) s x m
 
     pub scan-accepted : (s : ℕ) → T (seated (v .seats) s) → findRefusal (bytesRun l cs .now) s ≡ 0

@@ -9,4 +9,5 @@ pub mod OneByte
 pub mod SoundExamples
 pub mod Refusals
 pub mod Scans
+pub mod Leavers
 pub mod Writings

@@ -9,7 +9,7 @@ use Rattle.protocol.specs.Message.{name, ifZero, ifBit, named, sameMsg, among}
 use Rattle.protocol.specs.Numbering.{place}
 use Rattle.protocol.specs.Rules.{toLink, setting, meeting, probing, pulling, parting, passing, seeking, effect}
 use Rattle.protocol.specs.State.{nobody, isPending}
-use Rattle.protocol.specs.Calls.{join, deliver, rows, refusal, seatsAfter, sends, takes, linksAfter, unlessRefused}
+use Rattle.protocol.specs.Calls.{join, leave, deliver, rows, refusal, seatsAfter, sends, takes, linksAfter, unlessRefused}
 use Rattle.protocol.specs.Refusals.{first}
 use Rattle.protocol.specs.Page.{at, isTaken}
 use Rattle.protocol.specs.pages.Turn.{afterTurn, each, farewell, farewells, turnSends, turnLinks}
@@ -17,7 +17,7 @@ use Rattle.protocol.specs.pages.Deliver.{rule, deliverySends, applied, delivery
 use Rattle.protocol.specs.Freeing.{unlinked}
 use Rattle.record.specs.Meaning.{bytesOf}
 use Rattle.record.specs.Reading.{openRefusal}
-use Rattle.search.specs.Walk.{along, stepAt, walk, path, holderAt, find}
+use Rattle.search.specs.Walk.{along, stepAt, walk, path, printable, toStaying, leftSteps, route, find}
 use Rattle.runs.specs.Run.{lotOf}
 use Rattle.cases.specs.Lists.{qCalls, iCalls, jCalls, kCalls, lCalls, accepted}
 use Rattle.cases.specs.Cases.{Cases}
@@ -28,7 +28,7 @@ use Rattle.cases.proofs.Sole.{sole-gone}
 
 pub cases : (l : List ℕ) → openRefusal l ≡ 0 → Cases l
 unfolding qCalls iCalls jCalls kCalls lCalls fits accepted seen look least without viewRefusal viewAfter viewCall
-    find path walk stepAt along holderAt lotOf count nobody refusal rows first any place isPending unlessRefused
+    find route leftSteps toStaying printable path walk stepAt along lotOf count nobody refusal rows first any place isPending unlessRefused
     seatsAfter afterTurn at sends turnSends deliverySends farewells farewell each takes isTaken
     linksAfter deliveryLinks turnLinks applied unlinked rule effect setting meeting probing pulling parting passing seeking toLink
     onSide sideOf bit equalBits shared named ifZero ifBit sameMsg among
@@ -48,6 +48,7 @@ cases l o = record {
   i-done = lot100-seen l o (iCalls ++ deliver (name 1 0 1 0 0) ∷ []) tt 1 _ refl tt refl refl refl;
   j = lot100-seen l o jCalls tt 1 _ refl tt refl refl refl;
   j-done = lot100-seen l o (jCalls ++ deliver (name 1 0 2 0 0) ∷ []) tt 1 _ refl tt refl refl refl;
+  k-scan = find-seen l o (qCalls ++ leave 1 ∷ []) tt refl refl 0 250 tt;
   k = settles-seen l o kCalls tt refl refl 2 refl tt refl;
   k-lots = (lot-seen l o kCalls tt 0 tt, lot-seen l o kCalls tt 1 tt, lot-seen l o kCalls tt 2 tt);
   k-level-0 = (links-seen l o kCalls tt 0 0 tt tt, links-seen l o kCalls tt 2 0 tt tt);

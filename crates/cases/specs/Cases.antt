@@ -1,4 +1,4 @@
--- Document 01's proved cases (a) to (l), one table: 64 seats, width 8, on the bytes, over the definitions that the contracts of the public
+-- Document 01's proved cases (a) to (l), with document 02's scan in (k), one table: 64 seats, width 8, on the bytes, over the definitions that the contracts of the public
 -- calls cite; the lists of calls are those of Lists.antt. Assumes nothing.
 use Prim.Native.Nat.{ℕ}
 use mathlib.Core.Path.{_≡_}
@@ -7,7 +7,7 @@ use mathlib.Core.List.{List, [], _∷_, _++_}
 use Rattle.graph.specs.Vector.{width, shared}
 use Rattle.protocol.specs.Message.{meet, probe, name}
 use Rattle.protocol.specs.State.{opened}
-use Rattle.protocol.specs.Calls.{join, deliver, Outcome}
+use Rattle.protocol.specs.Calls.{join, leave, deliver, Outcome}
 use Rattle.record.specs.Meaning.{bytesOf}
 use Rattle.record.specs.Reading.{LotAnswer, readLot}
 use Rattle.record.specs.Call.{called}
@@ -57,7 +57,9 @@ pub record Cases (l : List ℕ) : Type 0 where
   pub j : Lot100 l jCalls 1 (meet 0 2 0 ∷ [])
   -- passed to 200
   pub j-done : Lot100 l (jCalls ++ deliver (name 1 0 2 0 0) ∷ []) 1 (meet 1 2 0 ∷ [])
-  -- (k) Q, leave 1, turn, deliver all, turn:
+  -- (k) Q, leave 1, and #104's scan: F 0 250 holder 0, 2 hops
+  pub k-scan : findIn (bytesRun l (qCalls ++ leave 1 ∷ []) .now) 0 250 ≡ found (some 0) 2
+  -- then turn, deliver all, turn:
   pub k : Settles l kCalls 2
   pub k-lots : (readLot (bytesRun l kCalls .now) 0 ≡ lot 0 1 100 0)
       × (readLot (bytesRun l kCalls .now) 1 ≡ lot 8 0 0 0)

@@ -1,9 +1,10 @@
--- Document 01's proved cases over the definitions of the crates below, and examples: the table of refusals, soundness on small records, scans that wait, a
--- link written.
+-- Document 01's proved cases over the definitions of the crates below, and examples: the table of refusals, soundness on small records, scans that wait,
+-- scans past leaving lots, a link written.
 pub mod Lists
 pub mod Cases
 pub mod Small
 pub mod SoundExamples
 pub mod Refusals
 pub mod Scans
+pub mod Leavers
 pub mod Writings

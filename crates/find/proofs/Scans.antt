@@ -1,5 +1,6 @@
 -- Scans of every record, made by calls or not: on a settled one a search from any lot is accepted, on a sound one that is not settled it is
--- refused with 13, and every accepted search names the right holder. Assumes only that the elements of the list are bytes.
+-- refused with 13, and every accepted search names the right holder, by left steps that meet each lot once. Assumes only that the elements of
+-- the list are bytes.
 use Prim.Native.Nat.{ℕ, zero, suc, _≤_, _<_}
 use mathlib.Core.Path.{_≡_, refl, sym, ap, _∙_, subst}
 use mathlib.Core.Logic.{_≢_, inr}
@@ -21,13 +22,20 @@ use Rattle.record.specs.Layout.{seats}
 use Rattle.record.specs.Meaning.{seatsIn, meaning}
 use Rattle.record.proofs.Refused.{Passed}
 use Rattle.record.proofs.Sound.{sound-is}
+use Rattle.search.specs.Walk.{Found}
 use Rattle.search.specs.Right.{RightHolder}
+use Rattle.search.specs.inner.Ordered.{Ordered}
+use Rattle.search.proofs.Search.{path-search}
+use Rattle.search.proofs.Hops.{search-seated}
+use Rattle.search.proofs.Left.{left-once, left-ends, left-few, find-by}
 use Rattle.search.proofs.Check.{checked-holder}
 use Rattle.check_links.specs.Settled.{settled}
 use Rattle.check_links.proofs.Facts.{link-wrong-no}
 use Rattle.check_links.proofs.Settled.{Settled, settled-is, unsettled-exactly}
 use Rattle.check_links.proofs.Whole.{lots-laws}
 use Rattle.find.specs.Find.{FindAnswer, searched, scanOf, findRefusal, findIn}
+use Rattle.find.specs.Way.{end, LeftSteps}
+use Rattle.find.proofs.Fits.{sound-fit}
 use Rattle.find.proofs.Refused.{Accepted, accepted, waits, answers}
 
 -- all lots are members in phase open
@@ -70,24 +78,41 @@ find-refused l s x = by (findRefusal l s)
     by zero = refl
     by (suc n) = rw (ne-eqb (suc n) 0 (λ e. omega arith))
 
--- EVERY ACCEPTED SCAN: the holder is the staying lot with the largest number that is not above the scanned one, and none exactly if there is
--- none (`none-exactly`, search Holder)
-pub accepted-holder : (l : List ℕ) → AreBytes l → (s x : ℕ) → findIn l s x .refused ≡ 0
-    → RightHolder (stays (seatsIn l)) (seatsIn l .number) x (findIn l s x .holder)
-accepted-holder l b s x e = rw (ap (λ (f : FindAnswer). f .holder) (find-says l s x no-row)) held
-  where
-    no-row : findRefusal l s ≡ 0
-    no-row = sym (find-refused l s x) ∙ e
+-- EVERY ACCEPTED SCAN
+module _ (l : List ℕ) (b : AreBytes l) (s x : ℕ) (e : findIn l s x .refused ≡ 0) where
+  no-row : findRefusal l s ≡ 0
+  no-row = sym (find-refused l s x) ∙ e
 
-    A : Accepted l s
-    A = accepted l s no-row
+  A : Accepted l s
+  A = accepted l s no-row
 
-    S : Settled l
-    S = settled-is l (A .settles)
+  -- the holder is the staying lot with the largest number that is not above the scanned one, and none exactly if there is none (`none-exactly`,
+  -- search Holder)
+  pub accepted-holder : RightHolder (stays (seatsIn l)) (seatsIn l .number) x (findIn l s x .holder)
+  accepted-holder = rw (ap (λ (f : FindAnswer). f .holder) (find-says l s x no-row)) held
+    where
+      S : Settled l
+      S = settled-is l (A .settles)
 
-    all : member (seatsIn l) ≡ seated (seatsIn l)
-    all = seated-members (seatsIn l) (S .opens)
+      all : member (seatsIn l) ≡ seated (seatsIn l)
+      all = seated-members (seatsIn l) (S .opens)
 
-    held : RightHolder (stays (seatsIn l)) (seatsIn l .number) x (scanOf l s x .holder)
-    held = checked-holder (lots-laws l (S .passed .sized) b (S .passed .fine)) (λ y z u v. refl) width (meaning l .link) (S .right)
-        (stays (seatsIn l)) (λ z t. rw all (stays-seated (seatsIn l) z t)) x s (rw all (A .lot))
+      held : RightHolder (stays (seatsIn l)) (seatsIn l .number) x (scanOf l s x .holder)
+      held = checked-holder (lots-laws l (S .passed .sized) b (S .passed .fine)) (λ y z u v. refl) width (meaning l .link) (S .right)
+          (stays (seatsIn l)) (λ z t. rw all (stays-seated (seatsIn l) z t)) x s (rw all (A .lot))
+
+  -- the left steps visit each lot once and end, and there are at most the seated lots less one
+  pub accepted-steps : LeftSteps l s x
+  accepted-steps = record {
+    hops = ap (λ (f : FindAnswer). f .hops) (find-says l s x no-row)
+        ∙ ap (λ (f : Found). f .hops) (find-by (stays (seatsIn l)) (seatsIn l .number) (meaning l .link) x seats width s refl refl);
+    once = left-once o (stays (seatsIn l)) x (end l s x) m;
+    ends = left-ends o (stays (seatsIn l)) x (end l s x) m;
+    few = left-few o (stays (seatsIn l)) x (end l s x) m;
+  }
+    where
+      o : Ordered seats width (seated (seatsIn l)) (seatsIn l .number) (meaning l .link)
+      o = sound-fit l (A .passed .sized) b (A .passed .fine) .ordered
+
+      m : T (seated (seatsIn l) (end l s x))
+      m = search-seated o (A .lot) (omega arith) (path-search {x = x} o (A .lot))

@@ -43,7 +43,7 @@ module _ (M : Meaning) (h : Sound seats width M) where
   seats-bytes = sym (meaning-seats (bytesOf M)) ∙ ap (λ (X : Meaning). X .seats) (meaning-bytes h)
 
   pub find-bytes : settled (bytesOf M) ≡ true → (s x : ℕ) → T (seated (M .seats) s)
-      → findIn (bytesOf M) s x ≡ searched (find (M .seats .number) (M .link) x seats width s)
+      → findIn (bytesOf M) s x ≡ searched (find (stays (M .seats)) (M .seats .number) (M .link) x seats width s)
   find-bytes e s x m =
       find-says (bytesOf M) s x (settled-accepted (bytesOf M) (bytes-bytes M) e s (rw seats-bytes m))
       ∙ rw (seats-bytes, meaning-bytes h)
@@ -76,7 +76,7 @@ module _ (l : List ℕ) (e : openRefusal l ≡ 0) (is : List (Item Call)) (t : A
     settles o = is-settled-now D run-bytes q o
 
     pub found : R .phase ≡ open-phase → (s x : ℕ) → T (seated R s)
-        → (findIn here s x .refused ≡ 0) × RightHolder (seated R) (R .number) x (findIn here s x .holder)
+        → (findIn here s x .refused ≡ 0) × RightHolder (stays R) (R .number) x (findIn here s x .holder)
     found o s x m = right-holder D run-bytes q o s x m
 
     -- no link of a staying lot reads as a leaving lot's seat

@@ -1,5 +1,5 @@
 -- What follows from demand 3, and from it alone, of any standing: with nothing pending the links are the graph's, so the check says yes; in
--- phase open the record is settled, and a search from any lot is not refused and names the right holder. While messages are pending or the
+-- phase open the record is settled, and a search from any lot is not refused and names the right staying holder. While messages are pending or the
 -- phase is clearing it is refused with 13. Assumes only that its bytes are bytes.
 use Prim.Native.Nat.{ℕ, _≤_}
 use mathlib.Core.Path.{_≡_, sym, ap, _∙_, subst}
@@ -16,9 +16,10 @@ use Rattle.graph.specs.Vector.{width}
 use Rattle.graph.specs.Graph.{Laws, graph, IsGraph}
 use Rattle.protocol.specs.Numbering.{somePending}
 use Rattle.protocol.specs.Refusals.{unsettled}
-use Rattle.protocol.specs.State.{oneComponent, Phase, open-phase, clearing, isClearing, Seats, seated, member, members}
+use Rattle.protocol.specs.Rules.{isStaying}
+use Rattle.protocol.specs.State.{oneComponent, Phase, open-phase, clearing, isClearing, Seats, seated, stays, member, members}
 use Rattle.protocol.specs.Run.{Standing, membersOf, NothingPending}
-use Rattle.protocol.proofs.SoundFacts.{seated-below, seated-taken}
+use Rattle.protocol.proofs.SoundFacts.{stays-seated, seated-below, seated-taken}
 use Rattle.protocol.proofs.Reached.{member-seated, members-laws}
 use Rattle.record.specs.Layout.{seats}
 use Rattle.record.specs.Meaning.{seatsIn, meaning, linkOf, linkByte, phaseOf, phaseByte}
@@ -108,10 +109,13 @@ module _ {bound : List ℕ → ℕ} {s : Standing (List ℕ)} (D : Demand3 bound
       is-settled-now = is-settled l (same-phase D ∙ o) quiet (ap (λ (a : CheckAnswer). a .yes) check-yes)
 
       -- a search from any lot of the roster
-      pub right-holder : (x n : ℕ) → T (seated R x) → (findIn l x n .refused ≡ 0) × RightHolder (seated R) (R .number) n (findIn l x n .holder)
+      pub right-holder : (x n : ℕ) → T (seated R x) → (findIn l x n .refused ≡ 0) × RightHolder (stays R) (R .number) n (findIn l x n .holder)
       right-holder x n m =
-          let a = find-refused l x n ∙ settled-accepted l b is-settled-now x (lot-here x m) in
-          (a, holder-agrees (same-seated D b) (λ z t. same-seat D b z .number (seated-taken (seatsIn l) z t)) (accepted-holder l b x n a))
+          let a = find-refused l x n ∙ settled-accepted l b is-settled-now x (lot-here x m) in (
+            a,
+            holder-agrees (λ z. ap isStaying (same-seat D b z .state)) (λ z t. same-seat D b z .number (seated-taken (seatsIn l) z
+                (stays-seated (seatsIn l) z t))) (accepted-holder l b x n a),
+          )
 
   -- the same by the counts that a reader sees
   pub count-check : readCounts l .pending ≡ 0 → checkIn l ≡ record { refused = 0; yes = true }
