@@ -1,15 +1,15 @@
 -- The left steps, one after the other, as the code takes them. Assumes nothing.
 use Prim.Native.Nat.{ℕ, _+_, _^_, _≤_, _<_}
-use mathlib.Core.Path.{_≡_, refl}
+use mathlib.Core.Path.{_≡_}
 use mathlib.Core.Bool.{true, false}
 use mathlib.Core.Option.{none, some}
 use mathlib.Core.List.{List, [], _∷_}
 use native.Mathlib.Omega.{arith}
 use lib.Dec.{T}
+use lib.ListN.{getD}
 use Rattle.graph.specs.Side.{left}
-use Rattle.graph.specs.inner.Order.{Lt}
 use Rattle.protocol.specs.State.{seated, stays}
-use Rattle.record.specs.Layout.{seats}
+use Rattle.record.specs.Layout.{seats, linkAt}
 use Rattle.record.specs.Meaning.{seatsIn, meaning}
 use Rattle.search.specs.Walk.{printable}
 use Rattle.search.specs.inner.Search.{nowhere, arrives, passes}
@@ -17,18 +17,23 @@ use Rattle.search.proofs.Ordered.{rank-less}
 use Rattle.search.proofs.Left.{stands, left-steps, left-seated}
 use Rattle.find.specs.declared.Walk.{Walk}
 use Rattle.find.specs.inner.Steps.{Went, ReadyLeft, WentLeft, leftOf, toHolder}
+use Rattle.find.proofs.Read.{link-some, link-none}
 use Rattle.find.proofs.Steps.{here, onto}
 
-module _ (l : List ℕ) (w : Walk) (h : ReadyLeft l w) where
+module _ {l : List ℕ} {w : Walk} (h : ReadyLeft l w) where
   pub left-seat : w .seat < seats
   left-seat = h .fit .ordered .seat (w .seat) (h .lot)
 
-  -- there is no left link
-  pub none-left : meaning l .link (w .seat) 0 left ≡ none → WentLeft l w w
-  none-left e = record { path = []; leftward = rw e nowhere; went = here }
+  -- the left link as code reads it
+  module _ {y : ℕ} (e : y ≡ getD l (linkAt (w .seat) 0 left) 0) where
+    pub left-some : y < seats → meaning l .link (w .seat) 0 left ≡ some y
+    left-some = link-some l (w .seat) 0 left y left-seat (omega arith) e
+
+    pub none-left : seats ≤ y → WentLeft l w w
+    none-left q = record { path = []; leftward = rw (link-none l (w .seat) 0 left y left-seat (omega arith) e q) nowhere; went = here }
 
   -- a step left onto seat y
-  module _ (y : ℕ) (e : meaning l .link (w .seat) 0 left ≡ some y) where
+  module _ {y : ℕ} (e : meaning l .link (w .seat) 0 left ≡ some y) where
     abbrev stepped : Walk
     stepped = record { seat = y; level = 0; hops = w .hops + 1 }
 

@@ -2,10 +2,10 @@
 -- refused with 13, and every accepted search names the right holder, by left steps that meet each lot once. Assumes only that the elements of
 -- the list are bytes.
 use Prim.Native.Nat.{ℕ, zero, suc, _≤_, _<_}
-use mathlib.Core.Path.{_≡_, refl, sym, ap, _∙_, subst}
-use mathlib.Core.Logic.{_≢_, inr}
-use mathlib.Core.Option.{none}
-use mathlib.Core.Bool.{Bool, true, false, cond}
+use mathlib.Core.Path.{_≡_, refl, sym, ap, _∙_}
+use mathlib.Core.Logic.{_≢_, _↔_, inr}
+use mathlib.Core.Option.{none, some}
+use mathlib.Core.Bool.{true, false, cond}
 use mathlib.Core.List.{List}
 use native.Mathlib.Omega.{arith}
 use lib.Dec.{T, eqb}
@@ -23,11 +23,12 @@ use Rattle.record.specs.Meaning.{seatsIn, meaning}
 use Rattle.record.proofs.Refused.{Passed}
 use Rattle.record.proofs.Sound.{sound-is}
 use Rattle.search.specs.Walk.{Found}
-use Rattle.search.specs.Right.{RightHolder}
+use Rattle.search.specs.Right.{Holds, RightHolder}
 use Rattle.search.specs.inner.Ordered.{Ordered}
 use Rattle.search.proofs.Search.{path-search}
 use Rattle.search.proofs.Hops.{search-seated}
 use Rattle.search.proofs.Left.{left-once, left-ends, left-few, find-by}
+use Rattle.search.proofs.Holder.{none-exactly, some-exactly}
 use Rattle.search.proofs.Check.{checked-holder}
 use Rattle.check_links.specs.Settled.{settled}
 use Rattle.check_links.proofs.Facts.{link-wrong-no}
@@ -86,8 +87,10 @@ module _ (l : List ℕ) (b : AreBytes l) (s x : ℕ) (e : findIn l s x .refused 
   A : Accepted l s
   A = accepted l s no-row
 
-  -- the holder is the staying lot with the largest number that is not above the scanned one, and none exactly if there is none (`none-exactly`,
-  -- search Holder)
+  o : Ordered seats width (seated (seatsIn l)) (seatsIn l .number) (meaning l .link)
+  o = sound-fit l (A .passed .sized) b (A .passed .fine) .ordered
+
+  -- the holder is the staying lot with the largest number that is not above the scanned one
   pub accepted-holder : RightHolder (stays (seatsIn l)) (seatsIn l .number) x (findIn l s x .holder)
   accepted-holder = rw (ap (λ (f : FindAnswer). f .holder) (find-says l s x no-row)) held
     where
@@ -101,6 +104,15 @@ module _ (l : List ℕ) (b : AreBytes l) (s x : ℕ) (e : findIn l s x .refused 
       held = checked-holder (lots-laws l (S .passed .sized) b (S .passed .fine)) (λ y z u v. refl) width (meaning l .link) (S .right)
           (stays (seatsIn l)) (λ z t. rw all (stays-seated (seatsIn l) z t)) x s (rw all (A .lot))
 
+  -- none exactly if no staying lot has a number that is not above it
+  pub accepted-none : (findIn l s x .holder ≡ none) ↔ ((z : ℕ) → T (stays (seatsIn l) z) → seatsIn l .number z ≤ x → ⊥)
+  accepted-none = none-exactly accepted-holder
+
+  -- a seat exactly if it is the holder's
+  pub accepted-some : (h : ℕ) → (findIn l s x .holder ≡ some h) ↔ Holds (stays (seatsIn l)) (seatsIn l .number) x h
+  accepted-some = some-exactly
+      (λ y z t u. o .differ y z (stays-seated (seatsIn l) y t) (stays-seated (seatsIn l) z u)) accepted-holder
+
   -- the left steps visit each lot once and end, and there are at most the seated lots less one
   pub accepted-steps : LeftSteps l s x
   accepted-steps = record {
@@ -111,8 +123,5 @@ module _ (l : List ℕ) (b : AreBytes l) (s x : ℕ) (e : findIn l s x .refused 
     few = left-few o (stays (seatsIn l)) x (end l s x) m;
   }
     where
-      o : Ordered seats width (seated (seatsIn l)) (seatsIn l .number) (meaning l .link)
-      o = sound-fit l (A .passed .sized) b (A .passed .fine) .ordered
-
       m : T (seated (seatsIn l) (end l s x))
       m = search-seated o (A .lot) (omega arith) (path-search {x = x} o (A .lot))

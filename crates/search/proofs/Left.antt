@@ -1,7 +1,7 @@
 -- The left steps after the walk: on ordered links the fuel of specs/ is enough for them, each lies left of the one before it, so none comes
 -- twice, there are fewer than seated lots, and they end at a staying lot or one without a left link. Assumes ordered links.
 use Prim.Native.Nat.{ℕ, zero, suc, _+_, _≤_, _<_}
-use mathlib.Core.Path.{_≡_, refl, sym, _∙_, ap}
+use mathlib.Core.Path.{_≡_, refl}
 use mathlib.Core.Logic.{_⊎_, inl, inr}
 use mathlib.Core.Option.{Option, none, some}
 use mathlib.Core.List.{List, [], _∷_, _++_}
@@ -89,45 +89,49 @@ module _ {N W : ℕ} {seated : ℕ → Bool} {number : ℕ → ℕ} {L : Links} 
 -- the left steps of specs/ from a seated lot e
 module _ {N W : ℕ} {seated : ℕ → Bool} {number : ℕ → ℕ} {L : Links} (o : Ordered N W seated number L) (staying : ℕ → Bool) (x e : ℕ)
     (m : T (seated e)) where
+  abbrev lefts : List ℕ
+  lefts = leftSteps staying number L x N e
+
+  abbrev prints : Bool
+  prints = printable staying number x e
+
   -- none where e may be printed, else those to the first staying lot
-  pub stands : printable staying number x e ≡ true → leftSteps staying number L x N e ≡ []
+  pub stands : prints ≡ true → lefts ≡ []
   unfolding leftSteps
   stands t = rw t
 
-  pub goes-left : printable staying number x e ≡ false → Leftward staying L (L e 0 left) (leftSteps staying number L x N e)
+  pub goes-left : prints ≡ false → Leftward staying L (L e 0 left) lefts
   unfolding leftSteps
   goes-left t = rw t (fueled-left o N e (L e 0 left) m refl (omega (arith, rank-most o left e m, count-le N seated)))
 
-  pub left-steps : {p : List ℕ} → printable staying number x e ≡ false → Leftward staying L (L e 0 left) p → leftSteps staying number L x N e ≡ p
+  pub left-steps : {p : List ℕ} → prints ≡ false → Leftward staying L (L e 0 left) p → lefts ≡ p
   unfolding leftSteps
   left-steps t r = rw t (leftward-steps r N (omega (arith, leftward-few o m r, count-le N seated)))
 
-  toward : Toward seated number 0 left e (leftSteps staying number L x N e)
-  toward = by (true-or-false (printable staying number x e))
+  toward : Toward seated number 0 left e lefts
+  toward = by (true-or-false prints)
     where
-      by : (printable staying number x e ≡ true) ⊎ (printable staying number x e ≡ false)
-          → Toward seated number 0 left e (leftSteps staying number L x N e)
+      by : (prints ≡ true) ⊎ (prints ≡ false) → Toward seated number 0 left e lefts
       by (inl t) = rw (stands t) stay
       by (inr t) = left-toward o e m refl (goes-left t)
 
   -- THE LEFT STEPS VISIT EACH LOT ONCE
-  pub left-once : Once (e ∷ leftSteps staying number L x N e)
+  pub left-once : Once (e ∷ lefts)
   left-once = toward-once toward
 
   -- AND END: at a staying lot, or at one without a left link
-  pub left-ends : let h = lastOf e (leftSteps staying number L x N e) in (staying h ≡ true) ⊎ (L h 0 left ≡ none)
-  left-ends = by (true-or-false (printable staying number x e))
+  pub left-ends : let h = lastOf e lefts in (staying h ≡ true) ⊎ (L h 0 left ≡ none)
+  left-ends = by (true-or-false prints)
     where
-      by : (printable staying number x e ≡ true) ⊎ (printable staying number x e ≡ false)
-          → let h = lastOf e (leftSteps staying number L x N e) in (staying h ≡ true) ⊎ (L h 0 left ≡ none)
+      by : (prints ≡ true) ⊎ (prints ≡ false) → let h = lastOf e lefts in (staying h ≡ true) ⊎ (L h 0 left ≡ none)
       by (inl t) = rw (stands t) (inl (printable-is staying number x e t .0))
       by (inr t) = leftward-ends e refl (goes-left t)
 
-  pub left-seated : T (seated (lastOf e (leftSteps staying number L x N e)))
+  pub left-seated : T (seated (lastOf e lefts))
   left-seated = toward-last m toward
 
   -- AT MOST THE SEATED LOTS LESS ONE
-  pub left-few : length (leftSteps staying number L x N e) < count N seated
+  pub left-few : length lefts < count N seated
   left-few = omega (arith, toward-rank o toward, rank-most o left e m)
 
 -- the end of a path that goes on

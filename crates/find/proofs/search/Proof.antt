@@ -34,7 +34,7 @@ to-holder-requires c κs = ready c
 
 -- where the left steps end: a seat, and what the search answers
 ends : (c : tie.After-to-holder) → c .to-holder .result .seat < seats
-ends c = holder-seat _ _ (ready (c .before)) (c .before .before .before .args .x) (c .to-holder .result) (c .to-holder .ensures)
+ends c = holder-seat (ready (c .before)) (c .before .before .before .args .x) (c .to-holder .result) (c .to-holder .ensures)
 
 found : (c : tie.After-to-holder) → let b = c .before .before .before in let l = b .args .rec .now in let r = c .to-holder .result in
     scanOf l (b .args .s) (b .args .x)

@@ -37,7 +37,9 @@ descend-at t = and 1 descend-kinds.ps (is 1 descend-kinds.ps μ-descend t) desce
 abbrev descend-below : ℕ → In 1 descend-kinds.ps
 descend-below t = and 1 descend-kinds.ps (falls 1 descend-kinds.ps _<_ μ-descend t) descend.Pre
 
-advance-number-requires : (t : ℕ) → advance-lts.Need-number-requires (
+-- what the functions that they call ask for and promise, themselves below t
+abbrev advance-callees : ℕ → advance-lts.Claims
+advance-callees t = (
   number-reads.Asked,
   number-reads.Learnt,
   step-reads.Asked,
@@ -46,7 +48,12 @@ advance-number-requires : (t : ℕ) → advance-lts.Need-number-requires (
   advance.Post,
   descend-below t,
   descend.Post,
-) (advance-at t) advance.Post
+)
+
+abbrev descend-callees : ℕ → descend-lts.Claims
+descend-callees t = (advance-below t, advance.Post)
+
+advance-number-requires : (t : ℕ) → advance-lts.Need-number-requires (advance-callees t) (advance-at t) advance.Post
 advance-number-requires t c κs = let b = c .before in
     let l = b .args .rec .now in
     let x = b .args .x in
@@ -54,16 +61,7 @@ advance-number-requires t c κs = let b = c .before in
     let h = b .pre .1 in
     (h .fit .sized, lot-seat l x w h)
 
-advance-returns : (t : ℕ) → advance-lts.Need-returns (
-  number-reads.Asked,
-  number-reads.Learnt,
-  step-reads.Asked,
-  step-reads.Learnt,
-  advance-below t,
-  advance.Post,
-  descend-below t,
-  descend.Post,
-) (advance-at t) advance.Post
+advance-returns : (t : ℕ) → advance-lts.Need-returns (advance-callees t) (advance-at t) advance.Post
 advance-returns t c = let b = c .before .before .before in
     let l = b .args .rec .now in
     let x = b .args .x in
@@ -71,16 +69,7 @@ advance-returns t c = let b = c .before .before .before in
     let h = b .pre .1 in
     stop-walked l x w h (number-read l (w .seat) (c .before .number .result) (lot-seat l x w h) (c .before .number .ensures) ∙ c .if1 .taken)
 
-advance-step-requires : (t : ℕ) → advance-lts.Need-step-requires (
-  number-reads.Asked,
-  number-reads.Learnt,
-  step-reads.Asked,
-  step-reads.Learnt,
-  advance-below t,
-  advance.Post,
-  descend-below t,
-  descend.Post,
-) (advance-at t) advance.Post
+advance-step-requires : (t : ℕ) → advance-lts.Need-step-requires (advance-callees t) (advance-at t) advance.Post
 advance-step-requires t c κs = let b = c .before .before .before in
     let l = b .args .rec .now in
     let x = b .args .x in
@@ -93,16 +82,7 @@ advance-step-requires t c κs = let b = c .before .before .before in
           (sym (number-read l (w .seat) (c .before .number .result) (lot-seat l x w h) (c .before .number .ensures)) ∙ e),
     )
 
-advance-add-t12 : (t : ℕ) → advance-lts.Need-add-t12 (
-  number-reads.Asked,
-  number-reads.Learnt,
-  step-reads.Asked,
-  step-reads.Learnt,
-  advance-below t,
-  advance.Post,
-  descend-below t,
-  descend.Post,
-) (advance-at t) advance.Post
+advance-add-t12 : (t : ℕ) → advance-lts.Need-add-t12 (advance-callees t) (advance-at t) advance.Post
 advance-add-t12 t c = let b = c .before .before .before .before .before in
     let l = b .args .rec .now in
     let x = b .args .x in
@@ -111,16 +91,7 @@ advance-add-t12 t c = let b = c .before .before .before .before .before in
     let q = move-fits l x w h (c .before .step .result) (c .if2 .taken) (c .before .step .ensures) in
     omega arith
 
-advance-advance-requires : (t : ℕ) → advance-lts.Need-advance-requires (
-  number-reads.Asked,
-  number-reads.Learnt,
-  step-reads.Asked,
-  step-reads.Learnt,
-  advance-below t,
-  advance.Post,
-  descend-below t,
-  descend.Post,
-) (advance-at t) advance.Post
+advance-advance-requires : (t : ℕ) → advance-lts.Need-advance-requires (advance-callees t) (advance-at t) advance.Post
 advance-advance-requires t c κs = let b = c .before .before .before .before .before in
     let l = b .args .rec .now in
     let x = b .args .x in
@@ -130,16 +101,7 @@ advance-advance-requires t c κs = let b = c .before .before .before .before .be
     let d = move-less l x w h y (c .if2 .taken) (c .before .step .ensures) in
     (omega (arith, b .pre .0), move-ready l x w h y (c .if2 .taken) (c .before .step .ensures) _ (omega arith))
 
-advance-descend-requires : (t : ℕ) → advance-lts.Need-descend-requires (
-  number-reads.Asked,
-  number-reads.Learnt,
-  step-reads.Asked,
-  step-reads.Learnt,
-  advance-below t,
-  advance.Post,
-  descend-below t,
-  descend.Post,
-) (advance-at t) advance.Post
+advance-descend-requires : (t : ℕ) → advance-lts.Need-descend-requires (advance-callees t) (advance-at t) advance.Post
 advance-descend-requires t c κs = let b = c .before .before .before .before .before in
     let l = b .args .rec .now in
     let x = b .args .x in
@@ -147,16 +109,7 @@ advance-descend-requires t c κs = let b = c .before .before .before .before .be
     let h = b .pre .1 in
     (omega (arith, b .pre .0), (h, to-drop l x w h (c .before .step .result) (c .if2 .left) (c .before .step .ensures)))
 
-advance-returns-2 : (t : ℕ) → advance-lts.Need-returns-2 (
-  number-reads.Asked,
-  number-reads.Learnt,
-  step-reads.Asked,
-  step-reads.Learnt,
-  advance-below t,
-  advance.Post,
-  descend-below t,
-  descend.Post,
-) (advance-at t) advance.Post
+advance-returns-2 : (t : ℕ) → advance-lts.Need-returns-2 (advance-callees t) (advance-at t) advance.Post
 advance-returns-2 t c = let b = c .before .before .before .before .before .before in
     let l = b .args .rec .now in
     let x = b .args .x in
@@ -164,20 +117,11 @@ advance-returns-2 t c = let b = c .before .before .before .before .before .befor
     let h = b .pre .1 in
     move-walked l x w h (c .before .before .step .result) (c .before .if2 .taken) (c .before .before .step .ensures) (c .advance .result) (c .advance .ensures)
 
-advance-returns-3 : (t : ℕ) → advance-lts.Need-returns-3 (
-  number-reads.Asked,
-  number-reads.Learnt,
-  step-reads.Asked,
-  step-reads.Learnt,
-  advance-below t,
-  advance.Post,
-  descend-below t,
-  descend.Post,
-) (advance-at t) advance.Post
+advance-returns-3 : (t : ℕ) → advance-lts.Need-returns-3 (advance-callees t) (advance-at t) advance.Post
 advance-returns-3 t c = c .descend .ensures
 
 descend-returns :
-    (t : ℕ) → descend-lts.Need-returns (advance-below t, advance.Post) (descend-at t) descend.Post
+    (t : ℕ) → descend-lts.Need-returns (descend-callees t) (descend-at t) descend.Post
 descend-returns t c = let b = c .before .before in
     let l = b .args .rec .now in
     let x = b .args .x in
@@ -186,13 +130,10 @@ descend-returns t c = let b = c .before .before in
     end-walked l x w (h .0) (h .1) (c .if1 .taken)
 
 descend-sub-t9 :
-    (t : ℕ) → descend-lts.Need-sub-t9 (advance-below t, advance.Post) (descend-at t) descend.Post
+    (t : ℕ) → descend-lts.Need-sub-t9 (descend-callees t) (descend-at t) descend.Post
 descend-sub-t9 t c = omega arith
 
-descend-advance-requires : (t : ℕ) → descend-lts.Need-advance-requires (
-  advance-below t,
-  advance.Post,
-) (descend-at t) descend.Post
+descend-advance-requires : (t : ℕ) → descend-lts.Need-advance-requires (descend-callees t) (descend-at t) descend.Post
 descend-advance-requires t c κs = let b = c .before .before in
     let l = b .args .rec .now in
     let x = b .args .x in
@@ -202,7 +143,7 @@ descend-advance-requires t c κs = let b = c .before .before in
 
 descend-returns-2 :
     (t : ℕ) →
-    descend-lts.Need-returns-2 (advance-below t, advance.Post) (descend-at t) descend.Post
+    descend-lts.Need-returns-2 (descend-callees t) (descend-at t) descend.Post
 descend-returns-2 t c = let b = c .before .before .before in
     let l = b .args .rec .now in
     let x = b .args .x in
@@ -211,16 +152,7 @@ descend-returns-2 t c = let b = c .before .before .before in
     drop-walked l x w (h .0) (h .1) (c .before .if1 .left) (c .advance .result) (c .advance .ensures)
 
 pub +advance+descend-spec : {M : Type 1} → statement M
-+advance+descend-spec = close μ-advance μ-descend (λ t. advance-lts.spec (
-  number-reads.Asked,
-  number-reads.Learnt,
-  step-reads.Asked,
-  step-reads.Learnt,
-  advance-below t,
-  advance.Post,
-  descend-below t,
-  descend.Post,
-)
++advance+descend-spec = close μ-advance μ-descend (λ t. advance-lts.spec (advance-callees t)
     (advance-at t)
     advance.Post
     (advance-number-requires t)
@@ -232,7 +164,7 @@ pub +advance+descend-spec : {M : Type 1} → statement M
     (advance-returns-2 t)
     (advance-returns-3 t))
     λ t. descend-lts.spec
-    (advance-below t, advance.Post)
+    (descend-callees t)
     (descend-at t)
     descend.Post
     (descend-returns t)
