@@ -2,7 +2,7 @@
 use Prim.Native.Nat.{ℕ, _+_, _^_, _≤_, _<_}
 use mathlib.Core.Path.{_≡_}
 use mathlib.Core.Bool.{true, false}
-use mathlib.Core.Option.{none, some}
+use mathlib.Core.Option.{some}
 use mathlib.Core.List.{List, [], _∷_}
 use native.Mathlib.Omega.{arith}
 use lib.Dec.{T}
@@ -11,12 +11,12 @@ use Rattle.graph.specs.Side.{left}
 use Rattle.protocol.specs.State.{seated, stays}
 use Rattle.record.specs.Layout.{seats, linkAt}
 use Rattle.record.specs.Meaning.{seatsIn, meaning}
-use Rattle.search.specs.Walk.{printable}
 use Rattle.search.specs.inner.Search.{nowhere, arrives, passes}
 use Rattle.search.proofs.Ordered.{rank-less}
 use Rattle.search.proofs.Left.{stands, left-steps, left-seated}
 use Rattle.find.specs.declared.Walk.{Walk}
-use Rattle.find.specs.inner.Steps.{Went, ReadyLeft, WentLeft, leftOf, toHolder}
+use Rattle.find.specs.Way.{leftFrom}
+use Rattle.find.specs.inner.Steps.{Went, ReadyLeft, WentLeft, leftOf, prints}
 use Rattle.find.proofs.Read.{link-some, link-none}
 use Rattle.find.proofs.Steps.{here, onto}
 
@@ -58,12 +58,12 @@ module _ {l : List ℕ} {w : Walk} (h : ReadyLeft l w) where
 
   -- to the holder of x: no step if the lot may be printed, else the left steps
   module _ (x : ℕ) where
-    pub stays-there : printable (stays (seatsIn l)) (seatsIn l .number) x (w .seat) ≡ true → Went (toHolder l x w) w w
+    pub stays-there : prints l x (w .seat) ≡ true → Went (leftFrom l x (w .seat)) w w
     stays-there t = rw (stands (h .fit .ordered) (stays (seatsIn l)) x (w .seat) (h .lot) t) here
 
-    pub goes-on : printable (stays (seatsIn l)) (seatsIn l .number) x (w .seat) ≡ false → (r : Walk) → WentLeft l w r → Went (toHolder l x w) w r
+    pub goes-on : prints l x (w .seat) ≡ false → (r : Walk) → WentLeft l w r → Went (leftFrom l x (w .seat)) w r
     goes-on t r v = rw (left-steps (h .fit .ordered) (stays (seatsIn l)) x (w .seat) (h .lot) t (v .leftward)) (v .went)
 
     -- and it ends at a lot
-    pub holder-seat : (r : Walk) → Went (toHolder l x w) w r → r .seat < seats
+    pub holder-seat : (r : Walk) → Went (leftFrom l x (w .seat)) w r → r .seat < seats
     holder-seat r u = h .fit .ordered .seat (r .seat) (rw (u .seat) (left-seated (h .fit .ordered) (stays (seatsIn l)) x (w .seat) (h .lot)))

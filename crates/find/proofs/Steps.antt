@@ -17,7 +17,7 @@ use Rattle.protocol.specs.State.{seated, stays}
 use Rattle.record.specs.Layout.{seats, numberSize, numberFrom}
 use Rattle.record.specs.Meaning.{seatsIn, meaning}
 use Rattle.record.proofs.Places.{side-sideNumber}
-use Rattle.search.specs.Walk.{stop, move, drop, along, stepAt, printable, leftSteps}
+use Rattle.search.specs.Walk.{stop, move, drop, along, stepAt}
 use Rattle.base.proofs.Count.{count-le}
 use Rattle.search.specs.inner.Search.{Search, found, moves, drops, ends, gap}
 use Rattle.search.proofs.Ordered.{rank-bound}
@@ -26,7 +26,8 @@ use Rattle.search.proofs.Hops.{search-seated, search-hops}
 use Rattle.search.proofs.Left.{find-by}
 use Rattle.find.specs.declared.Walk.{Walk}
 use Rattle.find.specs.Find.{scanOf}
-use Rattle.find.specs.inner.Steps.{asStep, Fit, remains, Ready, Went, Walked, ReadyLeft, toHolder}
+use Rattle.find.specs.Way.{leftFrom}
+use Rattle.find.specs.inner.Steps.{asStep, Fit, remains, Ready, Went, Walked, ReadyLeft, prints}
 
 -- along a link y that does not lie beyond x, one that does, and none
 module _ (number : ℕ → ℕ) (L : Links) (x y : ℕ) (d : Side) {o : Option ℕ} where
@@ -154,12 +155,12 @@ module _ (l : List ℕ) (x s : ℕ) (f : Fit l) (m : T (seated (seatsIn l) s)) w
       }
 
   -- from the top level, and then to the holder, it is the search of specs/
-  pub end-found : (e r : Walk) → Walked l x (record { seat = s; level = width; hops = 0 }) e → Went (toHolder l x e) e r
-      → scanOf l s x ≡ record { holder = cond (printable (stays (seatsIn l)) (seatsIn l .number) x (r .seat)) (some (r .seat)) none; hops = r .hops }
+  pub end-found : (e r : Walk) → Walked l x (record { seat = s; level = width; hops = 0 }) e → Went (leftFrom l x (e .seat)) e r
+      → scanOf l s x ≡ record { holder = cond (prints l x (r .seat)) (some (r .seat)) none; hops = r .hops }
   end-found e r v u =
       find-by (stays (seatsIn l)) (seatsIn l .number) (meaning l .link) x seats width s (search-path (f .ordered) m (v .search))
-      (ap (leftSteps (stays (seatsIn l)) (seatsIn l .number) (meaning l .link) x seats) (sym (v .went .seat)))
+      (ap (leftFrom l x) (sym (v .went .seat)))
       ∙ rw (← v .went .seat, ← u .seat, hops)
     where
-      hops : length (v .path) + length (toHolder l x e) ≡ r .hops
+      hops : length (v .path) + length (leftFrom l x (e .seat)) ≡ r .hops
       hops = omega (arith, v .went .hops, u .hops)

@@ -16,6 +16,10 @@ use Rattle.search.specs.Walk.{lastOf, path, leftSteps}
 use Rattle.search.specs.Right.{Once}
 use Rattle.find.specs.Find.{findIn}
 
+-- the left steps of a scan of x from the lot e, where its walk ended
+abbrev pub leftFrom : List ℕ → (x e : ℕ) → List ℕ
+leftFrom l x e = leftSteps (stays (seatsIn l)) (seatsIn l .number) (meaning l .link) x seats e
+
 module _ (l : List ℕ) (s x : ℕ) where
   -- the lots that the walk moves to, and where it ends
   abbrev pub moves : List ℕ
@@ -26,7 +30,7 @@ module _ (l : List ℕ) (s x : ℕ) where
 
   -- the left steps from there, and where they end
   abbrev pub lefts : List ℕ
-  lefts = leftSteps (stays (seatsIn l)) (seatsIn l .number) (meaning l .link) x seats end
+  lefts = leftFrom l x end
 
   abbrev pub last : ℕ
   last = lastOf end lefts

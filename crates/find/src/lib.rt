@@ -4,18 +4,19 @@ ghost use mathlib.Core.Path.{_≡_};
 ghost use mathlib.Core.Bool.{true};
 ghost use Prim.Native.Nat.{_<_};
 ghost use lib.Dec.{T};
-ghost use Rattle.protocol.specs.State.{seated, stays};
+ghost use Rattle.protocol.specs.State.{seated};
 ghost use lib.ListN.{length};
 ghost use Rattle.record.specs.Layout.{seats, levels, size};
 ghost use Rattle.record.specs.Sound.{sound};
 ghost use Rattle.record.specs.Meaning.{seatsIn, meaning};
 ghost use Rattle.graph.specs.Side.{sideOfNumber};
-ghost use Rattle.search.specs.Walk.{along as alongOf, stepAt, drop, printable};
+ghost use Rattle.search.specs.Walk.{along as alongOf, stepAt, drop};
 ghost use Rattle.messages.specs.inner.Numbers.{firstPending};
 ghost use Rattle.check_links.specs.Settled.{settled};
 ghost use Rattle.find.specs.Find.{searched, scanOf, findRefusal, findIn};
 ghost use Rattle.find.specs.Answer.{foundNumbers, FoundNumbered};
-ghost use Rattle.find.specs.inner.Steps.{asStep, Fit, Ready, Walked, Went, ReadyLeft, WentLeft, toHolder};
+ghost use Rattle.find.specs.Way.{leftFrom};
+ghost use Rattle.find.specs.inner.Steps.{asStep, Fit, Ready, Walked, Went, ReadyLeft, WentLeft, prints};
 use check_links::links_fit;
 use graph::LEFT;
 use graph::on_side;
@@ -71,7 +72,7 @@ fn step(rec: &[u8], s: usize, k: usize, x: u64) -> usize
 // Whether the lot on seat s may be printed on a label for x: it stays, and its number is not above x.
 fn is_printable(rec: &[u8], s: usize, x: u64) -> bool
     requires { ⌜ (length (now rec) ≡ size) × (s < seats) ⌝ }
-    ensures { λ r. ⌜ r ≡ printable (stays (seatsIn (now (rec .entry)))) (seatsIn (now (rec .entry)) .number) x s ⌝ }
+    ensures { λ r. ⌜ r ≡ prints (now (rec .entry)) x s ⌝ }
 {
     is_staying(rec, s) && record::number(rec, s) <= x
 }
@@ -143,7 +144,7 @@ impl Walk {
     // From the end of the walk to where the holder of x is: no step if the lot may be printed.
     fn to_holder(self, rec: &[u8], x: u64) -> Walk
         requires { ⌜ ReadyLeft (now rec) self ⌝ }
-        ensures { λ r. ⌜ Went (toHolder (now (rec .entry)) x self) self r ⌝ }
+        ensures { λ r. ⌜ Went (leftFrom (now (rec .entry)) x (self .seat)) self r ⌝ }
     {
         if is_printable(rec, self.seat, x) {
             return self;
@@ -199,7 +200,8 @@ fn find_refusal(rec: &[u8], seat: u8) -> u8
     0
 }
 
-// The lot that a scanned number belongs to, searched from the lot on a seat. Refused: 1, 2, 3, 8, 13.
+// The staying lot that a scanned number belongs to, searched from the lot on a seat; leaving lots are passed, each step onto a lot one hop.
+// Refused: 1, 2, 3, 8, 13.
 pub fn find(rec: &[u8], seat: u8, number: u64) -> Found
     ensures { λ r. ⌜ (foundNumbers r ≡ findIn (now (rec .entry)) seat number) × FoundNumbered r ⌝ }
 {

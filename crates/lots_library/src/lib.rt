@@ -99,7 +99,8 @@ pub extern "C" fn lots_turn(rec: &mut [u8]) -> u8
     number_of(clearing::turn(rec))
 }
 
-// The lot that a scanned number belongs to, searched from the lot on a seat: its seat, or 255 for none, and the hops. Refused: 1, 2, 3, 8, 13.
+// The staying lot that a scanned number belongs to, searched from the lot on a seat: its seat, or 255 for none, and the hops. Refused: 1, 2, 3,
+// 8, 13.
 #[no_mangle]
 pub extern "C" fn lots_find(
     rec: &[u8],

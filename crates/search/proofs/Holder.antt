@@ -1,6 +1,7 @@
--- On the graph of the members, find names the right holder. Assumes the laws of the lots, one component, and links that are the graph's.
+-- On the graph of the members, find names the right holder of those that stay. Assumes the laws of the lots, one component, and links that are
+-- the graph's.
 use Prim.Native.Nat.{ℕ, _≤_, _<_}
-use mathlib.Core.Path.{_≡_, refl, sym, ap, _∙_, subst}
+use mathlib.Core.Path.{_≡_, refl, ap, subst}
 use mathlib.Core.Logic.{_↔_, _⊎_, inl, inr}
 use mathlib.Core.Option.{Option, none, some}
 use mathlib.Core.List.{List}
@@ -98,11 +99,14 @@ module _ {N W : ℕ} {G : Lots} {L : Links} (laws : Laws N G) (g : IsGraph N W G
     abbrev AllLeft : ℕ → Type 0
     AllLeft s = (z : ℕ) → T (staying z) → G .number z ≤ x → G .number z < G .number s
 
+    abbrev prints : ℕ → Bool
+    prints = printable staying (G .number) x
+
     -- the lot h if it may be printed
     abbrev printed : ℕ → Option ℕ
-    printed h = cond (printable staying (G .number) x h) (some h) none
+    printed h = cond (prints h) (some h) none
 
-    not-printable : {s : ℕ} → staying s ≡ false → printable staying (G .number) x s ≡ false
+    not-printable : {s : ℕ} → staying s ≡ false → prints s ≡ false
     unfolding printable
     not-printable e = rw e
 
@@ -113,7 +117,7 @@ module _ {N W : ℕ} {G : Lots} {L : Links} (laws : Laws N G) (g : IsGraph N W G
 
     -- from such a lot, if its left link is not above x, the left steps lead to the right answer
     left-holder : (s : ℕ) {o : Option ℕ} {p : List ℕ} → T (G .member s) → AllLeft s → ((y : ℕ) → L s 0 left ≡ some y → G .number y ≤ x)
-        → printable staying (G .number) x s ≡ false → L s 0 left ≡ o → Leftward staying L o p
+        → prints s ≡ false → L s 0 left ≡ o → Leftward staying L o p
         → RightHolder staying (G .number) x (printed (lastOf s p))
     left-holder s m all under t e nowhere = rw t (nobody (λ z n q.
         nobody-there (link-nearest laws g {k = 0} m (omega arith) e) z (listed s z m (within z n)) (toL (all z n q))))
@@ -141,11 +145,11 @@ module _ {N W : ℕ} {G : Lots} {L : Links} (laws : Laws N G) (g : IsGraph N W G
         below z (toL w) = omega (arith, under y e)
 
     -- from the end of the walk
-    end-holder : {e : ℕ} → T (G .member e) → End (G .number) L x e → {q : List ℕ} → leftSteps staying (G .number) L x N e ≡ q
-        → RightHolder staying (G .number) x (printed (lastOf e q))
-    end-holder {e} m c {q} s = by (true-or-false (printable staying (G .number) x e))
+    end-holder : {e : ℕ} → T (G .member e) → End (G .number) L x e
+        → RightHolder staying (G .number) x (printed (lastOf e (leftSteps staying (G .number) L x N e)))
+    end-holder {e} m c = by (true-or-false (prints e))
       where
-        all : printable staying (G .number) x e ≡ false → AllLeft e
+        all : prints e ≡ false → AllLeft e
         all t z n l = apart (ℕ-discrete (G .number z) (G .number e))
           where
             apart : Dec (G .number z ≡ G .number e) → G .number z < G .number e
@@ -164,14 +168,13 @@ module _ {N W : ℕ} {G : Lots} {L : Links} (laws : Laws N G) (g : IsGraph N W G
             above (yes w) = absurd (clear m c (nearest-list near .member) (nearest-side near) (uptoL w))
             above (no w) = omega arith
 
-        by : (printable staying (G .number) x e ≡ true) ⊎ (printable staying (G .number) x e ≡ false)
-            → RightHolder staying (G .number) x (printed (lastOf e q))
+        by : (prints e ≡ true) ⊎ (prints e ≡ false) → RightHolder staying (G .number) x (printed (lastOf e (leftSteps staying (G .number) L x N e)))
         by (inl t) = let (u, v) = printable-is staying (G .number) x e t in
-            rw (sym s ∙ stands o staying x e m t) (rw t (holds (record { stays = true-T u; below = v; largest = λ z n l. end-most m c z (within z n) l })))
-        by (inr t) = left-holder e m (all t) under t refl (subst (Leftward staying L (L e 0 left)) s (goes-left o staying x e m t))
+            rw (stands o staying x e m t, t) (holds (record { stays = true-T u; below = v; largest = λ z n l. end-most m c z (within z n) l }))
+        by (inr t) = left-holder e m (all t) under t refl (goes-left o staying x e m t)
 
     -- the answer of find is the right one
     pub find-holder : (s : ℕ) → T (G .member s) → RightHolder staying (G .number) x (find staying (G .number) L x N W s .holder)
     find-holder s m =
         let r = path-search {x = x} o m in
-        rw (find-by staying (G .number) L x N W s refl refl) (end-holder (search-seated o m (omega arith) r) (search-end r) refl)
+        rw (find-by staying (G .number) L x N W s refl refl) (end-holder (search-seated o m (omega arith) r) (search-end r))

@@ -5,12 +5,9 @@ use mathlib.Core.Option.{none, some}
 use mathlib.Core.Bool.{cond}
 use native.Mathlib.Omega.{arith}
 use borrow.Author.Needs.{needs}
-use Rattle.protocol.specs.State.{stays}
 use Rattle.record.specs.Layout.{seats}
-use Rattle.record.specs.Meaning.{seatsIn}
-use Rattle.search.specs.Walk.{printable}
 use Rattle.find.specs.Find.{searched, scanOf}
-use Rattle.find.specs.inner.Steps.{ReadyLeft}
+use Rattle.find.specs.inner.Steps.{ReadyLeft, prints}
 use Rattle.find.proofs.Steps.{start-ready, end-ready, end-found}
 use Rattle.find.proofs.Leftward.{holder-seat}
 use Rattle.find.proofs.search.Statement.{statement}
@@ -38,7 +35,7 @@ ends c = holder-seat (ready (c .before)) (c .before .before .before .args .x) (c
 
 found : (c : tie.After-to-holder) → let b = c .before .before .before in let l = b .args .rec .now in let r = c .to-holder .result in
     scanOf l (b .args .s) (b .args .x)
-    ≡ record { holder = cond (printable (stays (seatsIn l)) (seatsIn l .number) (b .args .x) (r .seat)) (some (r .seat)) none; hops = r .hops }
+    ≡ record { holder = cond (prints l (b .args .x) (r .seat)) (some (r .seat)) none; hops = r .hops }
 found c = let b = c .before .before .before in
     end-found (b .args .rec .now) (b .args .x) (b .args .s) (b .pre .0) (b .pre .1) (c .before .advance .result) (c .to-holder .result)
     (c .before .advance .ensures) (c .to-holder .ensures)

@@ -1,7 +1,7 @@
 -- What the inner functions of find promise: a step of the walk, the walk from where it stands, and the left steps. Assumes nothing.
 use Prim.Native.Nat.{ℕ, _+_, _*_, _^_, _<_}
 use mathlib.Core.Path.{_≡_}
-use mathlib.Core.Bool.{cond}
+use mathlib.Core.Bool.{Bool, cond}
 use mathlib.Core.List.{List}
 use lib.Dec.{T, ltb}
 use lib.ListN.{length}
@@ -10,7 +10,7 @@ use Rattle.graph.specs.Vector.{width}
 use Rattle.protocol.specs.State.{seated, stays}
 use Rattle.record.specs.Layout.{seats, levels, size}
 use Rattle.record.specs.Meaning.{seatsIn, meaning}
-use Rattle.search.specs.Walk.{Step, move, drop, lastOf, leftSteps}
+use Rattle.search.specs.Walk.{Step, move, drop, lastOf, printable}
 use Rattle.search.specs.inner.Ordered.{Ordered, rank}
 use Rattle.search.specs.inner.Search.{Search, gap, Leftward}
 use Rattle.find.specs.declared.Walk.{Walk}
@@ -65,6 +65,6 @@ pub record WentLeft (l : List ℕ) (w r : Walk) : Type 0 where
   pub leftward : Leftward (stays (seatsIn l)) (meaning l .link) (meaning l .link (w .seat) 0 left) path
   pub went : Went path w r
 
--- where the way of a scan for x ends
-abbrev pub toHolder : List ℕ → (x : ℕ) → Walk → List ℕ
-toHolder l x w = leftSteps (stays (seatsIn l)) (seatsIn l .number) (meaning l .link) x seats (w .seat)
+-- the lot on seat s may be printed on a label for x
+abbrev pub prints : List ℕ → (x s : ℕ) → Bool
+prints l x s = printable (stays (seatsIn l)) (seatsIn l .number) x s
