@@ -1,13 +1,13 @@
 //! Each fault of document 01's "Faults that pass a first trial", each bundle that
-//! is not #101's, each search that is not #102's and each meeting that writes a link
-//! wrongly, #103, put into the model, is caught by a self check on some script; or,
-//! where scripts cannot show it, by the calls on lent bytes on records that no calls
-//! lead to.
+//! is not #101's, each search that is not #102's or #104's and each meeting that
+//! writes a link wrongly, #103, put into the model, is caught by a self check on some
+//! script; or, where scripts cannot show it, by the calls on lent bytes on records
+//! that no calls lead to.
 
 use crate::graph::SEATS;
 use crate::inputs;
 use crate::lent::{self, from_bytes};
-use crate::model::{Fault, Model, WrongBundle, WrongFind, WrongMeet};
+use crate::model::{Fault, Model, WrongBundle, WrongFind, WrongHolder, WrongMeet};
 use crate::random::Random;
 use crate::script;
 use crate::selfcheck::{run_on, Failure};
@@ -17,21 +17,27 @@ use std::collections::BTreeSet;
 const SCRIPTS: u64 = 100;
 const LINES: usize = 120;
 
-fn first_failure(model: &Model) -> Option<Failure> {
-    (0..SCRIPTS).find_map(|index| {
+/// The scripts that fail, and how.
+fn failures(model: Model) -> impl Iterator<Item = (u64, Failure)> {
+    (0..SCRIPTS).filter_map(move |index| {
         let input = script::generate(1, index, LINES).concat();
-        run_on(model.clone(), &input).err()
+        let failure = run_on(model.clone(), &input).err()?;
+        Some((index, failure))
     })
 }
 
+fn first_failure(model: Model) -> Option<Failure> {
+    failures(model).map(|(_, failure)| failure).next()
+}
+
 fn caught_as(fault: Fault) -> &'static str {
-    let failure = first_failure(&Model::with_fault(fault));
+    let failure = first_failure(Model::with_fault(fault));
     failure.expect("the fault passes every self check").what
 }
 
 #[test]
 fn no_fault_no_failure() {
-    assert_eq!(first_failure(&Model::open()), None);
+    assert_eq!(first_failure(Model::open()), None);
 }
 
 #[test]
@@ -140,20 +146,20 @@ fn a_search_looks_at_half_of_the_pending() {
 fn a_search_asks_too_little_of_the_check() {
     for wrong in [WrongFind::CheckNotAsked, WrongFind::OnlyLevel0Asked] {
         let model = Model::with_fault(Fault::Find(wrong));
-        assert_eq!(first_failure(&model), None);
+        assert_eq!(first_failure(model), None);
     }
 }
 
 /// The ways in which records are unsettled, none for settled ones, whose searches
 /// on lent bytes and on the model with a fault differ.
-fn ways_shown(wrong: WrongFind) -> BTreeSet<Option<Unsettled>> {
+fn ways_shown(fault: Fault) -> BTreeSet<Option<Unsettled>> {
     let mut random = Random::new(6);
     let mut ways = BTreeSet::new();
     for _ in 0..3_000 {
         let pools = inputs::pools(&mut random);
         let bytes = inputs::sound_record(&pools, &mut random);
         let model = from_bytes(&bytes).expect("the record is sound");
-        let model = model.and_fault(Fault::Find(wrong));
+        let model = model.and_fault(fault);
         let number = random.pick(&pools.numbers);
         let differs = |seat| lent::find(&bytes, seat, number) != model.find(seat, number);
         if (0..SEATS as u8).any(differs) {
@@ -178,7 +184,53 @@ fn searches_on_records_that_no_calls_lead_to() {
     ];
     for (wrong, ways) in shown {
         let ways = BTreeSet::from_iter(ways.iter().copied());
-        assert_eq!(ways_shown(wrong), ways, "{wrong:?}");
+        assert_eq!(ways_shown(Fault::Find(wrong)), ways, "{wrong:?}");
+    }
+}
+
+const ANOTHER_LOT: &str = "an accepted search gave another lot";
+const OTHER_HOPS: &str = "an accepted search counted other hops";
+
+/// Each with all ways in which scripts fail. Where nobody stays further left, an
+/// answer of none that comes too early has too few hops alone.
+const WRONG_HOLDERS: [(WrongHolder, &[&str]); 8] = [
+    (WrongHolder::LeaverNamed, &[ANOTHER_LOT]),
+    (WrongHolder::LeftOfTheEndNamed, &[ANOTHER_LOT]),
+    (WrongHolder::SecondLeaverNamed, &[ANOTHER_LOT]),
+    (
+        WrongHolder::NoneAtTheSecondLeaver,
+        &[ANOTHER_LOT, OTHER_HOPS],
+    ),
+    (WrongHolder::NoneAtALeaver, &[ANOTHER_LOT, OTHER_HOPS]),
+    (WrongHolder::LeftStepsNotCounted, &[OTHER_HOPS]),
+    (WrongHolder::MissingLinkCounted, &[OTHER_HOPS]),
+    (WrongHolder::SmallestStaying, &[ANOTHER_LOT]),
+];
+
+#[test]
+fn a_search_goes_past_leavers_wrongly() {
+    for (wrong, ways) in WRONG_HOLDERS {
+        let failures: Vec<_> = failures(Model::with_fault(Fault::Holder(wrong))).collect();
+        println!(
+            "{wrong:?}: {} scripts, first {:?}",
+            failures.len(),
+            failures.first()
+        );
+        let shown = BTreeSet::from_iter(failures.iter().map(|(_, failure)| failure.what));
+        assert_eq!(
+            shown,
+            BTreeSet::from_iter(ways.iter().copied()),
+            "{wrong:?}"
+        );
+    }
+}
+
+/// Settled ones, whose links are a graph's all the same.
+#[test]
+fn searches_past_leavers_on_records_that_no_calls_lead_to() {
+    for (wrong, _) in WRONG_HOLDERS {
+        let ways = ways_shown(Fault::Holder(wrong));
+        assert_eq!(ways, BTreeSet::from([None]), "{wrong:?}");
     }
 }
 
