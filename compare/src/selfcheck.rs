@@ -193,15 +193,16 @@ impl Checked {
         };
         let lots = self.roster.lots();
         let scan = Scan::of(&lots, start, scanned).ok_or("a search started from no lot")?;
-        holds(holder == scan.holder, "an accepted search gave another lot")?;
-        let (moves, steps) = (scan.moves as usize, scan.steps() as usize);
+        let right = scan.found();
         holds(
-            hops as usize == moves + steps,
-            "an accepted search counted other hops",
+            holder == right.holder,
+            "an accepted search gave another lot",
         )?;
+        holds(hops == right.hops, "an accepted search counted other hops")?;
+        let most = lots.len() as u32 - 1;
         holds(
-            moves < lots.len() && steps < lots.len(),
-            "a walk, or its left steps, are as many as the lots",
+            scan.moves <= most && scan.steps() <= most,
+            "a search moves or steps left as often as there are lots",
         )
     }
 }

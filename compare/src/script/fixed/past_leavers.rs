@@ -260,7 +260,7 @@ fn here_and_there() -> Script {
     lines.say("A");
     for part in [1, 2, 0] {
         lines.leave_all((0..=LAST).filter(|seat| seat % 7 % 3 == part));
-        for number in [0, 9, 205, 310, 635, u64::MAX] {
+        for number in [0, 15, 225, 320, 335, 629, u64::MAX] {
             lines.search_from_all(number);
         }
     }
