@@ -192,8 +192,8 @@ fn the_first_row_that_applies_is_given() {
     assert_eq!(model.find(0, 0), Err(Refusal::Unsettled));
 }
 
-/// Messages are pending, then a leaver in phase open, which does not matter, then
-/// clearing with messages pending and without.
+/// Messages are pending, then a leaver in phase open, for which no search waits,
+/// then clearing with messages pending and without.
 #[test]
 fn a_search_waits_for_a_settled_record() {
     let input = b"J 0 100 0 255\nF 0 99\nJ 1 200 128 0\nF 0 250\nF 9 0\nF 64 0\nA\nF 0 250\n\

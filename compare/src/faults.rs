@@ -9,7 +9,7 @@ use crate::inputs;
 use crate::lent::{self, from_bytes};
 use crate::model::{Fault, Model, WrongBundle, WrongFind, WrongHolder, WrongMeet};
 use crate::random::Random;
-use crate::script;
+use crate::script::{self, fixed};
 use crate::selfcheck::{run_on, Failure};
 use crate::unsettled::Unsettled;
 use std::collections::BTreeSet;
@@ -223,6 +223,21 @@ fn a_search_goes_past_leavers_wrongly() {
     for (wrong, ways) in WRONG_HOLDERS {
         let ways = BTreeSet::from_iter(ways.iter().copied());
         assert_eq!(ways_caught(Fault::Holder(wrong)), ways, "{wrong:?}");
+    }
+}
+
+/// Each shows in several of the scripts that are written for it.
+#[test]
+fn fixed_scripts_go_past_leavers() {
+    let scripts = fixed::scripts().into_iter();
+    let scripts = scripts.filter(|(name, _)| name.starts_with("past leavers"));
+    let inputs: Vec<_> = scripts.map(|(_, script)| script.concat()).collect();
+    for (wrong, _) in WRONG_HOLDERS {
+        let model = Model::with_fault(Fault::Holder(wrong));
+        let fails = |input: &&Vec<u8>| run_on(model.clone(), input).is_err();
+        let failing = inputs.iter().filter(fails).count();
+        println!("{wrong:?}: {failing} of {}", inputs.len());
+        assert!(failing >= 2, "{wrong:?}: {failing}");
     }
 }
 
