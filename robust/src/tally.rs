@@ -166,23 +166,25 @@ mod tests {
         let (mut tally, mut record) = (Tally::default(), opened());
         let find = Call::Find { seat: 0, number: 7 };
         lent::join(&mut record, 0, 7, 0, 255).expect("the seat is free");
+        let searched = |tally: &Tally| [tally.searches.gaps(), tally.leavers.gaps()].concat();
         let mut count = |record: &mut [u8]| {
-            let before = tally.clone();
+            let before = searched(&tally);
             tally.count(find, find.on_bytes(record), record, Source::Calls);
-            let met = |gaps: Vec<String>, after: Vec<String>| {
-                let met = gaps.into_iter().filter(|gap| !after.contains(gap));
-                met.collect::<Vec<_>>()
-            };
-            let searches = met(before.searches.gaps(), tally.searches.gaps());
-            (searches, met(before.leavers.gaps(), tally.leavers.gaps()))
+            let after = searched(&tally);
+            let met = before.into_iter().filter(|gap| !after.contains(gap));
+            met.collect::<Vec<_>>()
         };
-        assert_eq!(count(&mut record), (vec![], vec![]));
+        assert!(count(&mut record).is_empty());
         lent::leave(&mut record, 0).expect("the lot stays");
-        let (searches, leavers) = count(&mut record);
-        let with_leaver = "find of a record of calls never accepted with a leaver";
-        assert_eq!((searches, leavers[0].as_str()), (vec![], with_leaver));
+        let accepted = |case| format!("find of a record of calls never accepted {case}");
+        let cases = [
+            "with a leaver",
+            "from a leaver",
+            "past one leaver",
+            "past leavers to none",
+        ];
+        assert_eq!(count(&mut record), cases.map(accepted));
         record[PHASE_AT] = 1;
-        let clearing = String::from("find never met 13 by Clearing");
-        assert_eq!(count(&mut record), (vec![clearing], vec![]));
+        assert_eq!(count(&mut record), ["find never met 13 by Clearing"]);
     }
 }

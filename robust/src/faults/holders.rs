@@ -4,10 +4,11 @@
 use super::{caught, right};
 use crate::judge::Difference;
 use crate::sys::Outcome;
+use crate::tally::leavers::is_leaving;
 use compare::call::{Answer, Call, NO_VALUES};
 use compare::graph::SEATS;
+use compare::lent;
 use compare::lent::place::*;
-use compare::lent::{self, LotRead};
 use compare::model::{Found, State};
 use compare::scan::Scan;
 use std::ops::Range;
@@ -118,11 +119,6 @@ fn step_left(record: &[u8], from: Found) -> Found {
     let holder = from.holder.map(link).filter(|&link| link != NO_LINK);
     let hops = from.hops + u32::from(holder.is_some());
     Found { holder, hops }
-}
-
-fn is_leaving(record: &[u8], seat: u8) -> bool {
-    let LotRead { state, .. } = lent::read_lot(record, seat).expect("the lot is seated");
-    state == State::Leaving as u8
 }
 
 fn answer(Found { holder, hops }: Found) -> Answer {

@@ -1,7 +1,8 @@
 //! Accepted searches of records in which lots are leaving, told apart by what they
 //! go past and by where the record comes from.
 
-use compare::lent::place::{ENTRIES_AT, ENTRY, PENDING_AT, STATE_AT};
+use compare::graph::SEATS;
+use compare::lent::place::{ENTRIES_AT, ENTRY, STATE_AT};
 use compare::model::State;
 use compare::scan::Scan;
 use std::fmt;
@@ -66,15 +67,13 @@ impl Leavers {
     }
 }
 
-fn is_leaving(record: &[u8], seat: u8) -> bool {
+pub(crate) fn is_leaving(record: &[u8], seat: u8) -> bool {
     record[ENTRIES_AT + ENTRY * usize::from(seat) + STATE_AT] == State::Leaving as u8
 }
 
 /// Whether a lot of a record is leaving.
 pub(crate) fn has_leaver(record: &[u8]) -> bool {
-    let entries = record[ENTRIES_AT..PENDING_AT].chunks(ENTRY);
-    let mut states = entries.map(|entry| entry[STATE_AT]);
-    states.any(|state| state == State::Leaving as u8)
+    (0..SEATS as u8).any(|seat| is_leaving(record, seat))
 }
 
 impl fmt::Display for Leavers {
