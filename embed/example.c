@@ -1,5 +1,6 @@
 /* Lots 100 and 200 open on two scales, the second through the first. One of their messages is delivered by itself, the others are listed and
- * delivered by the bundle, the smallest first. 250 is scanned too early, while messages are pending, and again when none is left. */
+ * delivered by the bundle, the smallest first. 250 is scanned too early, while messages are pending, again when none is left, and once more when
+ * lot 200 is leaving and may not be printed. */
 #include "lots.h"
 #include <inttypes.h>
 #include <stdio.h>
@@ -64,5 +65,8 @@ int main(void)
     refusals |= lots_check(record, sizeof record, &yes);
     refusals |= lots_find(record, sizeof record, 0, 250, &holder, &hops);
     printf("refused %d, one skip graph %d, 250 belongs to the lot on seat %d, hops %" PRIu64 "\n", refusals, yes, holder, hops);
+    refusals |= lots_leave(record, sizeof record, 1);
+    refusals |= lots_find(record, sizeof record, 0, 250, &holder, &hops);
+    printf("refused %d, lot 200 is leaving, 250 belongs to the lot on seat %d, hops %" PRIu64 "\n", refusals, holder, hops);
     return refusals;
 }

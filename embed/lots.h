@@ -59,7 +59,8 @@ uint8_t lots_open(uint8_t *record, size_t length);
 uint8_t lots_join(uint8_t *record, size_t length, uint8_t seat, uint64_t number,
                   uint8_t vector, uint8_t contact);
 
-/* Marks a staying lot as leaving. It goes on taking part until turns clear it.
+/* Marks a staying lot as leaving. It goes on taking part until turns clear it, but
+ * from now on it is the holder of no scan.
  * Refusals: 1 wrong size, 2 unsound, 3 no such seat, 7 clearing, 8 empty seat,
  * 9 already leaving. */
 uint8_t lots_leave(uint8_t *record, size_t length, uint8_t seat);
@@ -88,8 +89,11 @@ uint8_t lots_turn(uint8_t *record, size_t length);
 
 /* Looks up a scanned number from the lot on a seat of a settled record: phase
  * open, nothing pending, and lots_check would say yes. `holder` is the seat of the
- * lot with the largest number not above the scanned one, or LOTS_NO_SEAT; `hops`
- * counts the moves between lots. Leaving lots in phase open are scanned as others.
+ * staying lot with the largest number not above the scanned one, or LOTS_NO_SEAT
+ * if no staying lot has such a number. A lot marked as leaving does not make a scan
+ * wait and is never its holder: where the search comes to one, it goes on to the
+ * left until a lot stays or none is left. The lot on `seat` may be a leaving one.
+ * `hops` counts the lots that were stepped onto, leaving ones too.
  * Refusals: 1 wrong size, 2 unsound, 3 no such seat, 8 empty seat, 13 unsettled. */
 uint8_t lots_find(const uint8_t *record, size_t length, uint8_t seat,
                   uint64_t number, uint8_t *holder, uint64_t *hops);

@@ -148,8 +148,8 @@ fn turn(rows: &mut Vec<Row>, [empty, half, full]: [&[u8]; 3]) {
     }
 }
 
-/// The search with the most hops; and one that a message with seats of the middle
-/// makes wait.
+/// The search with the most hops; the same where half of the lots leave, which it
+/// goes past; and one that a message with seats of the middle makes wait.
 fn find(rows: &mut Vec<Row>, records: [&[u8]; 3]) {
     for (what, record) in EACH.into_iter().zip(records) {
         let (longest, hops) = longest_search(record);
@@ -159,8 +159,22 @@ fn find(rows: &mut Vec<Row>, records: [&[u8]; 3]) {
         };
         rows.push(row(&what, record, longest));
     }
+    let leaving = upper_half_leaving(records[2]);
+    let (longest, hops) = longest_search(&leaving);
+    let what = format!("64 lots, past {HALF} leavers, {hops} hops");
+    rows.push(row(&what, &leaving, longest));
     let (longest, _) = longest_search(records[2]);
     rows.push(on_one_message(SEATS, HALF as u8, longest));
+}
+
+/// The full record, in which the lots with the largest numbers leave.
+fn upper_half_leaving(full: &[u8]) -> Vec<u8> {
+    let (mut leaving, mut lots) = (full.to_vec(), lots(SEATS));
+    lots.sort_unstable_by_key(|lot| lot.number);
+    for lot in &lots[HALF..] {
+        lent::leave(&mut leaving, lot.seat).expect("the lot stays");
+    }
+    leaving
 }
 
 /// The search with the most hops, and how many it has.

@@ -137,8 +137,8 @@ fn case_j_farther_lot_is_passed_on() {
 
 #[test]
 fn case_k_the_middle_lot_leaves() {
-    let input = b"J 0 100 0 255\nJ 1 200 128 0\nJ 2 300 64 0\nA\nL 1\nT\nA\nP\nT\nP\n";
-    let output = b"ok\nok\nok\nok\nok\nok\nok\n\
+    let input = b"J 0 100 0 255\nJ 1 200 128 0\nJ 2 300 64 0\nA\nL 1\nF 0 250\nT\nA\nP\nT\nP\n";
+    let output = b"ok\nok\nok\nok\nok\nholder 0 hops 2\nok\nok\n\
         lots 3 phase clearing pending 0\n0 -: 100 300\n1 0: 100 300\nok\n\
         lots 2 phase open pending 0\n0 -: 100 300\n1 0: 100 300\n";
     assert_eq!(text::run(input), output);
@@ -192,14 +192,14 @@ fn the_first_row_that_applies_is_given() {
     assert_eq!(model.find(0, 0), Err(Refusal::Unsettled));
 }
 
-/// Messages are pending, then a leaver in phase open, which does not matter, then
-/// clearing with messages pending and without.
+/// Messages are pending, then a leaver in phase open, for which no search waits,
+/// then clearing with messages pending and without.
 #[test]
 fn a_search_waits_for_a_settled_record() {
     let input = b"J 0 100 0 255\nF 0 99\nJ 1 200 128 0\nF 0 250\nF 9 0\nF 64 0\nA\nF 0 250\n\
         L 1\nF 0 250\nF 1 250\nT\nF 0 250\nF 9 0\nA\nF 0 250\nF 9 0\nF 64 0\nT\nF 0 250\n";
     let output = b"ok\nnone hops 0\nok\nno 13\nno 8\nno 3\nok\nholder 1 hops 1\n\
-        ok\nholder 1 hops 1\nholder 1 hops 0\nok\nno 13\nno 8\nok\nno 13\nno 8\nno 3\nok\nholder 0 hops 0\n";
+        ok\nholder 0 hops 2\nholder 0 hops 1\nok\nno 13\nno 8\nok\nno 13\nno 8\nno 3\nok\nholder 0 hops 0\n";
     assert_eq!(text::run(input), output);
 }
 

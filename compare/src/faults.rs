@@ -1,15 +1,15 @@
 //! Each fault of document 01's "Faults that pass a first trial", each bundle that
-//! is not #101's, each search that is not #102's and each meeting that writes a link
-//! wrongly, #103, put into the model, is caught by a self check on some script; or,
-//! where scripts cannot show it, by the calls on lent bytes on records that no calls
-//! lead to.
+//! is not #101's, each search that is not #102's or #104's and each meeting that
+//! writes a link wrongly, #103, put into the model, is caught by a self check on some
+//! script; or, where scripts cannot show it, by the calls on lent bytes on records
+//! that no calls lead to.
 
 use crate::graph::SEATS;
 use crate::inputs;
 use crate::lent::{self, from_bytes};
-use crate::model::{Fault, Model, WrongBundle, WrongFind, WrongMeet};
+use crate::model::{Fault, Model, WrongBundle, WrongFind, WrongHolder, WrongMeet};
 use crate::random::Random;
-use crate::script;
+use crate::script::{self, fixed};
 use crate::selfcheck::{run_on, Failure};
 use crate::unsettled::Unsettled;
 use std::collections::BTreeSet;
@@ -17,21 +17,35 @@ use std::collections::BTreeSet;
 const SCRIPTS: u64 = 100;
 const LINES: usize = 120;
 
-fn first_failure(model: &Model) -> Option<Failure> {
-    (0..SCRIPTS).find_map(|index| {
+/// The scripts that fail, and how.
+fn failures(model: Model) -> impl Iterator<Item = (u64, Failure)> {
+    (0..SCRIPTS).filter_map(move |index| {
         let input = script::generate(1, index, LINES).concat();
-        run_on(model.clone(), &input).err()
+        let failure = run_on(model.clone(), &input).err()?;
+        Some((index, failure))
     })
 }
 
+fn first_failure(model: Model) -> Option<Failure> {
+    failures(model).map(|(_, failure)| failure).next()
+}
+
+/// All ways in which scripts fail.
+fn ways_caught(fault: Fault) -> BTreeSet<&'static str> {
+    let failures: Vec<_> = failures(Model::with_fault(fault)).collect();
+    println!("{fault:?}: {} scripts", failures.len());
+    println!("the first: {:?}", failures.first());
+    failures.iter().map(|(_, failure)| failure.what).collect()
+}
+
 fn caught_as(fault: Fault) -> &'static str {
-    let failure = first_failure(&Model::with_fault(fault));
+    let failure = first_failure(Model::with_fault(fault));
     failure.expect("the fault passes every self check").what
 }
 
 #[test]
 fn no_fault_no_failure() {
-    assert_eq!(first_failure(&Model::open()), None);
+    assert_eq!(first_failure(Model::open()), None);
 }
 
 #[test]
@@ -83,12 +97,15 @@ fn a_bundle_delivers_the_largest() {
 
 #[test]
 fn a_bundle_delivers_the_first_sent() {
-    let what = caught_as(Fault::Bundle(WrongBundle::DeliversTheFirstSent));
-    let ways = [
+    let ways = ways_caught(Fault::Bundle(WrongBundle::DeliversTheFirstSent));
+    let expected = [
         "a bundle is not deliveries of the smallest",
         "a bundle is not one of a part of its limit and then one of the rest",
+        // The record is settled either way, but by more deliveries or fewer.
+        "a bundle does not count its deliveries",
+        "bundles do not settle as single deliveries do",
     ];
-    assert!(ways.contains(&what), "{what}");
+    assert_eq!(ways, BTreeSet::from(expected));
 }
 
 #[test]
@@ -140,7 +157,7 @@ fn a_search_looks_at_half_of_the_pending() {
 fn a_search_asks_too_little_of_the_check() {
     for wrong in [WrongFind::CheckNotAsked, WrongFind::OnlyLevel0Asked] {
         let model = Model::with_fault(Fault::Find(wrong));
-        assert_eq!(first_failure(&model), None);
+        assert_eq!(first_failure(model), None);
     }
 }
 
@@ -179,6 +196,48 @@ fn searches_on_records_that_no_calls_lead_to() {
     for (wrong, ways) in shown {
         let ways = BTreeSet::from_iter(ways.iter().copied());
         assert_eq!(ways_shown(wrong), ways, "{wrong:?}");
+    }
+}
+
+const ANOTHER_LOT: &str = "an accepted search gave another lot";
+const OTHER_HOPS: &str = "an accepted search counted other hops";
+
+/// Each with all ways in which scripts fail. Where nobody stays further left, an
+/// answer of none that comes too early has too few hops alone.
+const WRONG_HOLDERS: [(WrongHolder, &[&str]); 8] = [
+    (WrongHolder::LeaverNamed, &[ANOTHER_LOT]),
+    (WrongHolder::LeftOfTheEndNamed, &[ANOTHER_LOT]),
+    (WrongHolder::SecondLeaverNamed, &[ANOTHER_LOT]),
+    (
+        WrongHolder::NoneAtTheSecondLeaver,
+        &[ANOTHER_LOT, OTHER_HOPS],
+    ),
+    (WrongHolder::NoneAtALeaver, &[ANOTHER_LOT, OTHER_HOPS]),
+    (WrongHolder::LeftStepsNotCounted, &[OTHER_HOPS]),
+    (WrongHolder::MissingLinkCounted, &[OTHER_HOPS]),
+    (WrongHolder::SmallestStaying, &[ANOTHER_LOT]),
+];
+
+#[test]
+fn a_search_goes_past_leavers_wrongly() {
+    for (wrong, ways) in WRONG_HOLDERS {
+        let ways = BTreeSet::from_iter(ways.iter().copied());
+        assert_eq!(ways_caught(Fault::Holder(wrong)), ways, "{wrong:?}");
+    }
+}
+
+/// Each shows in several of the scripts that are written for it.
+#[test]
+fn fixed_scripts_go_past_leavers() {
+    let scripts = fixed::scripts().into_iter();
+    let scripts = scripts.filter(|(name, _)| name.starts_with("past leavers"));
+    let inputs: Vec<_> = scripts.map(|(_, script)| script.concat()).collect();
+    for (wrong, _) in WRONG_HOLDERS {
+        let model = Model::with_fault(Fault::Holder(wrong));
+        let fails = |input: &&Vec<u8>| run_on(model.clone(), input).is_err();
+        let failing = inputs.iter().filter(fails).count();
+        println!("{wrong:?}: {failing} of {}", inputs.len());
+        assert!(failing >= 2, "{wrong:?}: {failing}");
     }
 }
 

@@ -11,7 +11,7 @@ use crate::script::{Numbers, Pools, Vectors};
 
 pub use calls::{call, Style};
 pub use damage::damage;
-pub use sound::sound_record;
+pub use sound::{settled_record, sound_record};
 
 /// Seats, numbers and vectors for one record and the calls on it.
 pub fn pools(random: &mut Random) -> Pools {

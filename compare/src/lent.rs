@@ -200,8 +200,8 @@ fn end_clearing(bytes: &mut Bytes, leaving: u64) {
     }
 }
 
-/// The search of document 000 from level 8, on a settled record.
-/// Refusals: 1, 2, 3, 8, 13.
+/// The search of document 000 from level 8, past lots that are leaving, on a
+/// settled record. Refusals: 1, 2, 3, 8, 13.
 pub fn find(bytes: &[u8], start: u8, scanned: u64) -> Result<Found, Refusal> {
     let sound = sound::test(bytes)?;
     must_be_seated(sound.record, start)?;

@@ -7,6 +7,7 @@ use crate::inputs::{self, Style};
 use crate::lent::{self, from_bytes, to_bytes};
 use crate::model::{Model, Refusal, NO_CONTACT};
 use crate::random::Random;
+use crate::scan::Scan;
 use crate::script::{self, Numbers, Pools, Vectors};
 use crate::text::{self, Command};
 use crate::unsettled::Unsettled;
@@ -117,6 +118,32 @@ fn on_records_that_no_calls_lead_to() {
     for way in Unsettled::ALL.map(Some) {
         assert!(ways.get(&(13, way)) > Some(&10), "{ways:?}");
     }
+}
+
+/// Searches from each lot also give what numbers, vectors and states do, with
+/// leaving lots passed or not, a holder or none, and walks that end above or not.
+#[test]
+fn searches_of_settled_records() {
+    let mut random = Random::new(7);
+    let mut ways = BTreeMap::new();
+    for _ in 0..500 {
+        let pools = inputs::pools(&mut random);
+        let mut bytes = inputs::settled_record(&pools, &mut random);
+        let mut model = from_bytes(&bytes).expect("the record is sound");
+        let seats: Vec<u8> = model.seated().map(|(seat, _)| seat).collect();
+        for seat in seats {
+            let next = random.below(2) as u64;
+            let number = random.pick(&pools.numbers).saturating_sub(next);
+            both(Call::Find { seat, number }, &mut model, &mut bytes);
+            let scan = Scan::of_model(&model, seat, number).expect("the lot is seated");
+            assert_eq!(model.find(seat, number), Ok(scan.found()));
+            let way = (scan.leavers.min(2), scan.holder.is_some(), scan.ends_above);
+            *ways.entry(way).or_insert(0) += 1;
+        }
+    }
+    // All but a walk that ends at a staying lot which is no holder.
+    assert_eq!(ways.len(), 3 * 2 * 2 - 1, "{ways:?}");
+    assert!(ways.values().all(|&count| count > 30), "{ways:?}");
 }
 
 /// A full record, then half of it cleared, each settled by bundles of any size.

@@ -8,7 +8,8 @@
 //!   [`inputs`] makes records and calls from a seed; [`unsettled`] tells apart
 //!   why a search is refused.
 //! - [`text`] is the command language of the program `lots`.
-//! - [`roster`] is document 01's roster with its table of refusals.
+//! - [`roster`] is document 01's roster with its table of refusals; [`scan`] is
+//!   what a search has to answer, by numbers and states.
 //! - [`selfcheck`] runs a script on the model and holds every answer against
 //!   the roster and the graph.
 //! - [`script`] makes scripts, fixed ones and from a seed; [`reach`] says what
@@ -36,6 +37,7 @@ pub mod random;
 pub mod reach;
 pub mod roster;
 mod rules;
+pub mod scan;
 pub mod script;
 mod search;
 pub mod selfcheck;

@@ -14,6 +14,8 @@ mod wrong_bundle;
 #[cfg(test)]
 mod wrong_find;
 #[cfg(test)]
+mod wrong_holder;
+#[cfg(test)]
 mod wrong_meet;
 
 use crate::graph::{Held, Links, Member, Side, LEVELS, NO_LINKS, SEATS, SIDES};
@@ -31,6 +33,8 @@ pub(crate) use fault::Fault;
 pub(crate) use wrong_bundle::WrongBundle;
 #[cfg(test)]
 pub(crate) use wrong_find::WrongFind;
+#[cfg(test)]
+pub(crate) use wrong_holder::WrongHolder;
 #[cfg(test)]
 pub(crate) use wrong_meet::WrongMeet;
 
@@ -267,11 +271,14 @@ impl Model {
         self.phase = Phase::Open;
     }
 
-    /// The search of document 000 from level 8, on a settled record.
-    /// Refusals: 3, 8, 13.
+    /// The search of document 000 from level 8, past lots that are leaving, on a
+    /// settled record. Refusals: 3, 8, 13.
     pub fn find(&self, start: u8, scanned: u64) -> Result<Found, Refusal> {
         self.may_find(start)?;
-        Ok(self.search(start, scanned))
+        let found = self.search(start, scanned);
+        #[cfg(test)]
+        let found = self.wrong_holder(start, scanned, found);
+        Ok(found)
     }
 
     fn may_find(&self, start: u8) -> Result<(), Refusal> {

@@ -2,6 +2,8 @@
 //! answers, each a mark. The driver says which marks the generated scripts leave
 //! out; the fixed scripts reach every one of them.
 
+mod searches;
+
 use crate::graph::{LEVELS, SEATS};
 use crate::model::{Kind, Message, Model, Phase, State};
 use crate::text::{self, Answer, Command};
@@ -22,7 +24,6 @@ const SETTLED: [u64; 7] = [0, 1, 100, 1_000, 10_000, 20_000, 65_800];
 /// What the largest bundle makes, and one more.
 const BUNDLES: [u64; 2] = [u16::MAX as u64, u16::MAX as u64 + 1];
 const PENDING: [usize; 4] = [0, 1, 10, 100];
-const HOPS: [u32; 5] = [0, 1, 2, 10, 63];
 const CLEARINGS: [usize; 3] = [1, 2, 10];
 /// The last is the longest answer of all.
 const PRINTED: [usize; 4] = [4_096, 8_192, 12_288, 13_692];
@@ -89,6 +90,15 @@ pub enum Mark {
     /// A search that a lot which is leaving, in phase open, does not make wait.
     SearchWithLeaver,
     SearchFromLeaver,
+    /// At least that many leaving lots in a row that a search goes past.
+    LeaversPassed(u32),
+    /// The first of them has the scanned number, or is the start, where the walk
+    /// ends, or the left neighbour of a lot above the scanned number, where it ends.
+    SearchForLeaver,
+    StartPassed,
+    NeighbourOfEndPassed,
+    /// None, since all lots not above the scanned number are leaving.
+    NobodyStays,
     /// `F` refused by a row, in phase open or clearing, with something pending or
     /// not.
     SearchRefused(u8, Clearing, Pending),
@@ -120,8 +130,6 @@ pub fn all() -> BTreeSet<Mark> {
     all.extend([JoinsAscending, JoinsDescending, JoinsAlternating]);
     all.extend([LargestFirst, SmallestFirst, LeavingContact]);
     all.extend([JoinWhilePending, LeaveWhilePending, SeatAgain, NumberAgain]);
-    all.extend([SearchFromAll, SearchFor(0), SearchFor(u64::MAX), Nobody]);
-    all.extend([SearchWithLeaver, SearchFromLeaver]);
     all.extend(INPUTS.map(InputLength));
     all.extend(LENGTHS.map(LineLength));
     all.extend(LENGTHS.map(UnfinishedLength));
@@ -134,14 +142,12 @@ pub fn all() -> BTreeSet<Mark> {
     }
     all.extend(seats.clone().map(Joined));
     all.extend(seats.clone().map(JoinedAt));
-    all.extend(seats.clone().map(Left));
-    all.extend(seats.map(Holder));
+    all.extend(seats.map(Left));
     all.extend((0..=u8::MAX).map(Vector));
     all.extend(delivered());
     all.extend(SETTLED.map(Settled));
     all.extend(BUNDLES.map(SettledExactly));
     all.extend(CLEARINGS.map(Clearings));
-    all.extend(HOPS.map(Hops));
     all.extend(COUNTED.map(CountedLots));
     all.extend(PENDING.map(CountedPending));
     all.extend(PRINTED.map(PrintedLength));
@@ -151,19 +157,8 @@ pub fn all() -> BTreeSet<Mark> {
     for clearing in [false, true] {
         all.extend([false, true].map(|pending| Printed(clearing, pending)));
     }
-    all.extend(searches_refused());
+    all.extend(searches::all());
     all
-}
-
-/// 3 and 8 come before 13, whatever the record; 13 only where it is not settled.
-fn searches_refused() -> Vec<Mark> {
-    let mut marks = Vec::new();
-    for (clearing, pending) in [(false, false), (false, true), (true, false), (true, true)] {
-        let rows = [3, 8, 13].into_iter();
-        let rows = rows.filter(|&row| row != 13 || clearing || pending);
-        marks.extend(rows.map(|row| Mark::SearchRefused(row, clearing, pending)));
-    }
-    marks
 }
 
 const INPUTS: [usize; 8] = [0, 1, 4095, 4096, 4097, 8191, 8192, 8193];
@@ -295,12 +290,10 @@ impl Reach {
         };
         let letter = char::from(line[0]);
         if let Answer::No(refusal) = answer {
-            let row = refusal.number();
             if let Command::Find { .. } = call {
-                let clearing = before.phase() == Phase::Clearing;
-                self.note(Mark::SearchRefused(row, clearing, is_pending(before)));
+                self.refused_search(*refusal, before);
             }
-            return self.note(Mark::Refused(letter, row));
+            return self.note(Mark::Refused(letter, refusal.number()));
         }
         self.note(Mark::Accepted(letter));
         if !matches!(call, Command::Find { .. } | Command::Print) {
@@ -399,21 +392,6 @@ impl Reach {
         }
         let emptied = turned == (Phase::Clearing, Phase::Open) && after.counts().lots == 0;
         self.note_if(emptied, Mark::EmptyAgain);
-    }
-
-    fn search(&mut self, start: u8, number: u64, answer: &Answer, before: &Model) {
-        let Answer::Found(found) = answer else {
-            return;
-        };
-        self.note_if(number == 0 || number == u64::MAX, Mark::SearchFor(number));
-        for (seat, _) in states(before).filter(|&(_, state)| state == State::Leaving) {
-            self.note(Mark::SearchWithLeaver);
-            self.note_if(seat == start, Mark::SearchFromLeaver);
-        }
-        self.note(found.holder.map_or(Mark::Nobody, Mark::Holder));
-        self.note_if(HOPS.contains(&found.hops), Mark::Hops(found.hops));
-        self.starts.insert(start);
-        self.note_if(self.starts.len() == SEATS, Mark::SearchFromAll);
     }
 
     fn print(&mut self, answer: &Answer) {

@@ -108,16 +108,25 @@ impl Roster {
         }
     }
 
+    /// All lots with their states, by seat.
+    pub fn lots(&self) -> Vec<(Member, State)> {
+        let lot = |(&seat, lot): (&u8, &Lot)| {
+            let member = Member {
+                seat,
+                number: lot.number,
+                vector: lot.vector,
+            };
+            (member, lot.state)
+        };
+        self.lots.iter().map(lot).collect()
+    }
+
     /// All lots in phase open, the staying ones in clearing; by seat.
     pub fn members(&self) -> Vec<Member> {
-        let member = |(&seat, lot): (&u8, &Lot)| Member {
-            seat,
-            number: lot.number,
-            vector: lot.vector,
-        };
-        let is_member =
-            |(_, lot): &(&u8, &Lot)| self.phase == Phase::Open || lot.state == State::Staying;
-        self.lots.iter().filter(is_member).map(member).collect()
+        let open = self.phase == Phase::Open;
+        let is_member = |(_, state): &(Member, State)| open || *state == State::Staying;
+        let members = self.lots().into_iter().filter(is_member);
+        members.map(|(member, _)| member).collect()
     }
 
     /// Whether the readings of a model give this phase and these lots.

@@ -42,6 +42,8 @@ enum Step {
     Find,
     /// A search for one number from every seated lot.
     FindFromAll,
+    /// Searches of a settled record around lots that leave.
+    FindPastLeavers,
     Print,
     /// A delivery of five numbers that are likely not pending.
     Absent,
@@ -100,6 +102,7 @@ const SMALL: Family = Family {
         (Step::Print, 10),
         (Step::Find, 5),
         (Step::FindFromAll, 2),
+        (Step::FindPastLeavers, 2),
     ],
 };
 
@@ -116,6 +119,7 @@ const CROSSING: Family = Family {
         (Step::Turn, 4),
         (Step::Clear, 1),
         (Step::Find, 6),
+        (Step::FindPastLeavers, 1),
         (Step::Print, 8),
     ],
 };
@@ -131,6 +135,7 @@ const DEPARTING: Family = Family {
         (Step::Depart, 6),
         (Step::Deliver, 4),
         (Step::Find, 2),
+        (Step::FindPastLeavers, 2),
         (Step::Print, 1),
     ],
 };
@@ -149,6 +154,7 @@ const REUSED: Family = Family {
         (Step::Settle, 3),
         (Step::Clear, 2),
         (Step::Find, 8),
+        (Step::FindPastLeavers, 3),
         (Step::Print, 15),
     ],
 };
@@ -167,6 +173,7 @@ const EDGE: Family = Family {
         (Step::Clear, 1),
         (Step::Find, 30),
         (Step::FindFromAll, 4),
+        (Step::FindPastLeavers, 3),
         (Step::Print, 8),
     ],
 };
@@ -185,6 +192,7 @@ const EQUAL: Family = Family {
         (Step::Settle, 1),
         (Step::Clear, 2),
         (Step::Find, 10),
+        (Step::FindPastLeavers, 2),
         (Step::Print, 10),
     ],
 };
@@ -204,6 +212,7 @@ const FULL: Family = Family {
         (Step::Clear, 1),
         (Step::Find, 40),
         (Step::FindFromAll, 1),
+        (Step::FindPastLeavers, 1),
         (Step::Print, 10),
         (Step::Absent, 4),
     ],
@@ -280,6 +289,7 @@ const MIXED: Family = Family {
         (Step::Empty, 1),
         (Step::Find, 10),
         (Step::FindFromAll, 1),
+        (Step::FindPastLeavers, 1),
         (Step::Print, 10),
         (Step::Absent, 8),
         (Step::Refused, 8),

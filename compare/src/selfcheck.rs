@@ -9,6 +9,7 @@ use crate::graph::{self, Links, Member};
 use crate::model::{Found, Message, Model};
 use crate::reach::{Mark, Reach};
 use crate::roster::Roster;
+use crate::scan::Scan;
 use crate::text::{self, Answer, Command};
 use std::collections::BTreeSet;
 
@@ -62,8 +63,9 @@ pub(crate) fn run_on(model: Model, input: &[u8]) -> Result<Run, Failure> {
             let limits = bundles::limits(run.lines);
             bundles::check(&checked.model, limits).map_err(failure)?;
         }
-        if let Some(Command::Find { .. }) = command {
-            run.searches.count(&answer);
+        if let Some(Command::Find { start, number }) = command {
+            let scan = Scan::of_model(&before, start, number);
+            run.searches.count(&answer, scan);
         }
         reach.line(line, &answer, &before, &checked.model, deliveries);
         answer.print(&mut run.output);
@@ -126,7 +128,7 @@ impl Checked {
         }
         self.roster.accept(call);
         match call {
-            Command::Find { number, .. } => self.search(number, answer, before),
+            Command::Find { start, number } => self.search(start, number, answer, before),
             Command::Print => holds(self.model == *before, "printing changed the record"),
             Command::Deliver(message) => {
                 self.delivery(message, before)?;
@@ -184,17 +186,23 @@ impl Checked {
         members.iter().zip(graph::links(members)).all(reads)
     }
 
-    fn search(&self, scanned: u64, answer: &Answer, before: &Model) -> Check {
+    fn search(&self, start: u8, scanned: u64, answer: &Answer, before: &Model) -> Check {
         holds(self.model == *before, "a search changed the record")?;
-        let Answer::Found(Found { holder, .. }) = *answer else {
+        let Answer::Found(Found { holder, hops }) = *answer else {
             return Err("a search gave no answer");
         };
-        let members = self.roster.members();
-        let not_above = members.iter().filter(|member| member.number <= scanned);
-        let right = not_above.max_by_key(|member| member.number);
+        let lots = self.roster.lots();
+        let scan = Scan::of(&lots, start, scanned).ok_or("a search started from no lot")?;
+        let right = scan.found();
         holds(
-            holder == right.map(|member| member.seat),
+            holder == right.holder,
             "an accepted search gave another lot",
+        )?;
+        holds(hops == right.hops, "an accepted search counted other hops")?;
+        let most = lots.len() as u32 - 1;
+        holds(
+            scan.moves <= most && scan.steps() <= most,
+            "a search moves or steps left as often as there are lots",
         )
     }
 }

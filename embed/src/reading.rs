@@ -66,9 +66,9 @@ pub struct Counts {
 /// The answer of a search.
 #[derive(Clone, Copy, PartialEq, Eq, Hash, Debug)]
 pub struct Found {
-    /// The seat of the lot that the scanned number belongs to, if any.
+    /// The seat of the staying lot that the scanned number belongs to, if any.
     pub holder: Option<u8>,
-    /// The moves between lots.
+    /// The lots that were stepped onto, leaving ones too.
     pub hops: u64,
 }
 

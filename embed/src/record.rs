@@ -127,7 +127,7 @@ impl<B: AsMut<[u8]>> Record<B> {
     }
 
     /// Marks a staying lot as leaving. It goes on taking part until the turns
-    /// clear it.
+    /// clear it, but from now on it is the holder of no scan.
     ///
     /// Refusals: 1 wrong size, 2 unsound, 3 no such seat, 7 clearing, 8 empty
     /// seat, 9 already leaving.
@@ -253,12 +253,15 @@ impl<B: AsRef<[u8]>> Record<B> {
         self.bytes.as_ref()
     }
 
-    /// Looks up a scanned number from the lot on a seat: the holder is the lot
-    /// with the largest number not above it.
+    /// Looks up a scanned number from the lot on a seat: the holder is the staying
+    /// lot with the largest number not above it, none if no staying lot has such a
+    /// number.
     ///
     /// Every accepted scan gives the right holder. It waits for a settled record:
     /// phase open, nothing pending, and [`check`](Record::check) would say yes.
-    /// Leaving lots in phase open are scanned as others.
+    /// Lots that are leaving do not make it wait, and it may start from one. Where
+    /// it comes to one, it goes on to the left until a lot stays or none is left;
+    /// each lot stepped onto is one hop.
     ///
     /// Refusals: 1 wrong size, 2 unsound, 3 no such seat, 8 empty seat, 13
     /// unsettled.
@@ -274,6 +277,12 @@ impl<B: AsRef<[u8]>> Record<B> {
     /// assert_eq!(record.find(0, 250), Err(Refusal::Unsettled));
     /// record.bundle(50)?;
     /// assert_eq!(record.find(0, 250)?, Found { holder: Some(1), hops: 1 });
+    ///
+    /// // 200 may no longer be printed, then nor may 100.
+    /// record.leave(1)?;
+    /// assert_eq!(record.find(0, 250)?, Found { holder: Some(0), hops: 2 });
+    /// record.leave(0)?;
+    /// assert_eq!(record.find(0, 250)?, Found { holder: None, hops: 2 });
     /// # Ok::<(), Refusal>(())
     /// ```
     #[doc(alias = "lots_find")]

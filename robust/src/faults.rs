@@ -4,6 +4,7 @@
 mod behaviour;
 mod blind;
 mod bundles;
+mod holders;
 mod meetings;
 mod searches;
 

@@ -2,7 +2,7 @@
 //! where the one before ended; between them are calls on damaged copies.
 
 use crate::judge::{Difference, Judge};
-use crate::tally::Tally;
+use crate::tally::{Source, Tally};
 use compare::call::Call;
 use compare::inputs::{self, Style};
 use compare::lent;
@@ -75,14 +75,14 @@ impl Round<'_> {
         let call = inputs::call(&self.record, self.style, &self.pools, &mut self.random);
         if !self.random.one_in(DAMAGED) {
             let record = std::mem::take(&mut self.record);
-            let after = self.call(&record, call);
+            let after = self.call(&record, call, Source::Calls);
             self.record = record;
             after?;
             return self.go_on();
         }
         let mut damaged = self.record.clone();
         inputs::damage(&mut damaged, &mut self.random);
-        self.call(&damaged, call)?;
+        self.call(&damaged, call, Source::Damage)?;
         // A record that is sound in spite of it may go on, a few times.
         let sound = lent::validate(self.judge.after()).is_ok();
         match sound && self.random.one_in(4) {
@@ -91,7 +91,7 @@ impl Round<'_> {
         }
     }
 
-    fn call(&mut self, record: &[u8], call: Call) -> Result<(), Box<Failure>> {
+    fn call(&mut self, record: &[u8], call: Call, source: Source) -> Result<(), Box<Failure>> {
         let fill = self.random.next();
         let mut made = self.judge.call(record, call, fill);
         if let (Ok(answer), true) = (made, self.random.one_in(MODEL)) {
@@ -101,7 +101,7 @@ impl Round<'_> {
         }
         match made {
             Ok(answer) => {
-                self.tally.count(call, answer, record);
+                self.tally.count(call, answer, record, source);
                 Ok(())
             }
             Err(difference) => Err(Box::new(Failure {

@@ -1,11 +1,15 @@
 //! How often each call met each answer.
 
-pub(crate) mod searches;
+pub(crate) mod leavers;
+mod searches;
 
 use compare::call::{Answer, Call, NAMES, REFUSALS};
 use compare::model::Refusal;
+use leavers::Leavers;
 use searches::Searches;
 use std::fmt;
+
+pub use leavers::Source;
 
 /// Accepted, and each refusal.
 const ANSWERS: usize = 1 + Refusal::ORDER.len();
@@ -42,16 +46,20 @@ pub struct Tally {
     calls: [[u64; ANSWERS]; NAMES.len()],
     cases: [u64; CASES.len()],
     searches: Searches,
+    leavers: Leavers,
     /// Calls that were made on the model too.
     pub on_model: u64,
 }
 
 impl Tally {
     /// Takes in a call of a record.
-    pub fn count(&mut self, call: Call, answer: Answer, record: &[u8]) {
+    pub fn count(&mut self, call: Call, answer: Answer, record: &[u8], source: Source) {
         self.calls[call.index()][usize::from(answer.refusal)] += 1;
-        if let Call::Find { .. } = call {
-            self.searches.count(answer, record);
+        if let Call::Find { seat, number } = call {
+            match answer.refusal {
+                0 => self.leavers.count(seat, number, record, source),
+                _ => self.searches.count(answer, record),
+            }
         }
         if answer.refusal != 0 {
             return;
@@ -93,6 +101,7 @@ impl Tally {
             .filter(|(_, count)| *count == 0);
         gaps.extend(never.map(|(case, _)| format!("{case} never met")));
         gaps.extend(self.searches.gaps());
+        gaps.extend(self.leavers.gaps());
         gaps
     }
 }
@@ -124,7 +133,7 @@ impl fmt::Display for Tally {
             write!(f, "  {case}: {count}")?;
         }
         writeln!(f)?;
-        write!(f, "{}", self.searches)
+        write!(f, "{}{}", self.searches, self.leavers)
     }
 }
 
@@ -138,10 +147,10 @@ mod tests {
     fn gaps_are_answers_that_the_table_allows_and_others() {
         let (mut tally, record) = (Tally::default(), opened());
         let mut count = |call, answer| {
-            tally.count(call, answer, &record);
+            tally.count(call, answer, &record, Source::Calls);
             tally.gaps()
         };
-        let searches = Searches::default().gaps().len();
+        let searches = Searches::default().gaps().len() + Leavers::default().gaps().len();
         let allowed: usize = REFUSALS.iter().map(|rows| rows.len() + 1).sum();
         let all = allowed + CASES.len() + searches;
         assert_eq!(count(Call::Turn, Answer::refused(11)).len(), all - 1);
@@ -157,17 +166,25 @@ mod tests {
         let (mut tally, mut record) = (Tally::default(), opened());
         let find = Call::Find { seat: 0, number: 7 };
         lent::join(&mut record, 0, 7, 0, 255).expect("the seat is free");
+        let searched = |tally: &Tally| [tally.searches.gaps(), tally.leavers.gaps()].concat();
         let mut count = |record: &mut [u8]| {
-            let before = tally.searches.gaps();
-            tally.count(find, find.on_bytes(record), record);
-            let after = tally.searches.gaps();
+            let before = searched(&tally);
+            tally.count(find, find.on_bytes(record), record, Source::Calls);
+            let after = searched(&tally);
             let met = before.into_iter().filter(|gap| !after.contains(gap));
-            met.collect::<Vec<_>>().concat()
+            met.collect::<Vec<_>>()
         };
-        assert_eq!(count(&mut record), "");
+        assert!(count(&mut record).is_empty());
         lent::leave(&mut record, 0).expect("the lot stays");
-        assert_eq!(count(&mut record), "find never accepted with a leaver");
+        let accepted = |case| format!("find of a record of calls never accepted {case}");
+        let cases = [
+            "with a leaver",
+            "from a leaver",
+            "past one leaver",
+            "past leavers to none",
+        ];
+        assert_eq!(count(&mut record), cases.map(accepted));
         record[PHASE_AT] = 1;
-        assert_eq!(count(&mut record), "find never met 13 by Clearing");
+        assert_eq!(count(&mut record), ["find never met 13 by Clearing"]);
     }
 }

@@ -22,6 +22,8 @@ pub enum Style {
     Asking,
     /// Searches, mostly of records at rest, with few changes between them.
     Scanning,
+    /// The same while lots leave and turns are rare.
+    Closing,
 }
 
 #[derive(Clone, Copy)]
@@ -40,12 +42,13 @@ enum Name {
 }
 
 impl Style {
-    pub const ALL: [Style; 5] = [
+    pub const ALL: [Style; 6] = [
         Style::Busy,
         Style::Draining,
         Style::Turning,
         Style::Asking,
         Style::Scanning,
+        Style::Closing,
     ];
 
     fn weights(self) -> [(Name, usize); 10] {
@@ -55,6 +58,7 @@ impl Style {
             Style::Turning => [1, 20, 40, 200, 40, 0, 90, 10, 20, 20],
             Style::Asking => [1, 10, 5, 50, 5, 0, 10, 100, 80, 150],
             Style::Scanning => [0, 15, 1, 5, 0, 60, 20, 400, 10, 10],
+            Style::Closing => [0, 15, 60, 5, 0, 60, 10, 400, 10, 10],
         };
         [
             (Name::Open, open),

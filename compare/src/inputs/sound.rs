@@ -19,6 +19,9 @@ struct Lot {
 
 /// Seats all lots of the pool, or some of them.
 pub fn sound_record(pools: &Pools, random: &mut Random) -> Vec<u8> {
+    if random.one_in(8) {
+        return settled_record(pools, random);
+    }
     let clearing = random.one_in(2);
     let mut lots = some_lots(pools, random);
     link(&mut lots, clearing, random);
@@ -31,6 +34,15 @@ pub fn sound_record(pools: &Pools, random: &mut Random) -> Vec<u8> {
         }
     }
     bytes
+}
+
+/// As [`sound_record`], in phase open with the links of the graph and nothing
+/// pending; some lots may be leaving, or all.
+pub fn settled_record(pools: &Pools, random: &mut Random) -> Vec<u8> {
+    let clearing = false;
+    let mut lots = some_lots(pools, random);
+    link_members(&mut lots, clearing);
+    written(&lots, clearing)
 }
 
 fn some_lots(pools: &Pools, random: &mut Random) -> Vec<Lot> {

@@ -1,11 +1,14 @@
 //! The faults of document 01's "Faults that pass a first trial", bundles that
-//! are not #101's, searches that are not #102's and meetings that write a link
-//! wrongly, #103. Only a test can switch one on, to see that it is caught.
+//! are not #101's, searches that are refused otherwise than #102 says, meetings
+//! that write a link wrongly, #103, and searches that meet leaving lots otherwise
+//! than #104 says. Only a test can switch one on, to see that it is caught.
 
 #[cfg(test)]
 use super::wrong_bundle::WrongBundle;
 #[cfg(test)]
 use super::wrong_find::WrongFind;
+#[cfg(test)]
+use super::wrong_holder::WrongHolder;
 #[cfg(test)]
 use super::wrong_meet::WrongMeet;
 use super::Model;
@@ -23,6 +26,8 @@ pub(crate) enum Fault {
     Find(WrongFind),
     #[cfg(test)]
     Meet(WrongMeet),
+    #[cfg(test)]
+    Holder(WrongHolder),
 }
 
 impl Model {

@@ -110,6 +110,7 @@ impl Writer {
             Step::Empty => self.empty(),
             Step::Find => self.find(),
             Step::FindFromAll => self.find_from_all(),
+            Step::FindPastLeavers => self.find_past_leavers(),
             Step::Print => self.say("P"),
             Step::Absent => self.absent(),
             Step::Refused => self.refused(),
@@ -342,6 +343,7 @@ impl Writer {
             self.say("T");
         }
         self.departures();
+        self.find_if_settled();
         self.say("T");
         self.say("P");
         self.drain();
@@ -360,6 +362,10 @@ impl Writer {
     /// A number of the pool or next to one.
     fn some_number(&mut self) -> u64 {
         let number = self.random.pick(&self.pools.numbers);
+        self.near(number)
+    }
+
+    fn near(&mut self, number: u64) -> u64 {
         match self.random.below(4) {
             0 => number.saturating_add(1),
             1 => number.saturating_sub(1),

@@ -1,12 +1,16 @@
 //! The worked cases of document 01 that speak of calls, (b) to (h), (k) and (l),
-//! and the scan of document 02 that waits.
+//! and the scans of document 02 that wait and that go past leaving lots.
 
 use crate::common::{deliver_all, q, refused, three_lots, Owned};
 use lots_record::{Counts, Found, Lot, Phase, Record, State, LEFT, RIGHT};
 
-fn find_in_q(start: u8, number: u64) -> (Option<u8>, u64) {
-    let Found { holder, hops } = q().find(start, number).unwrap();
+fn find(record: &Owned, start: u8, number: u64) -> (Option<u8>, u64) {
+    let Found { holder, hops } = record.find(start, number).unwrap();
     (holder, hops)
+}
+
+fn find_in_q(start: u8, number: u64) -> (Option<u8>, u64) {
+    find(&q(), start, number)
 }
 
 #[test]
@@ -82,6 +86,7 @@ fn case_h_no_contact() {
 fn case_k_the_middle_lot_leaves() {
     let mut record = q();
     record.leave(1).unwrap();
+    assert_eq!(find(&record, 0, 250), (Some(0), 2));
     record.turn().unwrap();
     assert_eq!(record.counts().unwrap().phase, Phase::Clearing);
     assert_eq!(record.check(), Ok(false));
@@ -138,18 +143,36 @@ fn a_scan_waits(record: &Owned) {
 #[test]
 fn a_scan_waits_for_a_settled_record() {
     let mut record = three_lots();
-    let found = |holder, hops| {
-        let holder = Some(holder);
-        Ok(Found { holder, hops })
-    };
     deliver_all_waiting(&mut record);
-    assert_eq!(record.find(0, 250), found(1, 1));
+    assert_eq!(find(&record, 0, 250), (Some(1), 1));
     record.leave(1).unwrap();
-    assert_eq!(record.find(0, 250), found(1, 1));
-    assert_eq!(record.find(1, 250), found(1, 0));
+    assert_eq!(find(&record, 0, 250), (Some(0), 2));
+    assert_eq!(find(&record, 1, 250), (Some(0), 1));
     record.turn().unwrap();
     deliver_all_waiting(&mut record);
     a_scan_waits(&record);
     record.turn().unwrap();
-    assert_eq!(record.find(0, 250), found(0, 0));
+    assert_eq!(find(&record, 0, 250), (Some(0), 0));
+}
+
+/// Lot 200 leaves, then 300, then 100.
+#[test]
+fn a_leaving_lot_takes_no_scans() {
+    let mut record = q();
+    record.leave(1).unwrap();
+    // From its left, from its right past the walk's end, from itself; by its number.
+    assert_eq!(find(&record, 0, 250), (Some(0), 2));
+    assert_eq!(find(&record, 2, 250), (Some(0), 2));
+    assert_eq!(find(&record, 1, 250), (Some(0), 1));
+    assert_eq!(find(&record, 0, 200), (Some(0), 2));
+    // Not on the way.
+    assert_eq!(find(&record, 0, 300), (Some(2), 1));
+    assert_eq!(find(&record, 0, 99), (None, 0));
+    record.leave(2).unwrap();
+    assert_eq!(find(&record, 0, 300), (Some(0), 3));
+    assert_eq!(find(&record, 2, 300), (Some(0), 2));
+    record.leave(0).unwrap();
+    assert_eq!(find(&record, 0, 300), (None, 3));
+    assert_eq!(find(&record, 0, 250), (None, 2));
+    assert_eq!(find(&record, 0, 100), (None, 0));
 }

@@ -98,15 +98,36 @@ fn a_full_record_settles_and_finds_every_holder() {
             assert_eq!(record.find(0, scanned).unwrap().holder, Some(seat));
         }
     }
+    // Of the lots, ascending by number, those on the seats above stay.
     for seat in 0..64 {
         record.leave(seat).unwrap();
-        assert_eq!(
-            record.find(seat, u64::MAX).unwrap().holder,
-            Some(lots[63].0)
-        );
+        let stays = |lot: &&(u8, u64, u8)| lot.0 > seat;
+        let largest = lots.iter().rev().find(stays).map(|lot| lot.0);
+        assert_eq!(record.find(seat, u64::MAX).unwrap().holder, largest);
     }
     record.turn().unwrap();
     assert_eq!(record.find(0, 0), Err(Refusal::Unsettled));
+}
+
+/// All lots are one list at each level: a scan walks along it to the end, and then
+/// back to the only lot that stays, or to nobody.
+#[test]
+fn a_full_row_of_leaving_lots() {
+    let mut record = Record::new();
+    for seat in 0..64u8 {
+        let contact = seat.checked_sub(1);
+        record.join(seat, u64::from(seat), 0, contact).unwrap();
+    }
+    deliver_all(&mut record);
+    for seat in 1..64 {
+        record.leave(seat).unwrap();
+    }
+    let found = |holder, hops| Ok(Found { holder, hops });
+    assert_eq!(record.find(0, 63), found(Some(0), 126));
+    assert_eq!(record.find(63, 63), found(Some(0), 63));
+    record.leave(0).unwrap();
+    assert_eq!(record.find(0, 63), found(None, 126));
+    assert_eq!(record.find(63, 63), found(None, 63));
 }
 
 /// One bit in all, the first or the last that a message of phase open has here.

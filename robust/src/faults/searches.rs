@@ -4,7 +4,7 @@
 use super::{caught, put_right, right};
 use crate::judge::Difference;
 use crate::sys::Outcome;
-use crate::tally::searches::has_leaver;
+use crate::tally::leavers::has_leaver;
 use compare::call::{Answer, Call};
 use compare::graph::LEVELS;
 use compare::lent::place::*;

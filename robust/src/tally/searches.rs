@@ -1,9 +1,7 @@
-//! Searches told apart by the record: those of a settled one with a leaver, and
-//! the refusals that each way of being unsettled met.
+//! Searches told apart by the record: the refusals that each way of being unsettled
+//! met.
 
 use compare::call::Answer;
-use compare::lent::place::{ENTRIES_AT, ENTRY, PENDING_AT, STATE_AT};
-use compare::model::State;
 use compare::unsettled::Unsettled;
 use std::fmt;
 
@@ -12,7 +10,6 @@ const ROWS: [u8; 3] = [3, 8, 13];
 
 #[derive(Clone, PartialEq, Eq, Debug, Default)]
 pub struct Searches {
-    with_leaver: u64,
     /// By the way and the row.
     unsettled: [[u64; ROWS.len()]; Unsettled::ALL.len()],
 }
@@ -20,9 +17,6 @@ pub struct Searches {
 impl Searches {
     /// Takes in a search of a record.
     pub fn count(&mut self, answer: Answer, record: &[u8]) {
-        if answer.refusal == 0 {
-            self.with_leaver += u64::from(has_leaver(record));
-        }
         let Some(row) = ROWS.iter().position(|&row| row == answer.refusal) else {
             return;
         };
@@ -35,9 +29,6 @@ impl Searches {
     /// What was never met.
     pub fn gaps(&self) -> Vec<String> {
         let mut gaps = Vec::new();
-        if self.with_leaver == 0 {
-            gaps.push(String::from("find never accepted with a leaver"));
-        }
         for (way, counts) in Unsettled::ALL.iter().zip(self.unsettled) {
             let never = ROWS.iter().zip(counts).filter(|(_, count)| *count == 0);
             gaps.extend(never.map(|(row, _)| format!("find never met {row} by {way:?}")));
@@ -46,16 +37,8 @@ impl Searches {
     }
 }
 
-/// Whether a lot of a record is leaving.
-pub(crate) fn has_leaver(record: &[u8]) -> bool {
-    let entries = record[ENTRIES_AT..PENDING_AT].chunks(ENTRY);
-    let mut states = entries.map(|entry| entry[STATE_AT]);
-    states.any(|state| state == State::Leaving as u8)
-}
-
 impl fmt::Display for Searches {
     fn fmt(&self, f: &mut fmt::Formatter) -> fmt::Result {
-        writeln!(f, "find accepted with a leaver: {}", self.with_leaver)?;
         for (way, counts) in Unsettled::ALL.iter().zip(self.unsettled) {
             write!(f, "find unsettled by {:17}", format!("{way:?}"))?;
             for (row, count) in ROWS.iter().zip(counts) {
