@@ -126,19 +126,26 @@ impl Walk {
         requires { ⌜ ReadyLeft (now rec) self ⌝ }
         ensures { λ r. ⌜ WentLeft (now (rec .entry)) self r ⌝ }
     {
-        let y = record::link(rec, self.seat, 0, LEFT) as usize;
-        if y >= SEATS {
-            return self;
+        let mut s = self.seat;
+        let mut h = self.hops;
+        let mut y = record::link(rec, s, 0, LEFT) as usize;
+        while y < SEATS {
+            s = y;
+            h = h + 1;
+            if is_staying(rec, s) {
+                return Walk {
+                    seat: s,
+                    level: 0,
+                    hops: h,
+                };
+            }
+            y = record::link(rec, s, 0, LEFT) as usize;
         }
-        let w = Walk {
-            seat: y,
+        Walk {
+            seat: s,
             level: 0,
-            hops: self.hops + 1,
-        };
-        if is_staying(rec, y) {
-            return w;
+            hops: h,
         }
-        w.leftward(rec)
     }
 
     // From the end of the walk to where the holder of x is: no step if the lot may be printed.
