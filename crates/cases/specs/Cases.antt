@@ -1,5 +1,5 @@
--- Document 01's proved cases (a) to (l), with document 02's scan in (k), one table: 64 seats, width 8, on the bytes, over the definitions that the contracts of the public
--- calls cite; the lists of calls are those of Lists.antt. Assumes nothing.
+-- Document 01's proved cases (a) to (l), with document 02's scan in (k), one table: 64 seats, width 8, on the bytes, over the definitions that
+-- the contracts of the public calls cite; the lists of calls are those of Lists.antt. Assumes nothing.
 use Prim.Native.Nat.{ℕ}
 use mathlib.Core.Path.{_≡_}
 use mathlib.Core.Option.{Option, none, some}

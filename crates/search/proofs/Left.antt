@@ -26,14 +26,15 @@ use Rattle.search.proofs.Step.{uptoL}
 use Rattle.search.proofs.Hops.{Toward, stay, onward, toward-last, toward-once, toward-rank}
 
 -- a lot may be printed exactly if it stays and is not above x
-pub is-printable : (staying : ℕ → Bool) (number : ℕ → ℕ) (x s : ℕ) → staying s ≡ true → number s ≤ x → printable staying number x s ≡ true
-unfolding printable
-is-printable staying number x s e l = rw (e, le-leb (number s) x l)
+module _ (staying : ℕ → Bool) (number : ℕ → ℕ) (x s : ℕ) where
+  pub is-printable : staying s ≡ true → number s ≤ x → printable staying number x s ≡ true
+  unfolding printable
+  is-printable e l = rw (e, le-leb (number s) x l)
 
-pub printable-is : (staying : ℕ → Bool) (number : ℕ → ℕ) (x s : ℕ) → printable staying number x s ≡ true → (staying s ≡ true) × (number s ≤ x)
-unfolding printable
-printable-is staying number x s e =
-    (T-true (and-fst (staying s) (leb (number s) x) (true-T e)), leb→le (number s) x (and-snd (staying s) (leb (number s) x) (true-T e)))
+  pub printable-is : printable staying number x s ≡ true → (staying s ≡ true) × (number s ≤ x)
+  unfolding printable
+  printable-is e =
+      (T-true (and-fst (staying s) (leb (number s) x) (true-T e)), leb→le (number s) x (and-snd (staying s) (leb (number s) x) (true-T e)))
 
 -- steps to the left are those of specs/ with as much fuel
 leftward-steps : {staying : ℕ → Bool} {L : Links} {o : Option ℕ} {p : List ℕ} → Leftward staying L o p → (f : ℕ) → length p ≤ f
