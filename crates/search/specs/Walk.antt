@@ -45,8 +45,7 @@ module _ (number : ℕ → ℕ) (L : Links) (x : ℕ) where
   unfoldable pub path : (N W s : ℕ) → List ℕ
   path N W s = walk (N + W + 1) s W
 
--- Where the walk leads (document 01, "Find"; document 02, #104): to the holder, and on to one that stays.
--- Lot s may be printed on a label for x: it stays, and its number is not above x
+-- lot s may be printed on a label for x (document 02, #104): it stays, and its number is not above x
 unfoldable pub printable : (staying : ℕ → Bool) (number : ℕ → ℕ) (x s : ℕ) → Bool
 printable staying number x s = staying s && leb (number s) x
 
