@@ -25,17 +25,18 @@ use Rattle.record.proofs.Sound.{sound-is}
 use Rattle.search.specs.Walk.{Found}
 use Rattle.search.specs.Right.{Holds, RightHolder}
 use Rattle.search.specs.inner.Ordered.{Ordered}
+use Rattle.search.specs.inner.Search.{Search}
 use Rattle.search.proofs.Search.{path-search}
 use Rattle.search.proofs.Hops.{search-seated}
-use Rattle.search.proofs.Left.{left-once, left-ends, left-few, find-by}
-use Rattle.search.proofs.Holder.{none-exactly, some-exactly}
+use Rattle.search.proofs.Left.{left-once, left-ends, left-below, left-few, find-by}
+use Rattle.search.proofs.Holder.{none-exactly, some-exactly, search-end, end-under}
 use Rattle.search.proofs.Check.{checked-holder}
 use Rattle.check_links.specs.Settled.{settled}
 use Rattle.check_links.proofs.Facts.{link-wrong-no}
 use Rattle.check_links.proofs.Settled.{Settled, settled-is, unsettled-exactly}
 use Rattle.check_links.proofs.Whole.{lots-laws}
 use Rattle.find.specs.Find.{FindAnswer, searched, scanOf, findRefusal, findIn}
-use Rattle.find.specs.Way.{end, LeftSteps}
+use Rattle.find.specs.Way.{moves, end, LeftSteps}
 use Rattle.find.proofs.Fits.{sound-fit}
 use Rattle.find.proofs.Refused.{Accepted, accepted, waits, answers}
 
@@ -120,8 +121,12 @@ module _ (l : List ℕ) (b : AreBytes l) (s x : ℕ) (e : findIn l s x .refused 
         ∙ ap (λ (f : Found). f .hops) (find-by (stays (seatsIn l)) (seatsIn l .number) (meaning l .link) x seats width s refl refl);
     once = left-once o (stays (seatsIn l)) x (end l s x) m;
     ends = left-ends o (stays (seatsIn l)) x (end l s x) m;
+    below = left-below o (stays (seatsIn l)) x (end l s x) m (end-under o m (search-end r));
     few = left-few o (stays (seatsIn l)) x (end l s x) m;
   }
     where
+      r : Search (seatsIn l .number) (meaning l .link) x s width (moves l s x)
+      r = path-search o (A .lot)
+
       m : T (seated (seatsIn l) (end l s x))
-      m = search-seated o (A .lot) (omega arith) (path-search {x = x} o (A .lot))
+      m = search-seated o (A .lot) (omega arith) r

@@ -1,10 +1,10 @@
 -- The lots that an accepted scan steps onto, on the bytes, and what is promised of the left steps (document 02, #104). Assumes nothing.
-use Prim.Native.Nat.{ℕ, _+_, _<_}
+use Prim.Native.Nat.{ℕ, _+_, _≤_, _<_}
 use mathlib.Core.Path.{_≡_}
 use mathlib.Core.Logic.{_⊎_}
 use mathlib.Core.Option.{none}
 use mathlib.Core.Bool.{true}
-use mathlib.Core.List.{List, _∷_}
+use mathlib.Core.List.{List, _∷_, List·Memᴰ}
 use lib.ListN.{length}
 use Rattle.base.specs.Loops.{count}
 use Rattle.graph.specs.Side.{left}
@@ -42,5 +42,7 @@ module _ (l : List ℕ) (s x : ℕ) where
     pub once : Once (end ∷ lefts)
     -- they end, at a staying lot or where there is no left link
     pub ends : (stays (seatsIn l) last ≡ true) ⊎ (meaning l .link last 0 left ≡ none)
+    -- none goes onto a lot above the scanned number, so that there only whether a lot stays is asked
+    pub below : (z : ℕ) → List·Memᴰ z lefts → seatsIn l .number z ≤ x
     -- at most the seated lots less one
     pub few : length lefts < count seats (seated (seatsIn l))

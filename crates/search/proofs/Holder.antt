@@ -1,13 +1,13 @@
 -- On the graph of the members, find names the right holder of those that stay. Assumes the laws of the lots, one component, and links that are
 -- the graph's.
 use Prim.Native.Nat.{ℕ, _≤_, _<_}
-use mathlib.Core.Path.{_≡_, refl, ap, subst}
+use mathlib.Core.Path.{_≡_, refl, sym, ap, _∙_, subst}
 use mathlib.Core.Logic.{_↔_, _⊎_, inl, inr}
 use mathlib.Core.Option.{Option, none, some}
 use mathlib.Core.List.{List}
 use mathlib.Core.Bool.{Bool, true, false, cond}
 use native.Mathlib.Omega.{arith}
-use native.Mathlib.Decide.{ℕ-discrete, decLt, decLe}
+use native.Mathlib.Decide.{ℕ-discrete, decLt}
 use lib.Dec.{T}
 use Rattle.graph.specs.Side.{Side, left}
 use Rattle.graph.specs.Graph.{Lots, Links, Laws, IsGraph}
@@ -15,7 +15,7 @@ use Rattle.base.proofs.Cases.{true-or-false}
 use Rattle.base.proofs.Tests.{T-true, true-T, false-T, true-false, none-some, some-inj}
 use Rattle.graph.specs.inner.Order.{Lt, toL, toR}
 use Rattle.graph.proofs.Order.{lt-asym, lt-irr, lt-side}
-use Rattle.graph.proofs.Neighbour.{InList, Nearest, nobody-there, nearest-first, nearest-list, nearest-side}
+use Rattle.graph.proofs.Neighbour.{InList, nobody-there, nearest-first, nearest-list, nearest-side}
 use Rattle.graph.proofs.SkipGraph.{link-nearest}
 use Rattle.search.specs.Walk.{stop, drop, lastOf, printable, leftSteps, find}
 use Rattle.search.specs.Right.{Holds, RightHolder, holds, nobody}
@@ -45,11 +45,11 @@ some-exactly {staying} {number} {x} differ (holds {h = g} r) h = (
 some-exactly differ (nobody f) h = (λ e. none-some refl e, λ q. absurd (f h (q .stays) (q .below)))
 
 -- where the walk ends x is found, or there is no step more at level 0
-data End (number : ℕ → ℕ) (L : Links) (x e : ℕ) : Type 0 where
+pub data End (number : ℕ → ℕ) (L : Links) (x e : ℕ) : Type 0 where
   at-x : number e ≡ x → End number L x e
   at-drop : Stepped number L x e 0 drop → End number L x e
 
-search-end : {number : ℕ → ℕ} {L : Links} {x s k : ℕ} {p : List ℕ} → Search number L x s k p → End number L x (lastOf s p)
+pub search-end : {number : ℕ → ℕ} {L : Links} {x s k : ℕ} {p : List ℕ} → Search number L x s k p → End number L x (lastOf s p)
 search-end {number} {L} {x} (found {s} {k} e) = by (at-stepped e)
   where
     by : Stepped number L x s k stop → End number L x s
@@ -57,6 +57,18 @@ search-end {number} {L} {x} (found {s} {k} e) = by (at-stepped e)
 search-end (moves e r) = search-end r
 search-end (drops e r) = search-end r
 search-end (ends e) = at-drop (at-stepped e)
+
+-- its left link does not lie above x
+pub end-under : {N W : ℕ} {seated : ℕ → Bool} {number : ℕ → ℕ} {L : Links} → Ordered N W seated number L → {x e : ℕ} → T (seated e) → End number L x e
+    → (y : ℕ) → L e 0 left ≡ some y → number y ≤ x
+end-under {number = number} {L = L} o {x} {e} m c y f = by (o .order m (omega arith) f) c
+  where
+    by : Lt number left e y → End number L x e → number y ≤ x
+    by (toL l) (at-x q) = omega arith
+    by (toL l) (at-drop (is-past (toL b) g (toL w))) = rw (some-inj (sym f ∙ g)) (omega arith)
+    by (toL l) (at-drop (is-past (toR b) g w)) = omega arith
+    by (toL l) (at-drop (is-last (toL b) g)) = none-some g f
+    by (toL l) (at-drop (is-last (toR b) g)) = omega arith
 
 lt-upto : {number : ℕ → ℕ} {x a z : ℕ} {d : Side} → Lt number d a z → Upto d (number z) x → Beyond d (number a) x
 lt-upto {number} {x} {a} (toL l) (uptoL u) = toL {x = number a} {y = x} (omega arith)
@@ -158,20 +170,10 @@ module _ {N W : ℕ} {G : Lots} {L : Links} (laws : Laws N G) (g : IsGraph N W G
                 true-false (is-printable staying (G .number) x e (T-true u) (rw (← w) l)) t
             apart (no w) = omega (arith, end-most m c z (within z n) l)
 
-        under : (y : ℕ) → L e 0 left ≡ some y → G .number y ≤ x
-        under y f = above (decLe x (G .number y))
-          where
-            near : Nearest W G 0 e left (some y)
-            near = link-nearest laws g m (omega arith) f
-
-            above : Dec (x ≤ G .number y) → G .number y ≤ x
-            above (yes w) = absurd (clear m c (nearest-list near .member) (nearest-side near) (uptoL w))
-            above (no w) = omega arith
-
         by : (prints e ≡ true) ⊎ (prints e ≡ false) → RightHolder staying (G .number) x (printed (lastOf e (leftSteps staying (G .number) L x N e)))
         by (inl t) = let (u, v) = printable-is staying (G .number) x e t in
             rw (stands o staying x e m t, t) (holds (record { stays = true-T u; below = v; largest = λ z n l. end-most m c z (within z n) l }))
-        by (inr t) = left-holder e m (all t) under t refl (goes-left o staying x e m t)
+        by (inr t) = left-holder e m (all t) (end-under o m c) t refl (goes-left o staying x e m t)
 
     -- the answer of find is the right one
     pub find-holder : (s : ℕ) → T (G .member s) → RightHolder staying (G .number) x (find staying (G .number) L x N W s .holder)

@@ -4,7 +4,7 @@ use Prim.Native.Nat.{ℕ, zero, suc, _+_, _≤_, _<_}
 use mathlib.Core.Path.{_≡_, refl}
 use mathlib.Core.Logic.{_⊎_, inl, inr}
 use mathlib.Core.Option.{Option, none, some}
-use mathlib.Core.List.{List, [], _∷_, _++_}
+use mathlib.Core.List.{List, [], _∷_, _++_, List·Memᴰ, List·Memᴰ·cases-cons, List·Memᴰ·not-nil}
 use mathlib.Core.Bool.{Bool, true, false, cond}
 use native.Mathlib.Omega.{arith}
 use lib.Dec.{T, leb, leb→le}
@@ -16,7 +16,7 @@ use Rattle.base.proofs.Cases.{true-or-false}
 use Rattle.base.proofs.Count.{count-le}
 use Rattle.graph.specs.Side.{left}
 use Rattle.graph.specs.Graph.{Links}
-use Rattle.graph.specs.inner.Order.{Lt}
+use Rattle.graph.specs.inner.Order.{Lt, toL}
 use Rattle.search.specs.Walk.{lastOf, path, toStaying, printable, leftSteps, route, find}
 use Rattle.search.specs.Right.{Once}
 use Rattle.search.specs.inner.Ordered.{Ordered, rank}
@@ -83,6 +83,25 @@ module _ {N W : ℕ} {seated : ℕ → Bool} {number : ℕ → ℕ} {L : Links} 
   left-toward s m e (passes {y} q r) =
       let (n, a) = left-on o m e in onward n a (uptoL {a = number y} {b = 0} (omega arith)) (left-toward y n refl r)
 
+  -- and where the first of them is not above x, none is
+  leftward-below : {x : ℕ} (s : ℕ) {v : Option ℕ} {p : List ℕ} {z : ℕ} → T (seated s) → ((y : ℕ) → L s 0 left ≡ some y → number y ≤ x)
+      → L s 0 left ≡ v → Leftward staying L v p → List·Memᴰ z p → number z ≤ x
+  leftward-below s m under e nowhere i = absurd (List·Memᴰ·not-nil i)
+  leftward-below {x} s {z = z} m under e (arrives {y} q) i = by (List·Memᴰ·cases-cons i)
+    where
+      by : (z ≡ y) ⊎ List·Memᴰ z [] → number z ≤ x
+      by (inl f) = rw f (under y e)
+      by (inr j) = absurd (List·Memᴰ·not-nil j)
+  leftward-below {x} s {z = z} m under e (passes {y} {p} q r) i =
+      by (List·Memᴰ·cases-cons i) (λ j. leftward-below y (left-on o m e .0) (λ w f. less w f (left-on o (left-on o m e .0) f .1)) refl r j)
+    where
+      less : (w : ℕ) → L y 0 left ≡ some w → Lt number left y w → number w ≤ x
+      less w f (toL l) = omega (arith, under y e)
+
+      by : (z ≡ y) ⊎ List·Memᴰ z p → (List·Memᴰ z p → number z ≤ x) → number z ≤ x
+      by (inl f) go = rw f (under y e)
+      by (inr j) go = go j
+
   -- so there are fewer than seated lots
   leftward-few : {s : ℕ} {p : List ℕ} → T (seated s) → Leftward staying L (L s 0 left) p → length p < count N seated
   leftward-few {s} m r = omega (arith, toward-rank o (left-toward s m refl r), rank-most o left s m)
@@ -127,6 +146,14 @@ module _ {N W : ℕ} {seated : ℕ → Bool} {number : ℕ → ℕ} {L : Links} 
       by : (prints ≡ true) ⊎ (prints ≡ false) → let h = lastOf e lefts in (staying h ≡ true) ⊎ (L h 0 left ≡ none)
       by (inl t) = rw (stands t) (inl (printable-is staying number x e t .0))
       by (inr t) = leftward-ends e refl (goes-left t)
+
+  -- NONE GOES ONTO A LOT ABOVE x, if the left link of e does not
+  pub left-below : ((y : ℕ) → L e 0 left ≡ some y → number y ≤ x) → (z : ℕ) → List·Memᴰ z lefts → number z ≤ x
+  left-below under z i = by (true-or-false prints)
+    where
+      by : (prints ≡ true) ⊎ (prints ≡ false) → number z ≤ x
+      by (inl t) = absurd (List·Memᴰ·not-nil (rw (stands t) at i))
+      by (inr t) = leftward-below o e m under refl (goes-left t) i
 
   pub left-seated : T (seated (lastOf e lefts))
   left-seated = toward-last m toward
