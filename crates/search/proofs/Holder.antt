@@ -59,8 +59,8 @@ search-end (drops e r) = search-end r
 search-end (ends e) = at-drop (at-stepped e)
 
 -- its left link does not lie above x
-pub end-under : {N W : ℕ} {seated : ℕ → Bool} {number : ℕ → ℕ} {L : Links} → Ordered N W seated number L → {x e : ℕ} → T (seated e) → End number L x e
-    → (y : ℕ) → L e 0 left ≡ some y → number y ≤ x
+pub end-under : {N W : ℕ} {seated : ℕ → Bool} {number : ℕ → ℕ} {L : Links} → Ordered N W seated number L
+    → {x e : ℕ} → T (seated e) → End number L x e → (y : ℕ) → L e 0 left ≡ some y → number y ≤ x
 end-under {number = number} {L = L} o {x} {e} m c y f = by (o .order m (omega arith) f) c
   where
     by : Lt number left e y → End number L x e → number y ≤ x
