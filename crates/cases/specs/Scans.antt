@@ -23,7 +23,7 @@ level0 = linked 0 0 right 1 ∷ linked 1 0 left 0 ∷ linked 1 0 right 2 ∷ lin
 pub record Scans (l : List ℕ) : Type 0 where
   -- 13 while a message is pending; in Q, settled, not
   pub pending : (scanned l iCalls 0 ≡ 13) × (scanned l qCalls 0 ≡ 0)
-  -- a lot that is marked in phase open does not matter, to others and to itself
+  -- a lot that is marked in phase open makes no scan wait, from another lot or from itself
   pub leaving : (scanned l (qCalls ++ leave 1 ∷ []) 0 ≡ 0) × (scanned l (qCalls ++ leave 1 ∷ []) 1 ≡ 0)
   -- 13 in clearing: with messages pending, and with none, a sole lot having no neighbours; after the second turn not
   pub clearing : (scanned l (qCalls ++ leave 1 ∷ turn ∷ []) 0 ≡ 13)

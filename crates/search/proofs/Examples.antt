@@ -1,4 +1,4 @@
--- Evaluated facts of document 01: cases (b) to (e) on the settled record Q, scans past leaving lots, and the check on right and wrong links.
+-- Evaluated facts of documents 01 and 02: cases (b) to (e) and the scan of (k) on the settled record Q, and the check on right and wrong links.
 -- Assumes nothing.
 use Prim.Native.Nat.{ℕ, _+_, _*_, _/_}
 use mathlib.Core.Path.{_≡_, refl}
@@ -40,19 +40,6 @@ case-e = refl
 pub case-k : findQ (λ z. eqb z 1) 0 250 ≡ record { holder = some 0; hops = 2 }
 unfolding find route leftSteps toStaying printable path walk stepAt along graph nearest nearer beside inList onSide sideOf shared equalBits bit
 case-k = refl
-
--- with 1 and 2, two in a row; with all three; and with 0, the left link of lot 200, where a walk from 300 to 150 ends
-pub two-leaving : findQ (λ z. ltb 0 z) 0 350 ≡ record { holder = some 0; hops = 3 }
-unfolding find route leftSteps toStaying printable path walk stepAt along graph nearest nearer beside inList onSide sideOf shared equalBits bit
-two-leaving = refl
-
-pub all-leaving : findQ (λ z. true) 0 250 ≡ record { holder = none; hops = 2 }
-unfolding find route leftSteps toStaying printable path walk stepAt along graph nearest nearer beside inList onSide sideOf shared equalBits bit
-all-leaving = refl
-
-pub left-leaving : findQ (λ z. eqb z 0) 2 150 ≡ record { holder = none; hops = 2 }
-unfolding find route leftSteps toStaying printable path walk stepAt along graph nearest nearer beside inList onSide sideOf shared equalBits bit
-left-leaving = refl
 
 -- the check of specs/ and the one of the code both say b
 abbrev Checked : Lots → Links → Bool → Type 0

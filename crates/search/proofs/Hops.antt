@@ -32,11 +32,7 @@ module _ {seated : ℕ → Bool} {number : ℕ → ℕ} {x : ℕ} {d : Side} whe
   toward-last m stay = m
   toward-last m (onward n l u c) = toward-last n c
 
-  toward-upto : {s : ℕ} {p : List ℕ} → Upto d (number s) x → Toward seated number x d s p → Upto d (number (lastOf s p)) x
-  toward-upto u stay = u
-  toward-upto u (onward n l v c) = toward-upto v c
-
-  toward-at : {s z : ℕ} {p : List ℕ} → Toward seated number x d s p → List·Memᴰ z p → Lt number d s z × Upto d (number z) x
+  pub toward-at : {s z : ℕ} {p : List ℕ} → Toward seated number x d s p → List·Memᴰ z p → Lt number d s z × Upto d (number z) x
   toward-at stay i = absurd (List·Memᴰ·not-nil i)
   toward-at {s} {z} (onward {y = y} {p = p} n l u c) i = by (List·Memᴰ·cases-cons i) (λ j. toward-at c j)
     where
@@ -90,9 +86,6 @@ module _ {N W : ℕ} {seated : ℕ → Bool} {number : ℕ → ℕ} {L : Links} 
 
 -- the same of the path of specs/
 module _ {N W : ℕ} {seated : ℕ → Bool} {number : ℕ → ℕ} {L : Links} (o : Ordered N W seated number L) (x s : ℕ) (m : T (seated s)) where
-  pub path-toward : (d : Side) × Toward seated number x d s (path number L x N W s)
-  path-toward = let (d, u) = upto-some (number s) x in (d, search-toward o m (omega arith) u (path-search o m))
-
   pub path-once : Once (s ∷ path number L x N W s)
   path-once = search-once {x = x} o m (omega arith) (path-search o m)
 

@@ -1,5 +1,6 @@
 -- The left steps after the walk: on ordered links the fuel of specs/ is enough for them, each lies left of the one before it, so none comes
--- twice, there are fewer than seated lots, and they end at a staying lot or one without a left link. Assumes ordered links.
+-- twice, there are fewer than seated lots, none goes above x if the first does not, and they end at a staying lot or one without a left link.
+-- Assumes ordered links.
 use Prim.Native.Nat.{ℕ, zero, suc, _+_, _≤_, _<_}
 use mathlib.Core.Path.{_≡_, refl}
 use mathlib.Core.Logic.{_⊎_, inl, inr}
@@ -23,7 +24,7 @@ use Rattle.search.specs.inner.Ordered.{Ordered, rank}
 use Rattle.search.specs.inner.Search.{Leftward, nowhere, arrives, passes}
 use Rattle.search.proofs.Ordered.{rank-less, rank-most}
 use Rattle.search.proofs.Step.{uptoL}
-use Rattle.search.proofs.Hops.{Toward, stay, onward, toward-last, toward-once, toward-rank}
+use Rattle.search.proofs.Hops.{Toward, stay, onward, toward-last, toward-at, toward-once, toward-rank}
 
 -- a lot may be printed exactly if it stays and is not above x
 module _ (staying : ℕ → Bool) (number : ℕ → ℕ) (x s : ℕ) where
@@ -59,6 +60,18 @@ left-on : {N W : ℕ} {seated : ℕ → Bool} {number : ℕ → ℕ} {L : Links}
     → L s 0 left ≡ some y → T (seated y) × Lt number left s y
 left-on o m e = (o .within m (omega arith) e, o .order m (omega arith) e)
 
+-- of steps to the left the first is the largest
+toward-most : {seated : ℕ → Bool} {number : ℕ → ℕ} {x y z : ℕ} {p : List ℕ} → Toward seated number x left y p → List·Memᴰ z (y ∷ p)
+    → number z ≤ number y
+toward-most {number = number} {x} {y} {z} {p} c i = by (List·Memᴰ·cases-cons i)
+  where
+    less : Lt number left y z → number z ≤ number y
+    less (toL l) = omega arith
+
+    by : (z ≡ y) ⊎ List·Memᴰ z p → number z ≤ number y
+    by (inl e) = rw e (omega arith)
+    by (inr j) = less (toward-at c j .0)
+
 module _ {N W : ℕ} {seated : ℕ → Bool} {number : ℕ → ℕ} {L : Links} (o : Ordered N W seated number L) {staying : ℕ → Bool} where
   -- each left step lowers the rank on the left
   fueled-left : (f s : ℕ) (v : Option ℕ) → T (seated s) → L s 0 left ≡ v → rank N seated number left s ≤ f
@@ -83,28 +96,16 @@ module _ {N W : ℕ} {seated : ℕ → Bool} {number : ℕ → ℕ} {L : Links} 
   left-toward s m e (passes {y} q r) =
       let (n, a) = left-on o m e in onward n a (uptoL {a = number y} {b = 0} (omega arith)) (left-toward y n refl r)
 
-  -- and where the first of them is not above x, none is
-  leftward-below : {x : ℕ} (s : ℕ) {v : Option ℕ} {p : List ℕ} {z : ℕ} → T (seated s) → ((y : ℕ) → L s 0 left ≡ some y → number y ≤ x)
-      → L s 0 left ≡ v → Leftward staying L v p → List·Memᴰ z p → number z ≤ x
-  leftward-below s m under e nowhere i = absurd (List·Memᴰ·not-nil i)
-  leftward-below {x} s {z = z} m under e (arrives {y} q) i = by (List·Memᴰ·cases-cons i)
-    where
-      by : (z ≡ y) ⊎ List·Memᴰ z [] → number z ≤ x
-      by (inl f) = rw f (under y e)
-      by (inr j) = absurd (List·Memᴰ·not-nil j)
-  leftward-below {x} s {z = z} m under e (passes {y} {p} q r) i =
-      by (List·Memᴰ·cases-cons i) (λ j. leftward-below y (left-on o m e .0) (λ w f. less w f (left-on o (left-on o m e .0) f .1)) refl r j)
-    where
-      less : (w : ℕ) → L y 0 left ≡ some w → Lt number left y w → number w ≤ x
-      less w f (toL l) = omega (arith, under y e)
-
-      by : (z ≡ y) ⊎ List·Memᴰ z p → (List·Memᴰ z p → number z ≤ x) → number z ≤ x
-      by (inl f) go = rw f (under y e)
-      by (inr j) go = go j
-
   -- so there are fewer than seated lots
   leftward-few : {s : ℕ} {p : List ℕ} → T (seated s) → Leftward staying L (L s 0 left) p → length p < count N seated
   leftward-few {s} m r = omega (arith, toward-rank o (left-toward s m refl r), rank-most o left s m)
+
+  -- and where the first of them is not above x, none is
+  leftward-below : {x s : ℕ} {v : Option ℕ} {p : List ℕ} {z : ℕ} → T (seated s) → ((y : ℕ) → L s 0 left ≡ some y → number y ≤ x)
+      → L s 0 left ≡ v → Leftward staying L v p → List·Memᴰ z p → number z ≤ x
+  leftward-below m under e nowhere i = absurd (List·Memᴰ·not-nil i)
+  leftward-below m under e (arrives {y} q) i = let c : Toward seated number 0 left y [] = stay in omega (arith, toward-most c i, under y e)
+  leftward-below m under e (passes {y} q r) i = omega (arith, toward-most (left-toward y (left-on o m e .0) refl r) i, under y e)
 
 -- the left steps of specs/ from a seated lot e
 module _ {N W : ℕ} {seated : ℕ → Bool} {number : ℕ → ℕ} {L : Links} (o : Ordered N W seated number L) (staying : ℕ → Bool) (x e : ℕ)
@@ -153,7 +154,7 @@ module _ {N W : ℕ} {seated : ℕ → Bool} {number : ℕ → ℕ} {L : Links} 
     where
       by : (prints ≡ true) ⊎ (prints ≡ false) → number z ≤ x
       by (inl t) = absurd (List·Memᴰ·not-nil (rw (stands t) at i))
-      by (inr t) = leftward-below o e m under refl (goes-left t) i
+      by (inr t) = leftward-below o m under refl (goes-left t) i
 
   pub left-seated : T (seated (lastOf e lefts))
   left-seated = toward-last m toward
