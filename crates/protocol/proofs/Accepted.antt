@@ -2,19 +2,18 @@
 use Prim.Native.Nat.{ℕ, _≤_, _<_}
 use mathlib.Core.Path.{_≡_, refl}
 use mathlib.Core.Logic.{_≢_}
-use mathlib.Core.Bool.{Bool, true, false, not, cond, _&&_, _||_}
+use mathlib.Core.Bool.{Bool, true, false, _&&_, _||_}
 use lib.Dec.{T, eqb, ltb}
 use borrow.Author.Tests.{ltb-true, lt-ltb, le-ltb, not-false, eq-eqb}
 use Rattle.base.proofs.Tests.{true-T, and-T}
 use Rattle.protocol.specs.Message.{Msg, Name, named}
 use Rattle.protocol.specs.Numbering.{somePending}
-use Rattle.protocol.specs.State.{open-phase, Seats, noSeat, taken, seated, empty, leaves, isPending}
-use Rattle.protocol.specs.Calls.{Call, join, leave, deliver, turn, rows, refusal}
+use Rattle.protocol.specs.State.{open-phase, Seats, isClearing, noSeat, taken, seated, leaves, held, isPending}
+use Rattle.protocol.specs.Calls.{Call, join, reserve, confirm, giveBack, leave, deliver, turn, rows, refusal}
 use Rattle.protocol.specs.Refusals.{wrongSize, unsound, noSuchLevel, noSuchSeat, seatTaken, numberInUse, noContact, inClearing, emptySeat}
-use Rattle.protocol.specs.Refusals.{alreadyLeaving, noSuchMessage, messagesLeft, appliesIn}
-use Rattle.protocol.specs.pages.Join.{nobodyToContact}
+use Rattle.protocol.specs.Refusals.{alreadyLeaving, noSuchMessage, messagesLeft, notReserved, appliesIn, first}
+use Rattle.protocol.specs.pages.Join.{noSuchContact, inUse, lacksContact}
 use Rattle.protocol.proofs.Calls.{no-row}
-use Rattle.base.specs.Loops.{any}
 use Rattle.base.proofs.Any.{any-none}
 use Rattle.protocol.proofs.SoundFacts.{false-not, phase-open}
 
@@ -30,33 +29,78 @@ module _ (N W : ℕ) (r : Seats) (p : Msg → Bool) where
   pub rows-free : (c : Call) → Free c wrongSize × Free c unsound × Free c noSuchLevel
   unfolding rows
   rows-free (join s n v c) = (refl, refl, refl)
+  rows-free (reserve s n v) = (refl, refl, refl)
+  rows-free (confirm s c) = (refl, refl, refl)
+  rows-free (giveBack s) = (refl, refl, refl)
   rows-free (leave s) = (refl, refl, refl)
   rows-free (deliver n) = (refl, refl, refl)
   rows-free turn = (refl, refl, refl)
 
-  pub record Joins (s n c : ℕ) : Type 0 where
+  -- what the rows of a join, of reserving and of confirming say in common
+  not-used : (n : ℕ) → inUse N r n ≡ false → (x : ℕ) → x < N → T (taken r x) → r .number x ≢ n
+  not-used n e x l t q =
+      any-none N (λ z. taken r z && eqb (r .number z) n) e x l (and-T (taken r x) (eqb (r .number x) n) t (true-T (eq-eqb _ _ q)))
+
+  is-seat : (s : ℕ) → noSeat N s ≡ false → s < N
+  is-seat s e = ltb-true s N (not-false (ltb s N) e)
+
+  pub record Reserves (s n : ℕ) : Type 0 where
     pub seat : s < N
     pub opens : r .phase ≡ open-phase
     pub free : taken r s ≡ false
     pub unused : (x : ℕ) → x < N → T (taken r x) → r .number x ≢ n
+
+  pub reserve-rows : (s n v : ℕ) → refusal N W r p (reserve s n v) ≡ 0 → Reserves s n
+  unfolding refusal rows
+  reserve-rows s n v e =
+      let rs = rows N W r p (reserve s n v) in
+      record {
+        seat = is-seat s (no-row rs noSuchSeat tt e);
+        opens = phase-open (r .phase) (false-not (no-row rs inClearing tt e));
+        free = no-row rs seatTaken tt e;
+        unused = not-used n (no-row rs numberInUse tt e);
+      }
+
+  pub record Confirms (s c : ℕ) : Type 0 where
+    pub seat : s < N
+    pub opens : r .phase ≡ open-phase
+    pub reserved : held r s ≡ true
     pub contact : c < N → T (seated r c)
     pub alone : N ≤ c → (x : ℕ) → x < N → T (seated r x) → ⊥
 
-  pub join-rows : (s n v c : ℕ) → refusal N W r p (join s n v c) ≡ 0 → Joins s n c
+  pub confirm-rows : (s c : ℕ) → refusal N W r p (confirm s c) ≡ 0 → Confirms s c
   unfolding refusal rows
-  join-rows s n v c e =
-      let rs = rows N W r p (join s n v c) in
-      let known : cond (noSeat N c) (any N (seated r)) (empty r c) ≡ false = no-row rs noContact tt e in
+  confirm-rows s c e =
+      let rs = rows N W r p (confirm s c) in
+      let known : lacksContact N r c ≡ false = no-row rs noContact tt e in
       record {
-        seat = ltb-true s N (not-false (ltb s N)
-            (or-false (noSeat N s) (noSeat N c && not (eqb c nobodyToContact)) (no-row rs noSuchSeat tt e)));
+        seat = is-seat s (or-false (noSeat N s) (noSuchContact N c) (no-row rs noSuchSeat tt e));
         opens = phase-open (r .phase) (false-not (no-row rs inClearing tt e));
-        free = no-row rs seatTaken tt e;
-        unused = λ x l t q. any-none N (λ z. taken r z && eqb (r .number z) n) (no-row rs numberInUse tt e) x l
-            (and-T (taken r x) (eqb (r .number x) n) t (true-T (eq-eqb _ _ q)));
+        reserved = not-false (held r s) (no-row rs notReserved tt e);
         contact = λ l. true-T (not-false (seated r c) (rw (lt-ltb c N l) at known));
         alone = λ l x m t. any-none N (seated r) (rw (le-ltb c N l) at known) x m t;
       }
+
+  -- a join that is accepted: reserving would be, too
+  pub join-reserve : (s n v c : ℕ) → refusal N W r p (join s n v c) ≡ 0 → refusal N W r p (reserve s n v) ≡ 0
+  unfolding refusal rows first
+  join-reserve s n v c e =
+      let rs = rows N W r p (join s n v c) in
+      let seat : noSeat N s ≡ false = or-false (noSeat N s) (noSuchContact N c) (no-row rs noSuchSeat tt e) in
+      let opens : isClearing (r .phase) ≡ false = no-row rs inClearing tt e in
+      let free : taken r s ≡ false = no-row rs seatTaken tt e in
+      let unused : inUse N r n ≡ false = no-row rs numberInUse tt e in
+      rw (seat, opens, free, unused)
+
+  pub record GivesBack (s : ℕ) : Type 0 where
+    pub seat : s < N
+    pub reserved : held r s ≡ true
+
+  pub give-back-rows : (s : ℕ) → refusal N W r p (giveBack s) ≡ 0 → GivesBack s
+  unfolding refusal rows
+  give-back-rows s e =
+      let rs = rows N W r p (giveBack s) in
+      record { seat = is-seat s (no-row rs noSuchSeat tt e); reserved = not-false (held r s) (no-row rs notReserved tt e) }
 
   pub record Leaves (s : ℕ) : Type 0 where
     pub seat : s < N
@@ -69,7 +113,7 @@ module _ (N W : ℕ) (r : Seats) (p : Msg → Bool) where
   leave-rows s e =
       let rs = rows N W r p (leave s) in
       record {
-        seat = ltb-true s N (not-false (ltb s N) (no-row rs noSuchSeat tt e));
+        seat = is-seat s (no-row rs noSuchSeat tt e);
         opens = phase-open (r .phase) (false-not (no-row rs inClearing tt e));
         occupied = not-false (seated r s) (no-row rs emptySeat tt e);
         stayed = no-row rs alreadyLeaving tt e;

@@ -1,9 +1,9 @@
 -- The small functions of the calls, as facts: a value at one place, the pending set after a call, the links after a change, and rows of the
 -- table that do not apply. Assumes nothing.
 use Prim.Native.Nat.{ℕ, zero, suc}
-use mathlib.Core.Path.{_≡_, refl, sym, _∙_, ap, subst}
+use mathlib.Core.Path.{_≡_, refl, sym, _∙_, ap, subst, fun-ext}
 use mathlib.Core.Logic.{_⊎_, inl, inr, _≢_}
-use mathlib.Core.Option.{Option}
+use mathlib.Core.Option.{Option, none}
 use mathlib.Core.Bool.{Bool, true, false, not, cond, _&&_, _||_}
 use mathlib.Core.List.{List, [], _∷_}
 use native.Mathlib.Omega.{arith}
@@ -12,6 +12,7 @@ use lib.Dec.{T, eqb, eqb→eq}
 use borrow.Author.Tests.{eq-eqb, ne-eqb}
 use Rattle.graph.specs.Side.{Side, left, right}
 use Rattle.graph.specs.Graph.{Links}
+use Rattle.base.proofs.Cases.{and-true}
 use Rattle.base.proofs.Tests.{dec-T, not-T-false, and-T, and-fst, and-snd, or-cases, or-left, or-right}
 use Rattle.protocol.specs.Message.{Msg, among}
 use Rattle.protocol.specs.Refusals.{order, Row, appliesIn, firstOf, first}
@@ -35,6 +36,36 @@ module _ {A : Type 0} (s : ℕ) (a : A) (f : ℕ → A) where
       by : Dec (x ≡ s) → P (at s a f x)
       by (yes e) = subst P (sym (at-same x e)) p
       by (no e) = subst P (sym (at-other x e)) (q x)
+
+  -- a test that says the same of the new value as of the old one
+  pub at-tested : (p : A → Bool) → p a ≡ p (f s) → (x : ℕ) → p (at s a f x) ≡ p (f x)
+  at-tested p e x = by (ℕ-discrete x s)
+    where
+      by : Dec (x ≡ s) → p (at s a f x) ≡ p (f x)
+      by (yes q) = ap p (at-same x q) ∙ e ∙ sym (ap (λ (y : ℕ). p (f y)) q)
+      by (no q) = ap p (at-other x q)
+
+  -- it was there already
+  pub at-own : f s ≡ a → at s a f ≡ f
+  at-own e = fun-ext (λ x. by x (ℕ-discrete x s))
+    where
+      by : (x : ℕ) → Dec (x ≡ s) → at s a f x ≡ f x
+      by x (yes q) = at-same x q ∙ sym (ap f q ∙ e)
+      by x (no q) = at-other x q
+
+  -- the later of two counts
+  pub at-twice : (b : A) → at s a (at s b f) ≡ at s a f
+  unfolding at
+  at-twice b = fun-ext (λ x. by (eqb x s) (f x))
+    where
+      by : (c : Bool) (z : A) → cond c a (cond c b z) ≡ cond c a z
+      by true z = refl
+      by false z = refl
+
+-- nothing is sent and nothing taken away
+pub after-nothing : (p : Msg → Bool) → pendingAfter [] none p ≡ p
+unfolding pendingAfter among isTaken
+after-nothing p = fun-ext (λ m. and-true (p m))
 
 -- the pending set after a call
 module _ (sent : List Msg) (taken : Option Msg) (p : Msg → Bool) (m : Msg) where

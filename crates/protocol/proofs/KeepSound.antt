@@ -7,13 +7,13 @@ use lib.Pow.{pow-pos}
 use Rattle.base.proofs.Tests.{false-T, none-some}
 use Rattle.protocol.specs.Numbering.{somePending}
 use Rattle.protocol.specs.State.{Meaning, nobody, opened}
-use Rattle.protocol.specs.Calls.{Call, join, leave, deliver, turn, refusal, accept, unlessRefused, call, InRange}
+use Rattle.protocol.specs.Calls.{Call, join, reserve, confirm, giveBack, leave, deliver, turn, refusal, accept, unlessRefused, call, InRange}
 use Rattle.protocol.specs.Sound.{numberBits, Sound}
 use Rattle.protocol.proofs.Numbering.{none-pending}
 use Rattle.protocol.proofs.SoundFacts.{pending-exists}
 use Rattle.protocol.proofs.Accepted.{turn-row}
 use Rattle.protocol.proofs.KeepDelivery.{deliver-sound}
-use Rattle.protocol.proofs.KeepCalls.{join-sound, leave-sound}
+use Rattle.protocol.proofs.KeepCalls.{join-sound, reserve-sound, confirm-sound, give-back-sound, leave-sound}
 use Rattle.protocol.proofs.KeepTurn.{turn-sound}
 
 pub opened-sound : (N W : ℕ) → Sound N W opened
@@ -31,6 +31,9 @@ opened-sound N W = record {
 pub accept-sound : (N W : ℕ) (M : Meaning) → Sound N W M → (c : Call) → InRange N W c → refusal N W (M .seats) (M .pending) c ≡ 0
     → Sound N W (accept N W M c)
 accept-sound N W M h (join s n v c) q e = join-sound h s n v c (q .0) (q .1) e
+accept-sound N W M h (reserve s n v) q e = reserve-sound h s n v (q .0) (q .1) e
+accept-sound N W M h (confirm s c) q e = confirm-sound h s c e
+accept-sound N W M h (giveBack s) q e = give-back-sound h s e
 accept-sound N W M h (leave s) q e = leave-sound h s e
 accept-sound N W M h (deliver n) q e = deliver-sound h n e
 accept-sound N W M h turn q e = turn-sound h (λ m t. false-T (none-pending N W (M .pending) none-left m (pending-exists h m t)) t)

@@ -4,6 +4,7 @@ pub mod Message
 pub mod Calls
 pub mod Sent
 pub mod World
+pub mod Agree
 pub mod Delivery
 pub mod Open
 pub mod Back
@@ -15,6 +16,7 @@ pub mod Invariant
 pub mod Join
 pub mod OpenEffect
 pub mod Clearing
+pub mod SameLots
 pub mod ClearingEffect
 pub mod Measure
 pub mod Ends
@@ -36,6 +38,7 @@ pub mod NumberingExamples
 pub mod OrderExamples
 pub mod SoundFacts
 pub mod Accepted
+pub mod Reserving
 pub mod KeepDelivery
 pub mod KeepCalls
 pub mod KeepTurn

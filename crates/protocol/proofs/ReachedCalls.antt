@@ -1,32 +1,35 @@
--- Join and leave keep what every reached meaning has. Assumes nothing.
-use Prim.Native.Nat.{ℕ, _^_, _<_}
+-- Reserving, confirming, giving back and leave keep what every reached meaning has. A join is a reservation and its confirmation. Assumes nothing.
+use Prim.Native.Nat.{ℕ, _<_}
 use mathlib.Core.Path.{_≡_, refl, sym, _∙_, ap, subst, subst₂, fun-ext}
 use mathlib.Core.Logic.{_⊎_, inl, inr, _≢_}
 use mathlib.Core.Option.{Option, none, some}
-use mathlib.Core.Bool.{Bool, true, false, cond, _&&_}
+use mathlib.Core.Bool.{Bool, true, false, cond}
 use mathlib.Core.List.{List, [], _∷_, List·Memᴰ, List·Memᴰ·head, List·Memᴰ·not-nil, List·Memᴰ·eq-of-singleton}
 use native.Mathlib.Omega.{arith}
 use native.Mathlib.Decide.{decLt, ℕ-discrete}
-use lib.Dec.{T, eqb, ltb}
-use borrow.Author.Tests.{eq-eqb, ne-eqb, lt-ltb, le-ltb}
+use lib.Dec.{T, ltb}
+use borrow.Author.Tests.{lt-ltb, le-ltb}
 use Rattle.graph.specs.Side.{Side}
 use Rattle.graph.specs.Graph.{Links}
 use Rattle.base.proofs.Tests.{false-T, true-false}
 use Rattle.protocol.specs.Message.{Msg, meet, nameOf, among}
-use Rattle.protocol.specs.Rules.{staying, leaving}
-use Rattle.protocol.specs.State.{open-phase, Seats, Meaning, isSeated, seated}
-use Rattle.protocol.specs.Calls.{join, leave, seatsAfter, sends, takes, linksAfter, accept}
-use Rattle.protocol.specs.Page.{at, isTaken, pendingAfter}
-use Rattle.protocol.specs.Sound.{numberBits, Sound}
+use Rattle.protocol.specs.Rules.{SeatState, free, staying, leaving, reserved, isStaying}
+use Rattle.protocol.specs.State.{Phase, open-phase, clearing, Seats, Meaning, isSeated, seated, stays}
+use Rattle.protocol.specs.Calls.{reserve, confirm, giveBack, leave, seatsAfter, sends, takes, linksAfter, accept}
+use Rattle.protocol.specs.Page.{marking, seating, withoutLinks, isTaken, pendingAfter}
+use Rattle.protocol.specs.Sound.{Sound}
 use Rattle.protocol.proofs.Message.{among-mem, mem-among}
-use Rattle.protocol.proofs.Calls.{at-same, at-other, after-came, after-kept, after-only}
+use Rattle.protocol.proofs.Calls.{at-same, at-other, at-tested, after-nothing, after-came, after-kept, after-only}
 use Rattle.protocol.proofs.Delivery.{stateOf}
 use Rattle.protocol.proofs.Open.{ok-to}
-use Rattle.protocol.proofs.Invariant.{Invariant, invariant-first}
-use Rattle.protocol.proofs.Join.{Grows, Meets, invariant-join}
-use Rattle.protocol.proofs.SoundFacts.{free-empty, seated-below, link-linked}
-use Rattle.protocol.proofs.Accepted.{Joins, Leaves}
-use Rattle.protocol.proofs.Reached.{Laws, sound-laws, worldOf, Sane, in-open}
+use Rattle.protocol.proofs.Clearing.{AllLinks, Clearing}
+use Rattle.protocol.proofs.Invariant.{invariant-first}
+use Rattle.protocol.proofs.Join.{Has, invariant-same, Grows, Meets, invariant-join}
+use Rattle.protocol.proofs.SameLots.{links-same, clearing-same}
+use Rattle.protocol.proofs.SoundFacts.{not-clearing, free-empty, held-empty, empty-stays, seated-below, link-linked}
+use Rattle.protocol.proofs.Accepted.{Reserves, Confirms, GivesBack, Leaves}
+use Rattle.protocol.proofs.Reserving.{seated-seating, bare-links}
+use Rattle.protocol.proofs.Reached.{Laws, sound-laws, worldOf, Stayer, Sane, in-open, in-clearing}
 
 -- the pending messages after a call that takes none
 module _ (sent : List Msg) (p : Msg → Bool) where
@@ -49,68 +52,128 @@ module _ (sent : List Msg) (p : Msg → Bool) where
   pub after-sent : (m : Msg) → List·Memᴰ m sent → T (pendingAfter sent none p m)
   after-sent m i = after-came sent none p m (mem-among sent i)
 
--- join
-module _ (comp : ℕ → ℕ) {N W : ℕ} {M : Meaning} (h : Sound N W M) (s n v c : ℕ) (ok : Joins N W (M .seats) (M .pending) s n c) where
+-- the same lots sit, each with its number and vector
+pub record SameSeated (r r′ : Seats) : Type 0 where
+  pub same : (x : ℕ) → seated r′ x ≡ seated r x
+  pub number : (x : ℕ) → T (seated r x) → r′ .number x ≡ r .number x
+  pub vector : (x : ℕ) → T (seated r x) → r′ .vector x ≡ r .vector x
+
+same-back : {r r′ : Seats} → SameSeated r r′ → SameSeated r′ r
+same-back q = record {
+  same = λ x. sym (q .same x);
+  number = λ x t. sym (q .number x (rw (q .same x) at t));
+  vector = λ x t. sym (q .vector x (rw (q .same x) at t));
+}
+
+-- what of seats and lots the invariants do not look at: the state of a lot in phase open, and seats without lots
+module _ (comp : ℕ → ℕ) {W : ℕ} where
+  has : {r r′ : Seats} → SameSeated r r′ → (l : Laws r) (l′ : Laws r′) → Has (worldOf comp W r l) (worldOf comp W r′ l′)
+  has q l l′ = record {
+    agree = record { width = refl; number = q .number; vector = q .vector; component = λ x t. refl };
+    still = λ x t. rw (q .same x) t;
+  }
+
+  -- links and messages stay, too
+  sane-same : {N : ℕ} {M : Meaning} → Sound N W M → {r′ : Seats} {p : Phase} → SameSeated (M .seats) r′ → (p ≡ clearing → stays r′ ≡ stays (M .seats))
+      → Sane comp W M p → Sane comp W (record { seats = r′; link = M .link; pending = M .pending }) p
+  sane-same h q e (in-open i) = let l = sound-laws h in in-open (λ l′. invariant-same (has q l l′) (has (same-back q) l′ l) (i l))
+  sane-same {M = M} h {r′} q e (in-clearing L a i) =
+      let l = sound-laws h in
+      in-clearing L
+      (λ l′. subst (λ (f : ℕ → Bool). AllLinks (worldOf comp W r′ l′) (λ x. T (f x)) L) (sym (e refl))
+      (links-same (has q l l′) (has (same-back q) l′ l) (Stayer (M .seats)) (a l)))
+      (λ l′. subst (λ (f : ℕ → Bool). Clearing (worldOf comp W r′ l′) (λ x. T (f x)) L (stateOf M)) (sym (e refl))
+      (clearing-same (has q l l′) (has (same-back q) l′ l) (Stayer (M .seats)) (i l)))
+
+-- a seat without a lot gets another state, number and vector: reserving and giving back
+module _ (comp : ℕ → ℕ) {N W : ℕ} {M : Meaning} (h : Sound N W M) (s : ℕ) (t : SeatState) (n v : ℕ)
+    (was : seated (M .seats) s ≡ false) (is : isSeated t ≡ false) (stay : isStaying t ≡ false) where
+  same-seating : SameSeated (M .seats) (seating s t n v (M .seats))
+  same-seating = record {
+    same = λ x. ap (λ (f : ℕ → Bool). f x) (seated-seating s t n v (M .seats) was is);
+    number = λ x u. at-other s n (M .seats .number) x (other x u);
+    vector = λ x u. at-other s v (M .seats .vector) x (other x u);
+  }
+    where
+      other : (x : ℕ) → T (seated (M .seats) x) → x ≢ s
+      other x u q = false-T was (subst (λ (y : ℕ). T (seated (M .seats) y)) q u)
+
+  bare : (k : ℕ) (d : Side) (o : Option ℕ) → M .link s k d ≡ o → o ≡ none
+  bare k d none e = refl
+  bare k d (some y) e = absurd (false-T was (link-linked h e .0 .one))
+
+  sane-seating : {p : Phase} → Sane comp W M p
+      → Sane comp W (record { seats = seating s t n v (M .seats); link = withoutLinks s (M .link); pending = pendingAfter [] none (M .pending) }) p
+  sane-seating {p} i =
+      subst₂ (λ (L : Links) (q : Msg → Bool). Sane comp W (record { seats = seating s t n v (M .seats); link = L; pending = q }) p)
+      (sym (bare-links s M (λ k d. bare k d (M .link s k d) refl)))
+      (sym (after-nothing (M .pending)))
+      (sane-same comp h same-seating (λ e. fun-ext (at-tested s t (M .seats .state) isStaying (stay ∙ sym (empty-stays (M .seats) s was)))) i)
+
+module _ (comp : ℕ → ℕ) {N W : ℕ} {M : Meaning} (h : Sound N W M) where
+  pub sane-reserve : (s n v : ℕ) → Reserves N W (M .seats) (M .pending) s n → Sane comp W M (M .seats .phase)
+      → Sane comp W (accept N W M (reserve s n v)) (M .seats .phase)
+  unfolding accept linksAfter sends takes seatsAfter
+  sane-reserve s n v ok i = sane-seating comp h s reserved n v (free-empty (M .seats) s (ok .free)) refl refl i
+
+  pub sane-give-back : (s : ℕ) → GivesBack N W (M .seats) (M .pending) s → Sane comp W M (M .seats .phase)
+      → Sane comp W (accept N W M (giveBack s)) (M .seats .phase)
+  unfolding accept linksAfter sends takes seatsAfter
+  sane-give-back s ok i = sane-seating comp h s free 0 0 (held-empty (M .seats) s (ok .reserved)) refl refl i
+
+  -- who is seated stays the same
+  pub sane-leave : (s : ℕ) → Leaves N W (M .seats) (M .pending) s → Sane comp W M (M .seats .phase)
+      → Sane comp W (accept N W M (leave s)) (M .seats .phase)
+  unfolding accept linksAfter sends takes seatsAfter
+  sane-leave s ok i =
+      subst (λ (q : Msg → Bool). Sane comp W (record { seats = marking s leaving (M .seats); link = M .link; pending = q }) (M .seats .phase))
+      (sym (after-nothing (M .pending)))
+      (sane-same comp h same (λ e. absurd (not-clearing (ok .opens) e)) i)
+    where
+      same : SameSeated (M .seats) (marking s leaving (M .seats))
+      same = record { same = at-tested s leaving (M .seats .state) isSeated (sym (ok .occupied)); number = λ x t. refl; vector = λ x t. refl }
+
+-- confirming: one lot more
+module _ (comp : ℕ → ℕ) {N W : ℕ} {M : Meaning} (h : Sound N W M) (s c : ℕ) (ok : Confirms N W (M .seats) (M .pending) s c) where
   abbrev r : Seats
   r = M .seats
 
   abbrev r′ : Seats
-  r′ = seatsAfter N W (M .seats) (join s n v c)
+  r′ = marking s staying (M .seats)
 
   other : (x : ℕ) → T (seated r x) → x ≢ s
-  other x t q = false-T (free-empty r s (ok .free)) (subst (λ (y : ℕ). T (seated r y)) q t)
-
-  still : (x : ℕ) → x ≢ s → seated r′ x ≡ seated r x
-  unfolding seatsAfter
-  still x q = ap isSeated (at-other s staying (r .state) x q)
+  other x t q = false-T (held-empty r s (ok .reserved)) (subst (λ (y : ℕ). T (seated r y)) q t)
 
   who : (x : ℕ) → T (seated r′ x) → T (seated r x) ⊎ (x ≡ s)
   who x t = by (ℕ-discrete x s)
     where
       by : Dec (x ≡ s) → T (seated r x) ⊎ (x ≡ s)
       by (yes q) = inr q
-      by (no q) = inl (rw (still x q) at t)
-
-  -- the newcomer has no links, and had none
-  same-link : (x k : ℕ) (d : Side) → cond (eqb x s) none (M .link x k d) ≡ M .link x k d
-  same-link x k d = by (ℕ-discrete x s)
-    where
-      bare : (o : Option ℕ) → M .link x k d ≡ o → x ≡ s → none ≡ o
-      bare none e q = refl
-      bare (some y) e q = absurd (other x (link-linked h e .0 .one) q)
-
-      by : Dec (x ≡ s) → cond (eqb x s) none (M .link x k d) ≡ M .link x k d
-      by (yes q) = rw (eq-eqb x s q) (bare (M .link x k d) refl q)
-      by (no q) = rw (ne-eqb x s q)
+      by (no q) = inl (rw (at-other s staying (r .state) x q) at t)
 
   -- the newcomer is in the component of its contact
-  grows : comp s ≡ comp c → (l : Laws r) (l′ : Laws r′) → Grows (worldOf comp W r l) (worldOf comp W r′ l′) s c
-  unfolding seatsAfter
-  grows same l l′ = record {
-    same-W = refl;
-    fresh = λ t. false-T (free-empty r s (ok .free)) t;
+  grows : c < N → comp s ≡ comp c → (l : Laws r) (l′ : Laws r′) → Grows (worldOf comp W r l) (worldOf comp W r′ l′) s c
+  grows p same l l′ = record {
+    has = record {
+      agree = record { width = refl; number = λ x t. refl; vector = λ x t. refl; component = λ x t. refl };
+      still = λ x t. rw (at-other s staying (r .state) x (other x t)) t;
+    };
     new = rw (at-same s staying (r .state) s refl) tt;
-    still = λ x t. rw (still x (other x t)) t;
     from = who;
-    same-num = λ x q. at-other s n (r .number) x q;
-    same-vec = λ x q. at-other s v (r .vector) x q;
-    same-comp = λ x q. refl;
+    apart = other c (ok .contact p);
     contact = same;
   }
 
-  pub sane-join : (c < N → comp s ≡ comp c) → Sane comp W M open-phase → Sane comp W (accept N W M (join s n v c)) open-phase
-  unfolding accept linksAfter sends takes
-  sane-join same (in-open i) = by (decLt c N)
+  confirmed : (c < N → comp s ≡ comp c) → Sane comp W M open-phase → Sane comp W (accept N W M (confirm s c)) open-phase
+  unfolding accept linksAfter sends takes seatsAfter
+  confirmed same (in-open i) = by (decLt c N)
     where
       sent : Bool → List Msg
       sent b = cond b (meet c s 0 ∷ []) []
 
-      meets : (b : Bool) → b ≡ true
-          → Meets (stateOf M)
-          (record { link = λ x k d. cond (eqb x s) none (M .link x k d); pend = λ m. T (pendingAfter (sent b) none (M .pending) m) }) c s
+      meets : (b : Bool) → b ≡ true → Meets (stateOf M) (record { link = M .link; pend = λ m. T (pendingAfter (sent b) none (M .pending) m) }) c s
       meets true e = record {
-        same-link = same-link;
-        kept = λ m t. after-old (sent true) (M .pending) m t;
+        keeps = record { same-link = λ x k d. refl; kept = λ m t. after-old (sent true) (M .pending) m t };
         hello = after-sent (sent true) (M .pending) (meet c s 0) (List·Memᴰ·head refl);
         only = λ m t. one (after-only-sent (sent true) (M .pending) m t);
       }
@@ -123,10 +186,10 @@ module _ (comp : ℕ → ℕ) {N W : ℕ} {M : Meaning} (h : Sound N W M) (s n v
       l : Laws r
       l = sound-laws h
 
-      by : Dec (c < N) → Sane comp W (accept N W M (join s n v c)) open-phase
-      by (yes p) = in-open (λ l′. invariant-join (grows (same p) l l′) (meets (ltb c N) (lt-ltb c N p)) (ok .contact p) (i l))
+      by : Dec (c < N) → Sane comp W (accept N W M (confirm s c)) open-phase
+      by (yes p) = in-open (λ l′. invariant-join (grows p (same p) l l′) (meets (ltb c N) (lt-ltb c N p)) (ok .contact p) (i l))
       by (no p) =
-          in-open (λ l′. invariant-first (worldOf comp W r′ l′) _ alone (λ x k d. same-link x k d ∙ bare x k d (M .link x k d) refl)
+          in-open (λ l′. invariant-first (worldOf comp W r′ l′) _ alone (λ x k d. bare x k d (M .link x k d) refl)
           (λ m t. silent (ltb c N) (le-ltb c N (omega arith)) m t))
         where
           nobody-in : (x : ℕ) → T (seated r x) → ⊥
@@ -151,40 +214,5 @@ module _ (comp : ℕ → ℕ) {N W : ℕ} {M : Meaning} (h : Sound N W M) (s n v
               none-in (inl u) = nobody-in (nameOf m .to) (ok-to (i l .proper .pend-ok u))
               none-in (inr u) = List·Memᴰ·not-nil u
 
--- leave: who is seated stays the same, and so do the pending messages
-seated-leave : (N W : ℕ) (r : Seats) (s : ℕ) → seated r s ≡ true → seated (seatsAfter N W r (leave s)) ≡ seated r
-unfolding seatsAfter
-seated-leave N W r s f = fun-ext (λ x. by x (ℕ-discrete x s))
-  where
-    by : (x : ℕ) → Dec (x ≡ s) → isSeated (at s leaving (r .state) x) ≡ isSeated (r .state x)
-    by x (yes e) = rw (at-same s leaving (r .state) x e, e, f)
-    by x (no e) = rw (at-other s leaving (r .state) x e)
-
-pub after-none : (p : Msg → Bool) → pendingAfter [] none p ≡ p
-unfolding pendingAfter among isTaken
-after-none p = fun-ext (λ m. by (p m))
-  where
-    by : (b : Bool) → (b && true) ≡ b
-    by true = refl
-    by false = refl
-
--- the invariant depends on who is seated, and not on who leaves
-module _ (comp : ℕ → ℕ) (W : ℕ) (num vec : ℕ → ℕ) (L : Links) (small : (x : ℕ) → num x < 2 ^ numberBits) where
-  abbrev Differ : (ℕ → Bool) → Type 0
-  Differ f = (x y : ℕ) → T (f x) → T (f y) → num x ≡ num y → x ≡ y
-
-  abbrev Holds : (ℕ → Bool) → (Msg → Bool) → Type 0
-  Holds f p =
-      (a : Differ f) → Invariant (record { W = W; Seated = λ x. T (f x); num = num; vec = vec; comp = comp; small = small; differ = a })
-      (record { link = L; pend = λ m. T (p m) })
-
-  same-holds : {f g : ℕ → Bool} {p q : Msg → Bool} → f ≡ g → p ≡ q → Holds f p → Holds g q
-  same-holds e e′ h = subst₂ Holds e e′ h
-
-module _ (comp : ℕ → ℕ) {N W : ℕ} (M : Meaning) (s : ℕ) (ok : Leaves N W (M .seats) (M .pending) s) where
-  pub sane-leave : Sane comp W M open-phase → Sane comp W (accept N W M (leave s)) open-phase
-  unfolding accept linksAfter sends takes seatsAfter
-  sane-leave (in-open i) =
-      in-open (λ l. same-holds comp W (M .seats .number) (M .seats .vector) (M .link) (l .small) (sym (seated-leave N W (M .seats) s (ok .occupied)))
-      (sym (after-none (M .pending)))
-      (λ a. i (record { small = l .small; differ = a })) (l .differ))
+  pub sane-confirm : (c < N → comp s ≡ comp c) → Sane comp W M (M .seats .phase) → Sane comp W (accept N W M (confirm s c)) (M .seats .phase)
+  sane-confirm same i = subst (Sane comp W (accept N W M (confirm s c))) (sym (ok .opens)) (confirmed same (subst (Sane comp W M) (ok .opens) i))

@@ -21,6 +21,7 @@ use Rattle.protocol.specs.Page.{pendingAfter}
 use Rattle.protocol.specs.Freeing.{unlinked}
 use Rattle.protocol.specs.Sound.{Sound}
 use Rattle.base.proofs.Any.{any-none}
+use Rattle.protocol.proofs.Calls.{after-nothing}
 use Rattle.protocol.proofs.Sent.{in-yes, in-each, is-sent}
 use Rattle.protocol.proofs.World.{World, Quiet}
 use Rattle.protocol.proofs.Delivery.{stateOf}
@@ -31,7 +32,7 @@ use Rattle.protocol.proofs.Turn.{exact-links, clearing-start, Shrinks, 
 use Rattle.protocol.proofs.SoundFacts.{stays-seated, seated-below, two-level, link-linked}
 use Rattle.protocol.proofs.KeepTurn.{farewell-out, unlinked-some}
 use Rattle.protocol.proofs.Reached.{Laws, sound-laws, worldOf, Stayer, Sane, in-open, in-clearing}
-use Rattle.protocol.proofs.ReachedCalls.{after-only-sent, after-sent, after-none}
+use Rattle.protocol.proofs.ReachedCalls.{after-only-sent, after-sent}
 
 -- the meaning after a turn in phase p
 abbrev pub turned : (N W : ℕ) → Meaning → Phase → Meaning
@@ -60,7 +61,7 @@ turn-idle N W M p e = λ i. record {
         vector = M .seats .vector;
       };
   link = M .link;
-  pending = (ap (λ (l : List Msg). pendingAfter l none (M .pending)) (farewells-none N W (M .seats) (M .link) e) ∙ after-none (M .pending)) i;
+  pending = (ap (λ (l : List Msg). pendingAfter l none (M .pending)) (farewells-none N W (M .seats) (M .link) e) ∙ after-nothing (M .pending)) i;
 }
 
 seated-leaves : (r : Seats) (x : ℕ) → T (seated r x) → ¬ (T (stays r x)) → T (leaves r x)
@@ -144,9 +145,12 @@ module _ (comp : ℕ → ℕ) {N W : ℕ} {M : Meaning} (h : Sound N W M) (q : Q
   shrinks l l′ = record {
     old = λ x t. let s = freed-stays x t in (stays-seated (M .seats) x s, s);
     new = λ x t s. stays-freed x s;
-    same-num = λ x s. rw (leaves-off (M .seats) x s);
-    same-share = λ x y s t. rw (leaves-off (M .seats) x s, leaves-off (M .seats) y t);
-    same-comp = λ x s. refl;
+    agree = record {
+      width = refl;
+      number = λ x s. rw (leaves-off (M .seats) x s);
+      vector = λ x s. rw (leaves-off (M .seats) x s);
+      component = λ x s. refl;
+    };
   }
 
   -- a target is no leaver
@@ -164,7 +168,7 @@ module _ (comp : ℕ → ℕ) {N W : ℕ} {M : Meaning} (h : Sound N W M) (q : Q
       l = sound-laws h
 
       still : (m : Msg) → T (pendingAfter [] none (M .pending) m) → ⊥
-      still m t = q m (subst (λ (p : Msg → Bool). T (p m)) (after-none (M .pending)) t)
+      still m t = q m (subst (λ (p : Msg → Bool). T (p m)) (after-nothing (M .pending)) t)
 
       keep : (x k : ℕ) (d : Side) → T (seated (M .seats) x) → T (stays (M .seats) x)
           → cond (leaves (M .seats) x) none (unlinked (leaves (M .seats)) (M .link x k d)) ≡ M .link x k d

@@ -1,7 +1,7 @@
 -- Soundness's tests as facts and back: two lots, a link, a message that fits its kind; and what a sound meaning says in these terms.
 -- Assumes nothing.
 use Prim.Native.Nat.{ℕ, suc, _≤_, _<_, suc-le-suc}
-use mathlib.Core.Path.{_≡_, refl, sym, subst}
+use mathlib.Core.Path.{_≡_, refl, sym, _∙_, ap, subst}
 use mathlib.Core.Logic.{_⊎_, inl, inr, _≢_}
 use mathlib.Core.Option.{Option, some}
 use mathlib.Core.Bool.{Bool, true, false, not, _&&_}
@@ -17,8 +17,8 @@ use Rattle.graph.proofs.Order.{on-lt, lt-on, lt-some, side-of}
 use Rattle.graph.proofs.Shared.{shared-le, shared-sym, shared-trans}
 use Rattle.protocol.specs.Message.{Msg, meet, probe, pull, going, seek, found, none-found, among}
 use Rattle.protocol.specs.Numbering.{exists}
-use Rattle.protocol.specs.Rules.{SeatState, free, staying, leaving, isStaying}
-use Rattle.protocol.specs.State.{Phase, open-phase, clearing, Seats, Meaning, isClearing, isFree, isSeated, taken, seated, stays}
+use Rattle.protocol.specs.Rules.{SeatState, free, staying, leaving, reserved, isStaying}
+use Rattle.protocol.specs.State.{Phase, open-phase, clearing, Seats, Meaning, isClearing, isFree, isSeated, isReserved, taken, seated, stays, held}
 use Rattle.protocol.specs.Sound.{pairOk, linkOk, messageOk, Sound}
 use Rattle.protocol.specs.Page.{isTaken, pendingAfter}
 use Rattle.protocol.proofs.Message.{among-mem}
@@ -37,6 +37,9 @@ phase-open clearing t = absurd t
 pub phase-clearing : (p : Phase) → T (isClearing p) → p ≡ clearing
 phase-clearing open-phase t = absurd t
 phase-clearing clearing t = refl
+
+pub not-clearing : {p : Phase} → p ≡ open-phase → p ≡ clearing → ⊥
+not-clearing e f = false-T (ap isClearing (sym f ∙ e)) tt
 
 pub stays-seated : (r : Seats) (x : ℕ) → T (stays r x) → T (seated r x)
 stays-seated r x t = by (r .state x) t
@@ -58,14 +61,22 @@ seated-taken r x t = by (r .state x) t
 pub seated-held : (r : Seats) (x : ℕ) → seated r x ≡ true → taken r x ≡ true
 seated-held r x e = T-true (seated-taken r x (true-T e))
 
--- a seat without a lot is free, as long as nothing else takes seats
-pub empty-free : (r : Seats) (x : ℕ) → seated r x ≡ false → taken r x ≡ false
-empty-free r x e = by (r .state x) e
+-- a reserved seat is taken, without a lot
+pub held-taken : (r : Seats) (x : ℕ) → held r x ≡ true → taken r x ≡ true
+held-taken r x e = by (r .state x) (true-T e)
   where
-    by : (s : SeatState) → isSeated s ≡ false → not (isFree s) ≡ false
-    by free e = refl
-    by staying e = e
-    by leaving e = e
+    by : (s : SeatState) → T (isReserved s) → not (isFree s) ≡ true
+    by reserved t = refl
+
+pub held-empty : (r : Seats) (x : ℕ) → held r x ≡ true → seated r x ≡ false
+held-empty r x e = by (r .state x) (true-T e)
+  where
+    by : (s : SeatState) → T (isReserved s) → isSeated s ≡ false
+    by reserved t = refl
+
+-- who is not seated does not stay
+pub empty-stays : (r : Seats) (x : ℕ) → seated r x ≡ false → stays r x ≡ false
+empty-stays r x e = not-T-false (λ t. false-T e (stays-seated r x t))
 
 -- a seat that is not taken has no lot
 pub free-empty : (r : Seats) (x : ℕ) → taken r x ≡ false → seated r x ≡ false

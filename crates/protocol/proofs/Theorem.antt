@@ -11,7 +11,8 @@ use Rattle.base.proofs.Tests.{false-T, not-T-false}
 use Rattle.protocol.specs.Message.{Msg, Name}
 use Rattle.protocol.specs.Numbering.{somePending}
 use Rattle.protocol.specs.State.{Meaning, oneComponent, nobody, opened}
-use Rattle.protocol.specs.Calls.{Call, join, leave, deliver, turn, refusal, seatsAfter, sends, takes, accept, unlessRefused, call, InRange}
+use Rattle.protocol.specs.Calls.{Call, join, reserve, confirm, giveBack, leave, deliver, turn, refusal, seatsAfter, sends, takes, accept, unlessRefused}
+use Rattle.protocol.specs.Calls.{call, InRange}
 use Rattle.protocol.specs.Page.{pendingAfter}
 use Rattle.protocol.specs.Sound.{Sound}
 use Rattle.protocol.specs.Run.{Logged, Past, Standing, logOf, step, steps, stepsFrom, AllAccepted, Roster, membersOf, meaningRun, rosterAfter}
@@ -21,13 +22,15 @@ use Rattle.protocol.proofs.Delivery.{stateOf, accept-deliver}
 use Rattle.protocol.proofs.World.{Quiet}
 use Rattle.protocol.proofs.Invariant.{invariant-first}
 use Rattle.protocol.proofs.SoundFacts.{pending-exists}
-use Rattle.protocol.proofs.Accepted.{join-rows, leave-rows, turn-row}
+use Rattle.protocol.proofs.Accepted.{reserve-rows, confirm-rows, join-reserve, give-back-rows, leave-rows, turn-row}
+use Rattle.protocol.proofs.Reserving.{join-confirm, join-in-two}
+use Rattle.protocol.proofs.KeepCalls.{reserve-sound}
 use Rattle.protocol.proofs.KeepSound.{opened-sound, accept-sound}
 use Rattle.protocol.proofs.Measure.{bound}
 use Rattle.protocol.proofs.Falls.{deliver-taken, deliveries-end}
 use Rattle.protocol.proofs.Bundle.{deliveries-counted}
 use Rattle.protocol.proofs.Reached.{worldOf, Sane, in-open, Reached, sane-deliver, reached-graph}
-use Rattle.protocol.proofs.ReachedCalls.{sane-join, sane-leave}
+use Rattle.protocol.proofs.ReachedCalls.{sane-reserve, sane-confirm, sane-give-back, sane-leave}
 use Rattle.protocol.proofs.ReachedTurn.{sane-turn}
 
 -- what holds of the old and of the new holds of what a call leaves
@@ -53,34 +56,29 @@ module _ (N W : ℕ) where
   none-quiet : (M : Meaning) → Quiet (stateOf M) → somePending N W (M .pending) ≡ false
   none-quiet M q = pending-none N W (M .pending) (λ m x. not-T-false (λ t. q m t))
 
-  -- a join or a leave keeps the phase
-  phase-join : (M : Meaning) (s n v c : ℕ) → accept N W M (join s n v c) .seats .phase ≡ M .seats .phase
-  unfolding accept seatsAfter
-  phase-join M s n v c = refl
-
-  phase-leave : (M : Meaning) (s : ℕ) → accept N W M (leave s) .seats .phase ≡ M .seats .phase
-  unfolding accept seatsAfter
-  phase-leave M s = refl
-
-  sane-accept : {M : Meaning} → Reached oneComponent N W M → (c : Call) → refusal N W (M .seats) (M .pending) c ≡ 0
+  sane-accept : {M : Meaning} → Reached oneComponent N W M → (c : Call) → InRange N W c → refusal N W (M .seats) (M .pending) c ≡ 0
       → Sane oneComponent W (accept N W M c) (accept N W M c .seats .phase)
-  sane-accept {M} g (join s n v c) e =
-      let ok = join-rows N W (M .seats) (M .pending) s n v c e in
-      subst (Sane oneComponent W (accept N W M (join s n v c))) (sym (phase-join M s n v c ∙ ok .opens))
-      (sane-join oneComponent (g .sound) s n v c ok (λ l. refl) (subst (Sane oneComponent W M) (ok .opens) (g .sane)))
-  sane-accept {M} g (leave s) e =
-      let ok = leave-rows N W (M .seats) (M .pending) s e in
-      subst (Sane oneComponent W (accept N W M (leave s))) (sym (phase-leave M s ∙ ok .opens))
-      (sane-leave oneComponent M s ok (subst (Sane oneComponent W M) (ok .opens) (g .sane)))
-  sane-accept {M} g (deliver n) e =
+  unfolding accept seatsAfter
+  sane-accept {M} g (join s n v c) q e =
+      let a = join-reserve N W (M .seats) (M .pending) s n v c e in
+      let K = accept N W M (reserve s n v) in
+      let b = confirm-rows N W (K .seats) (K .pending) s c (join-confirm N W M s n v c e) in
+      subst (λ (K : Meaning). Sane oneComponent W K (K .seats .phase)) (join-in-two N W M s n v c)
+      (sane-confirm oneComponent (reserve-sound (g .sound) s n v (q .0) (q .1) a) s c b (λ l. refl)
+      (sane-reserve oneComponent (g .sound) s n v (reserve-rows N W (M .seats) (M .pending) s n v a) (g .sane)))
+  sane-accept {M} g (reserve s n v) q e = sane-reserve oneComponent (g .sound) s n v (reserve-rows N W (M .seats) (M .pending) s n v e) (g .sane)
+  sane-accept {M} g (confirm s c) q e = sane-confirm oneComponent (g .sound) s c (confirm-rows N W (M .seats) (M .pending) s c e) (λ l. refl) (g .sane)
+  sane-accept {M} g (giveBack s) q e = sane-give-back oneComponent (g .sound) s (give-back-rows N W (M .seats) (M .pending) s e) (g .sane)
+  sane-accept {M} g (leave s) q e = sane-leave oneComponent (g .sound) s (leave-rows N W (M .seats) (M .pending) s e) (g .sane)
+  sane-accept {M} g (deliver n) q e =
       let t = deliver-taken N W M n e in
       subst (λ (K : Meaning). Sane oneComponent W K (K .seats .phase)) (sym (accept-deliver N W M n (t .message) (t .is)))
       (sane-deliver (g .sane) (t .message) (t .was))
-  sane-accept {M} g turn e = sane-turn oneComponent (g .sound) (quiet-none (g .sound) (turn-row N W (M .seats) (M .pending) e)) (g .sane)
+  sane-accept {M} g turn q e = sane-turn oneComponent (g .sound) (quiet-none (g .sound) (turn-row N W (M .seats) (M .pending) e)) (g .sane)
 
   reached-accept : {M : Meaning} → Reached oneComponent N W M → (c : Call) → InRange N W c → refusal N W (M .seats) (M .pending) c ≡ 0
       → Reached oneComponent N W (accept N W M c)
-  reached-accept {M} g c q e = record { sound = accept-sound N W M (g .sound) c q e; sane = sane-accept g c e }
+  reached-accept {M} g c q e = record { sound = accept-sound N W M (g .sound) c q e; sane = sane-accept g c q e }
 
   pub reached-call : {M : Meaning} → Reached oneComponent N W M → (c : Call) → InRange N W c → Reached oneComponent N W (call N W M c .after)
   unfolding call unlessRefused

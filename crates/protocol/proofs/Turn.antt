@@ -4,10 +4,11 @@ use mathlib.Core.Path.{_≡_, refl, sym, _∙_, subst}
 use mathlib.Core.Logic.{_⊎_, inl, inr}
 use mathlib.Core.Option.{Option, none, some}
 use Rattle.graph.specs.Side.{Side, opp}
-use Rattle.graph.specs.inner.Order.{Lt, toL, toR}
+use Rattle.graph.specs.inner.Order.{Lt}
 use Rattle.base.proofs.Tests.{some-inj, none-some}
 use Rattle.protocol.specs.Message.{Msg, going}
-use Rattle.protocol.proofs.World.{World, State, Quiet, share, Pair}
+use Rattle.protocol.proofs.World.{World, State, Quiet, Pair}
+use Rattle.protocol.proofs.Agree.{Agree, agree-back, agree-lt, agree-pair}
 use Rattle.protocol.proofs.Exact.{Next, Exact}
 use Rattle.protocol.proofs.Invariant.{Invariant, exact-sym, exact-invariant}
 use Rattle.protocol.proofs.Clearing.{Target, nobody, nearest, AllLinks, Ok, ok-going, Todo, done, by-going, Clearing}
@@ -49,18 +50,14 @@ module _ {G : World} (Stay : ℕ → Type 0) {S : State} (h : (k : ℕ) → Exac
 pub record Shrinks (G : World) (Stay : ℕ → Type 0) (H : World) : Type 0 where
   pub old : (x : ℕ) → H .Seated x → G .Seated x × Stay x
   pub new : (x : ℕ) → G .Seated x → Stay x → H .Seated x
-  pub same-num : (x : ℕ) → Stay x → H .num x ≡ G .num x
-  pub same-share : (x y : ℕ) → Stay x → Stay y → share H x y ≡ share G x y
-  pub same-comp : (x : ℕ) → Stay x → H .comp x ≡ G .comp x
+  pub agree : Agree Stay G H
 
 module _ {G : World} {Stay : ℕ → Type 0} {H : World} (z : Shrinks G Stay H) where
   lt-in : {d : Side} {x y : ℕ} → Stay x → Stay y → Lt (G .num) d x y → Lt (H .num) d x y
-  lt-in {x = x} {y = y} s t (toL p) = toL {x = x} {y = y} (rw (z .same-num x s, z .same-num y t) p)
-  lt-in {x = x} {y = y} s t (toR p) = toR {x = x} {y = y} (rw (z .same-num x s, z .same-num y t) p)
+  lt-in s t l = agree-lt (z .agree) s t l
 
   lt-out : {d : Side} {x y : ℕ} → Stay x → Stay y → Lt (H .num) d x y → Lt (G .num) d x y
-  lt-out {x = x} {y = y} s t (toL p) = toL {x = x} {y = y} (rw (z .same-num x s, z .same-num y t) at p)
-  lt-out {x = x} {y = y} s t (toR p) = toR {x = x} {y = y} (rw (z .same-num x s, z .same-num y t) at p)
+  lt-out s t l = agree-lt (agree-back (z .agree)) s t l
 
   stay-fst : {k x y : ℕ} → Pair H k x y → Stay x
   stay-fst {k} {x} {y} p = z .old x (p .fst) .1
@@ -69,20 +66,10 @@ module _ {G : World} {Stay : ℕ → Type 0} {H : World} (z : Shrinks G Stay H) 
   stay-snd {k} {x} {y} p = z .old y (p .snd) .1
 
   pair-out : {k x y : ℕ} → Pair H k x y → Pair G k x y
-  pair-out {k} {x} {y} p = record {
-    fst = z .old x (p .fst) .0;
-    snd = z .old y (p .snd) .0;
-    same = sym (z .same-comp x (stay-fst p)) ∙ p .same ∙ z .same-comp y (stay-snd p);
-    bits = rw (z .same-share x y (stay-fst p) (stay-snd p)) at (p .bits);
-  }
+  pair-out {k} {x} {y} p = agree-pair (agree-back (z .agree)) (stay-fst p) (stay-snd p) (z .old x (p .fst) .0) (z .old y (p .snd) .0) p
 
   pair-in : {k x y : ℕ} → Stay x → Stay y → Pair G k x y → Pair H k x y
-  pair-in {k} {x} {y} s t p = record {
-    fst = z .new x (p .fst) s;
-    snd = z .new y (p .snd) t;
-    same = z .same-comp x s ∙ p .same ∙ sym (z .same-comp y t);
-    bits = rw (z .same-share x y s t) (p .bits);
-  }
+  pair-in {k} {x} {y} s t p = agree-pair (z .agree) s t (z .new x (p .fst) s) (z .new y (p .snd) t) p
 
   target-next : {k x y : ℕ} {d : Side} {o : Option ℕ} → Stay x → Target G Stay k x d o → o ≡ some y → Next H k x d y
   target-next st (nobody h) e = none-some refl e

@@ -10,12 +10,18 @@ use Rattle.protocol.specs.State.{Seats, Meaning}
 use Rattle.protocol.specs.Refusals.{Row, first}
 use Rattle.protocol.specs.Page.{Page, pendingAfter}
 use Rattle.protocol.specs.pages.Join.{joinPage}
+use Rattle.protocol.specs.pages.Reserve.{reservePage}
+use Rattle.protocol.specs.pages.Confirm.{confirmPage}
+use Rattle.protocol.specs.pages.GiveBack.{giveBackPage}
 use Rattle.protocol.specs.pages.Leave.{leavePage}
 use Rattle.protocol.specs.pages.Deliver.{deliverPage}
 use Rattle.protocol.specs.pages.Turn.{turnPage}
 
 pub data Call : Type 0 where
   join : (seat number vector contact : ℕ) → Call
+  reserve : (seat number vector : ℕ) → Call
+  confirm : (seat contact : ℕ) → Call
+  giveBack : (seat : ℕ) → Call
   leave : (seat : ℕ) → Call
   deliver : Name → Call
   turn : Call
@@ -34,6 +40,9 @@ module _ (N W : ℕ) where
   -- the page of a call
   abbrev pub pageOf : Call → Page
   pageOf (join s n v c) = joinPage N W s n v c
+  pageOf (reserve s n v) = reservePage N W s n v
+  pageOf (confirm s c) = confirmPage N W s c
+  pageOf (giveBack s) = giveBackPage N W s
   pageOf (leave s) = leavePage N W s
   pageOf (deliver n) = deliverPage N W n
   pageOf turn = turnPage N W

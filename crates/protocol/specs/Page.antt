@@ -7,6 +7,7 @@ use mathlib.Core.List.{List}
 use lib.Dec.{eqb}
 use Rattle.graph.specs.Graph.{Links}
 use Rattle.protocol.specs.Message.{Msg, sameMsg, among}
+use Rattle.protocol.specs.Rules.{SeatState}
 use Rattle.protocol.specs.State.{Seats, Meaning}
 use Rattle.protocol.specs.Refusals.{Row}
 
@@ -24,6 +25,18 @@ pub record Page : Type 1 where
 -- f with the value a at s
 unfoldable pub at : {A : Type 0} → ℕ → A → (ℕ → A) → ℕ → A
 at s a f x = cond (eqb x s) a (f x)
+
+-- the seats with another state on seat s
+abbrev pub marking : (s : ℕ) → SeatState → Seats → Seats
+marking s t r = record { phase = r .phase; state = at s t (r .state); number = r .number; vector = r .vector }
+
+-- the seats with another state, number and vector on seat s
+abbrev pub seating : (s : ℕ) → SeatState → (n v : ℕ) → Seats → Seats
+seating s t n v r = record { phase = r .phase; state = at s t (r .state); number = at s n (r .number); vector = at s v (r .vector) }
+
+-- the links, none of them on seat s
+abbrev pub withoutLinks : (s : ℕ) → Links → Links
+withoutLinks s L x k d = cond (eqb x s) none (L x k d)
 
 unfoldable pub isTaken : Option Msg → Msg → Bool
 isTaken none m = false

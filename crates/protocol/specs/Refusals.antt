@@ -45,6 +45,9 @@ noSuchLevel = 12
 abbrev pub unsettled : ℕ
 unsettled = 13
 
+abbrev pub notReserved : ℕ
+notReserved = 14
+
 -- the order in which they are tested: the first that applies is given
 abbrev pub order : List ℕ
 order =
@@ -54,6 +57,7 @@ order =
     ∷ noSuchLevel
     ∷ inClearing
     ∷ seatTaken
+    ∷ notReserved
     ∷ emptySeat
     ∷ unsettled
     ∷ numberInUse

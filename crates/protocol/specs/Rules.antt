@@ -9,9 +9,9 @@ use Rattle.graph.specs.Side.{Side, opp, onSide, sideOf}
 use Rattle.graph.specs.Vector.{sameBit, bit, shared}
 use Rattle.protocol.specs.Message.{Msg, meet, probe, pull, going, seek, found, none-found}
 
--- document 01, "state": 0 free, 1 staying, 2 leaving
+-- document 01, "state": 0 free, 1 staying, 2 leaving; document 02, #105: 3 reserved
 pub data SeatState : Type 0 where
-  free staying leaving : SeatState
+  free staying leaving reserved : SeatState
 
 -- the entry of a seat
 pub record Entry : Type 0 where
@@ -33,6 +33,7 @@ abbrev pub isStaying : SeatState → Bool
 isStaying free = false
 isStaying staying = true
 isStaying leaving = false
+isStaying reserved = false
 
 -- a message to a link, if there is one
 unfoldable pub toLink : Option ℕ → (ℕ → Msg) → List Msg

@@ -18,7 +18,7 @@ module _ (W : ℕ) (r : Seats) where
   unfoldable pub pairOk : (k x y : ℕ) → Bool
   pairOk k x y = seated r x && (seated r y && (not (eqb x y) && leb k (shared W (r .vector x) (r .vector y))))
 
-  -- a link names another seated lot on its own side sharing the level's bits
+  -- a link is of a seated lot, and names another on its own side sharing the level's bits: a free or a reserved seat has none
   unfoldable pub linkOk : (x k : ℕ) (d : Side) (y : ℕ) → Bool
   linkOk x k d y = pairOk k x y && onSide d (r .number x) (r .number y)
 
@@ -40,7 +40,7 @@ pub record Sound (N W : ℕ) (M : Meaning) : Type 0 where
   -- a free seat's entry is as opened
   pub unused : (x : ℕ) → T (isFree (M .seats .state x))
       → (M .seats .number x ≡ 0) × (M .seats .vector x ≡ 0) × ((k : ℕ) (d : Side) → M .link x k d ≡ none)
-  -- numbers differ
+  -- numbers differ, of lots and of reservations together
   pub differ : (x y : ℕ) → T (taken (M .seats) x) → T (taken (M .seats) y) → M .seats .number x ≡ M .seats .number y → x ≡ y
   pub links : (x k y : ℕ) (d : Side) → M .link x k d ≡ some y → T (linkOk W (M .seats) x k d y)
   pub messages : (m : Msg) → T (M .pending m) → T (messageOk W (M .seats) m)

@@ -5,7 +5,7 @@ use mathlib.Core.Bool.{Bool, true, false, not, cond}
 use lib.Dec.{ltb}
 use Rattle.graph.specs.Graph.{Lots, Links}
 use Rattle.protocol.specs.Message.{Msg}
-use Rattle.protocol.specs.Rules.{SeatState, free, staying, leaving, isStaying, Entry}
+use Rattle.protocol.specs.Rules.{SeatState, free, staying, leaving, reserved, isStaying, Entry}
 
 pub data Phase : Type 0 where
   open-phase clearing : Phase
@@ -30,18 +30,27 @@ abbrev pub isFree : SeatState → Bool
 isFree free = true
 isFree staying = false
 isFree leaving = false
+isFree reserved = false
 
 abbrev pub isSeated : SeatState → Bool
 isSeated free = false
 isSeated staying = true
 isSeated leaving = true
+isSeated reserved = false
 
 abbrev pub isLeaving : SeatState → Bool
 isLeaving free = false
 isLeaving staying = false
 isLeaving leaving = true
+isLeaving reserved = false
 
--- seat x is not free: nobody else can have it
+abbrev pub isReserved : SeatState → Bool
+isReserved free = false
+isReserved staying = false
+isReserved leaving = false
+isReserved reserved = true
+
+-- seat x is not free, it has a lot or is reserved: nobody else can have it
 abbrev pub taken : Seats → ℕ → Bool
 taken r x = not (isFree (r .state x))
 
@@ -49,7 +58,7 @@ taken r x = not (isFree (r .state x))
 abbrev pub seated : Seats → ℕ → Bool
 seated r x = isSeated (r .state x)
 
--- no lot of the graph sits there
+-- no lot of the graph sits there: the seat is free or only reserved
 abbrev pub empty : Seats → ℕ → Bool
 empty r x = not (seated r x)
 
@@ -58,6 +67,10 @@ stays r x = isStaying (r .state x)
 
 abbrev pub leaves : Seats → ℕ → Bool
 leaves r x = isLeaving (r .state x)
+
+-- seat x is held for a number and a vector, without a lot of the graph
+abbrev pub held : Seats → ℕ → Bool
+held r x = isReserved (r .state x)
 
 -- s is above the last of N seats
 abbrev pub noSeat : (N s : ℕ) → Bool

@@ -1,34 +1,51 @@
 -- Join (document 01, "Calls"): names a free seat, number, vector and contact. The newcomer is staying, without links; the contact gets MEET
--- about it at level 0. In a record without lots the contact is 255 and nothing is sent. Assumes nothing.
+-- about it at level 0. In a record without lots the contact is 255 and nothing is sent. Reserving and confirming (document 02, #105) meet the
+-- rows of a join that concern them. Assumes nothing.
 use Prim.Native.Nat.{ℕ, _^_, _<_}
 use mathlib.Core.Option.{none}
-use mathlib.Core.Bool.{not, cond, _&&_, _||_}
-use mathlib.Core.List.{[], _∷_}
+use mathlib.Core.Bool.{Bool, not, cond, _&&_, _||_}
+use mathlib.Core.List.{List, [], _∷_}
 use lib.Dec.{eqb, ltb}
 use Rattle.base.specs.Loops.{any}
-use Rattle.protocol.specs.Message.{meet}
+use Rattle.protocol.specs.Message.{Msg, meet}
 use Rattle.protocol.specs.Rules.{staying}
-use Rattle.protocol.specs.State.{isClearing, taken, seated, empty, noSeat}
+use Rattle.protocol.specs.State.{Seats, isClearing, taken, seated, empty, noSeat}
 use Rattle.protocol.specs.Refusals.{noSuchSeat, inClearing, seatTaken, numberInUse, noContact, row}
-use Rattle.protocol.specs.Page.{Page, at}
+use Rattle.protocol.specs.Page.{Page, seating, withoutLinks}
 use Rattle.protocol.specs.Sound.{numberBits}
 
 -- the contact that names no seat
 abbrev pub nobodyToContact : ℕ
 nobodyToContact = 255
 
+-- neither a seat nor 255
+abbrev pub noSuchContact : (N c : ℕ) → Bool
+noSuchContact N c = noSeat N c && not (eqb c nobodyToContact)
+
+-- some taken seat has the number n
+abbrev pub inUse : (N : ℕ) → Seats → (n : ℕ) → Bool
+inUse N r n = any N (λ x. taken r x && eqb (r .number x) n)
+
+-- the contact is a seat without a lot, or 255 while lots are seated
+abbrev pub lacksContact : (N : ℕ) → Seats → (c : ℕ) → Bool
+lacksContact N r c = cond (noSeat N c) (any N (seated r)) (empty r c)
+
+-- the contact hears of the newcomer on seat s
+abbrev pub greeting : (N s c : ℕ) → List Msg
+greeting N s c = cond (ltb c N) (meet c s 0 ∷ []) []
+
 abbrev pub joinPage : (N W s n v c : ℕ) → Page
 joinPage N W s n v c = record {
   rows = λ r p.
-      row noSuchSeat (noSeat N s || (noSeat N c && not (eqb c nobodyToContact)))
+      row noSuchSeat (noSeat N s || noSuchContact N c)
       ∷ row inClearing (isClearing (r .phase))
       ∷ row seatTaken (taken r s)
-      ∷ row numberInUse (any N (λ x. taken r x && eqb (r .number x) n))
-      ∷ row noContact (cond (noSeat N c) (any N (seated r)) (empty r c))
+      ∷ row numberInUse (inUse N r n)
+      ∷ row noContact (lacksContact N r c)
       ∷ [];
-  seats = λ r. record { phase = r .phase; state = at s staying (r .state); number = at s n (r .number); vector = at s v (r .vector) };
-  links = λ M x k d. cond (eqb x s) none (M .link x k d);
-  sends = λ M. cond (ltb c N) (meet c s 0 ∷ []) [];
+  seats = seating s staying n v;
+  links = λ M. withoutLinks s (M .link);
+  sends = λ M. greeting N s c;
   takes = none;
   fits = (n < 2 ^ numberBits) × (v < 2 ^ W);
 }

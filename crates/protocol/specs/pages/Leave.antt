@@ -5,7 +5,7 @@ use mathlib.Core.List.{[], _∷_}
 use Rattle.protocol.specs.Rules.{leaving}
 use Rattle.protocol.specs.State.{isClearing, empty, leaves, noSeat}
 use Rattle.protocol.specs.Refusals.{noSuchSeat, inClearing, emptySeat, alreadyLeaving, row}
-use Rattle.protocol.specs.Page.{Page, at}
+use Rattle.protocol.specs.Page.{Page, marking}
 
 abbrev pub leavePage : (N W s : ℕ) → Page
 leavePage N W s = record {
@@ -15,7 +15,7 @@ leavePage N W s = record {
       ∷ row emptySeat (empty r s)
       ∷ row alreadyLeaving (leaves r s)
       ∷ [];
-  seats = λ r. record { phase = r .phase; state = at s leaving (r .state); number = r .number; vector = r .vector };
+  seats = marking s leaving;
   links = λ M. M .link;
   sends = λ M. [];
   takes = none;
