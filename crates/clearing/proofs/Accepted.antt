@@ -19,7 +19,7 @@ use Rattle.protocol.specs.Freeing.{unlinked}
 use Rattle.record.specs.Layout.{seats, phaseAt}
 use Rattle.record.specs.Meaning.{phaseByte, bytesOf}
 use Rattle.record.proofs.Round.{read-phase}
-use Rattle.record.proofs.Pending.{after-nothing}
+use Rattle.protocol.proofs.Calls.{after-nothing}
 use Rattle.record.proofs.Frame.{bytes-same}
 use Rattle.clearing.specs.inner.Steps.{Linked, farewellsFrom, inPhase, freed, begun, ended}
 

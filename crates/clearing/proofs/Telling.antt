@@ -22,7 +22,8 @@ use Rattle.record.proofs.Values.{linkOf-linkByte}
 use Rattle.record.proofs.Form.{meaning-link}
 use Rattle.record.proofs.Links.{linkOf-some, linkOf-none, side-opp}
 use Rattle.record.proofs.Round.{read-link}
-use Rattle.record.proofs.Pending.{after-nothing, after-append}
+use Rattle.protocol.proofs.Calls.{after-nothing}
+use Rattle.record.proofs.Pending.{after-append}
 use Rattle.record.proofs.Update.{withPending}
 use Rattle.record.proofs.Sent.{bytes-withMessage}
 use Rattle.clearing.proofs.Leaving.{leaves-bytes}

@@ -2,7 +2,7 @@
 use Prim.Native.Nat.{ℕ, _<_}
 use mathlib.Core.Path.{_≡_, refl, sym, _∙_, ap, subst, subst₂, fun-ext}
 use mathlib.Core.Logic.{_⊎_, inl, inr, _≢_}
-use mathlib.Core.Option.{Option, none, some}
+use mathlib.Core.Option.{none}
 use mathlib.Core.Bool.{Bool, true, false, cond}
 use mathlib.Core.List.{List, [], _∷_, List·Memᴰ, List·Memᴰ·head, List·Memᴰ·not-nil, List·Memᴰ·eq-of-singleton}
 use native.Mathlib.Omega.{arith}
@@ -11,7 +11,7 @@ use lib.Dec.{T, ltb}
 use borrow.Author.Tests.{lt-ltb, le-ltb}
 use Rattle.graph.specs.Side.{Side}
 use Rattle.graph.specs.Graph.{Links}
-use Rattle.base.proofs.Tests.{false-T, true-false}
+use Rattle.base.proofs.Tests.{false-T, not-T-false, true-false}
 use Rattle.protocol.specs.Message.{Msg, meet, nameOf, among}
 use Rattle.protocol.specs.Rules.{SeatState, free, staying, leaving, reserved, isStaying}
 use Rattle.protocol.specs.State.{Phase, open-phase, clearing, Seats, Meaning, isSeated, seated, stays}
@@ -26,7 +26,7 @@ use Rattle.protocol.proofs.Clearing.{AllLinks, Clearing}
 use Rattle.protocol.proofs.Invariant.{invariant-first}
 use Rattle.protocol.proofs.Join.{Has, invariant-same, Grows, Meets, invariant-join}
 use Rattle.protocol.proofs.SameLots.{links-same, clearing-same}
-use Rattle.protocol.proofs.SoundFacts.{not-clearing, free-empty, held-empty, empty-stays, seated-below, link-linked}
+use Rattle.protocol.proofs.SoundFacts.{not-clearing, free-empty, held-empty, empty-stays, empty-unlinked, seated-below}
 use Rattle.protocol.proofs.Accepted.{Reserves, Confirms, GivesBack, Leaves}
 use Rattle.protocol.proofs.Reserving.{seated-seating, bare-links}
 use Rattle.protocol.proofs.Reached.{Laws, sound-laws, worldOf, Stayer, Sane, in-open, in-clearing}
@@ -98,15 +98,11 @@ module _ (comp : ℕ → ℕ) {N W : ℕ} {M : Meaning} (h : Sound N W M) (s : �
       other : (x : ℕ) → T (seated (M .seats) x) → x ≢ s
       other x u q = false-T was (subst (λ (y : ℕ). T (seated (M .seats) y)) q u)
 
-  bare : (k : ℕ) (d : Side) (o : Option ℕ) → M .link s k d ≡ o → o ≡ none
-  bare k d none e = refl
-  bare k d (some y) e = absurd (false-T was (link-linked h e .0 .one))
-
   sane-seating : {p : Phase} → Sane comp W M p
       → Sane comp W (record { seats = seating s t n v (M .seats); link = withoutLinks s (M .link); pending = pendingAfter [] none (M .pending) }) p
   sane-seating {p} i =
       subst₂ (λ (L : Links) (q : Msg → Bool). Sane comp W (record { seats = seating s t n v (M .seats); link = L; pending = q }) p)
-      (sym (bare-links s M (λ k d. bare k d (M .link s k d) refl)))
+      (sym (bare-links s M (λ k d. empty-unlinked h s k d was)))
       (sym (after-nothing (M .pending)))
       (sane-same comp h same-seating (λ e. fun-ext (at-tested s t (M .seats .state) isStaying (stay ∙ sym (empty-stays (M .seats) s was)))) i)
 
@@ -189,7 +185,7 @@ module _ (comp : ℕ → ℕ) {N W : ℕ} {M : Meaning} (h : Sound N W M) (s c :
       by : Dec (c < N) → Sane comp W (accept N W M (confirm s c)) open-phase
       by (yes p) = in-open (λ l′. invariant-join (grows p (same p) l l′) (meets (ltb c N) (lt-ltb c N p)) (ok .contact p) (i l))
       by (no p) =
-          in-open (λ l′. invariant-first (worldOf comp W r′ l′) _ alone (λ x k d. bare x k d (M .link x k d) refl)
+          in-open (λ l′. invariant-first (worldOf comp W r′ l′) _ alone (λ x k d. empty-unlinked h x k d (not-T-false (nobody-in x)))
           (λ m t. silent (ltb c N) (le-ltb c N (omega arith)) m t))
         where
           nobody-in : (x : ℕ) → T (seated r x) → ⊥
@@ -201,10 +197,6 @@ module _ (comp : ℕ → ℕ) {N W : ℕ} {M : Meaning} (h : Sound N W M) (s c :
 
           alone : (x y : ℕ) → T (seated r′ x) → T (seated r′ y) → x ≡ y
           alone x y t u = newcomer x (who x t) ∙ sym (newcomer y (who y u))
-
-          bare : (x k : ℕ) (d : Side) (o : Option ℕ) → M .link x k d ≡ o → o ≡ none
-          bare x k d none e = refl
-          bare x k d (some y) e = absurd (nobody-in x (link-linked h e .0 .one))
 
           silent : (b : Bool) → b ≡ false → (m : Msg) → T (pendingAfter (sent b) none (M .pending) m) → ⊥
           silent true e m t = true-false refl e

@@ -3,7 +3,7 @@
 use Prim.Native.Nat.{ℕ, suc, _≤_, _<_, suc-le-suc}
 use mathlib.Core.Path.{_≡_, refl, sym, _∙_, ap, subst}
 use mathlib.Core.Logic.{_⊎_, inl, inr, _≢_}
-use mathlib.Core.Option.{Option, some}
+use mathlib.Core.Option.{Option, none, some}
 use mathlib.Core.Bool.{Bool, true, false, not, _&&_}
 use mathlib.Core.List.{List, List·Memᴰ}
 use native.Mathlib.Omega.{arith}
@@ -200,6 +200,14 @@ module _ {W : ℕ} {r : Seats} where
 module _ {N W : ℕ} {M : Meaning} (h : Sound N W M) where
   pub link-linked : {x k y : ℕ} {d : Side} → M .link x k d ≡ some y → Linked W (M .seats) x k d y
   link-linked {x} {k} {y} {d} e = ok-linked W (M .seats) x k d y (h .links x k y d e)
+
+  -- a seat without a lot has no links, a reserved one neither
+  pub empty-unlinked : (x k : ℕ) (d : Side) → seated (M .seats) x ≡ false → M .link x k d ≡ none
+  empty-unlinked x k d e = by (M .link x k d) refl
+    where
+      by : (o : Option ℕ) → M .link x k d ≡ o → o ≡ none
+      by none q = refl
+      by (some y) q = absurd (false-T e (link-linked q .0 .one))
 
   pub pending-proper : {m : Msg} → T (M .pending m) → Proper W (M .seats) (M .seats .phase) m
   pending-proper {m} t = ok-proper W (M .seats) m (h .messages m t)

@@ -16,7 +16,7 @@ use Rattle.base.proofs.Tests.{T-true, true-T, true-false}
 use Rattle.protocol.specs.Numbering.{messageAt}
 use Rattle.protocol.specs.State.{isFree, taken}
 use Rattle.protocol.specs.Sound.{linkOk, messageOk}
-use Rattle.record.specs.Layout.{seats, levels, noLink, messages, phaseAt, stateAt, linkAt, pendingFrom}
+use Rattle.record.specs.Layout.{seats, levels, states, noLink, messages, phaseAt, stateAt, linkAt, pendingFrom}
 use Rattle.record.specs.Meaning.{seatsIn}
 use Rattle.record.specs.Sound.{phaseFits, statesFit, asOpened, unusedFit, numbersDiffer, linkFits, linksFit, messagesFit, sound}
 
@@ -63,7 +63,7 @@ LinkFits l x k d = let b = getD l (linkAt x k d) 0 in (b ≡ noLink) ⊎ ((b < s
 -- what the clauses say of the bytes
 pub record Fits (l : List ℕ) : Type 0 where
   pub phase : getD l phaseAt 0 < 2
-  pub states : (s : ℕ) → s < seats → getD l (stateAt s) 0 < 3
+  pub states : (s : ℕ) → s < seats → getD l (stateAt s) 0 < states
   pub unused : (s : ℕ) → s < seats → T (isFree (seatsIn l .state s)) → AsOpened l s
   pub differ : (x y : ℕ) → x < seats → y < x → T (taken (seatsIn l) x) → T (taken (seatsIn l) y)
       → seatsIn l .number x ≡ seatsIn l .number y → ⊥
@@ -75,11 +75,11 @@ module _ (l : List ℕ) where
   unfolding phaseFits
   phaseFits-is = (ltb-true (getD l phaseAt 0) 2, lt-ltb (getD l phaseAt 0) 2)
 
-  pub statesFit-is : (statesFit l ≡ true) ↔ ((s : ℕ) → s < seats → getD l (stateAt s) 0 < 3)
+  pub statesFit-is : (statesFit l ≡ true) ↔ ((s : ℕ) → s < seats → getD l (stateAt s) 0 < states)
   unfolding statesFit
   statesFit-is = (
-    λ e s h. ltb-true (getD l (stateAt s) 0) 3 (all-at seats s _ e h),
-    λ f. all-from seats _ (λ s h. lt-ltb (getD l (stateAt s) 0) 3 (f s h)),
+    λ e s h. ltb-true (getD l (stateAt s) 0) states (all-at seats s _ e h),
+    λ f. all-from seats _ (λ s h. lt-ltb (getD l (stateAt s) 0) states (f s h)),
   )
 
   pub asOpened-is : (s : ℕ) → (asOpened l s ≡ true) ↔ AsOpened l s

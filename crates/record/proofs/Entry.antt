@@ -1,11 +1,10 @@
--- A lot without links written on a seat, as a join does: its three fields are put. The meaning is any. Assumes nothing.
+-- A state, number and vector written on a seat, and no links, as a join, reserving and giving back do: three fields are put. The meaning is any. Assumes
+-- nothing.
 use Prim.Native.Nat.{ℕ, _<_}
 use mathlib.Core.Path.{_≡_, refl, ap, _∙_}
 use mathlib.Core.Logic.{⊎-elim}
 use mathlib.Core.Option.{none}
-use mathlib.Core.Bool.{cond}
 use mathlib.Core.List.{List}
-use lib.Dec.{eqb}
 use lib.ListN.{set}
 use borrow.Author.Tests.{eq-eqb, ne-eqb}
 use Rattle.memory.specs.Bytes.{putNumber}
@@ -13,24 +12,15 @@ use Rattle.base.proofs.Cases.{eq-or-ne}
 use Rattle.graph.specs.Side.{Side}
 use Rattle.protocol.specs.Rules.{SeatState}
 use Rattle.protocol.specs.State.{Meaning}
-use Rattle.protocol.specs.Page.{at}
+use Rattle.protocol.specs.Page.{seating, withoutLinks}
 use Rattle.record.specs.Layout.{seats, levels, numberSize, vectorSize, stateAt, numberFrom, vectorFrom}
 use Rattle.record.specs.Meaning.{stateByte, bytesOf}
 use Rattle.record.proofs.Frame.{same-links, bytes-same}
 use Rattle.record.proofs.Update.{withState, withNumber, withVector, bytes-withState, bytes-withNumber, bytes-withVector}
 
--- the entry of seat s as a lot without links
+-- the entry of seat s with another state, number and vector, and without links
 abbrev pub withLot : Meaning → (s : ℕ) → SeatState → (n v : ℕ) → Meaning
-withLot M s st n v = record {
-  seats = record {
-    phase = M .seats .phase;
-    state = at s st (M .seats .state);
-    number = at s n (M .seats .number);
-    vector = at s v (M .seats .vector);
-  };
-  link = λ x k d. cond (eqb x s) none (M .link x k d);
-  pending = M .pending;
-}
+withLot M s st n v = record { seats = seating s st n v (M .seats); link = withoutLinks s (M .link); pending = M .pending }
 
 module _ (M : Meaning) (s : ℕ) (st : SeatState) (n v : ℕ) (h : s < seats) where
   -- the three fields

@@ -23,7 +23,7 @@ use Rattle.protocol.specs.Numbering.{exists, place, messageAt}
 use Rattle.protocol.specs.Rules.{free}
 use Rattle.protocol.specs.Sound.{numberBits}
 use Rattle.record.specs.Layout.{seats, levels, byteBits, numberSize, vectorSize, noLink, messages, phaseAt, stateAt, numberFrom, vectorFrom, linkAt}
-use Rattle.record.specs.Layout.{pendingFrom, size}
+use Rattle.record.specs.Layout.{states, pendingFrom, size}
 use Rattle.record.specs.Cell.{Cell, phaseCell, stateCell, numberCell, vectorCell, linkCell, pendingCell, cellSize}
 use Rattle.record.specs.inner.Cell.{InRecord, cellIn}
 use Rattle.record.specs.Meaning.{phaseOf, stateOf, linkOf, seatsIn, meaning, phaseByte, stateByte, linkByte, valueOf}
@@ -33,7 +33,7 @@ use Rattle.record.proofs.Values.{phaseByte-phaseOf, stateByte-stateOf, 
 -- the numbers that a cell can hold
 abbrev pub CellFits : Cell → (v : ℕ) → Type 0
 CellFits phaseCell v = v < 2
-CellFits (stateCell s) v = v < 3
+CellFits (stateCell s) v = v < states
 CellFits (numberCell s) v = v < 2 ^ numberBits
 CellFits (vectorCell s) v = v < 2 ^ width
 CellFits (linkCell s k d) v = (v ≡ noLink) ⊎ (v < seats)

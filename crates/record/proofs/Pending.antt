@@ -45,10 +45,6 @@ module _ (m : Msg) (p : Msg → Bool) where
   unfolding pendingAfter among isTaken
   taken-other n ne = rw (same-other m n ne) (and-true (p n))
 
-pub after-nothing : (p : Msg → Bool) → pendingAfter [] none p ≡ p
-unfolding pendingAfter among isTaken
-after-nothing p = fun-ext (λ m. and-true (p m))
-
 among-append : (a b : List Msg) (m : Msg) → among (a ++ b) m ≡ among a m || among b m
 unfolding among
 among-append [] b m = refl

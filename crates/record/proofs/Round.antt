@@ -20,7 +20,7 @@ use Rattle.graph.specs.Vector.{width}
 use Rattle.base.proofs.Tests.{dec-T, not-T-false}
 use Rattle.protocol.specs.Message.{Msg}
 use Rattle.protocol.specs.Numbering.{exists, place, messageAt}
-use Rattle.protocol.specs.Rules.{SeatState, free, staying, leaving}
+use Rattle.protocol.specs.Rules.{SeatState, free, staying, leaving, reserved}
 use Rattle.protocol.specs.State.{Meaning, isFree}
 use Rattle.protocol.specs.Sound.{Sound, numberBits}
 use Rattle.protocol.proofs.Numbering.{messageAt-place}
@@ -94,6 +94,7 @@ module _ {M : Meaning} (h : Sound seats width M) where
       by free f = tt
       by staying f = f tt
       by leaving f = f tt
+      by reserved f = f tt
 
   pub link-seat : (x k y : ℕ) (d : Side) → M .link x k d ≡ some y → y < seats
   link-seat x k y d e = seated-below h y (link-linked h e .0 .two)

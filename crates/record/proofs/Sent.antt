@@ -27,7 +27,8 @@ use Rattle.record.specs.Meaning.{valueOf, bytesOf}
 use Rattle.record.proofs.Places.{place-within, place-at}
 use Rattle.record.proofs.Frame.{bytes-put}
 use Rattle.record.proofs.Round.{read-pending}
-use Rattle.record.proofs.Pending.{sent-same, sent-other, taken-same, taken-other, after-nothing, after-taken, after-first}
+use Rattle.protocol.proofs.Calls.{after-nothing}
+use Rattle.record.proofs.Pending.{sent-same, sent-other, taken-same, taken-other, after-taken, after-first}
 use Rattle.record.proofs.Update.{withPending, withMessage, withoutMessage}
 
 -- one message, sent or taken: p is as before but at m

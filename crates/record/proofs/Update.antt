@@ -15,7 +15,7 @@ use Rattle.graph.specs.Graph.{Links}
 use Rattle.protocol.specs.Message.{Msg}
 use Rattle.protocol.specs.Rules.{SeatState, Change, keep, set as put}
 use Rattle.protocol.specs.State.{Phase, Seats, Meaning}
-use Rattle.protocol.specs.Page.{at, pendingAfter}
+use Rattle.protocol.specs.Page.{at, marking, pendingAfter}
 use Rattle.protocol.specs.pages.Deliver.{applied}
 use Rattle.protocol.proofs.Calls.{at-same, at-other, applied-at, applied-frame}
 use Rattle.record.specs.Layout.{seats, levels, numberSize, vectorSize, phaseAt, stateAt, numberFrom, vectorFrom, linkAt}
@@ -33,8 +33,7 @@ abbrev pub withPhase : Meaning → Phase → Meaning
 withPhase M p = withSeats M (record { phase = p; state = M .seats .state; number = M .seats .number; vector = M .seats .vector })
 
 abbrev pub withState : Meaning → (s : ℕ) → SeatState → Meaning
-withState M s v =
-    withSeats M (record { phase = M .seats .phase; state = at s v (M .seats .state); number = M .seats .number; vector = M .seats .vector })
+withState M s v = withSeats M (marking s v (M .seats))
 
 abbrev pub withNumber : Meaning → (s n : ℕ) → Meaning
 withNumber M s n =

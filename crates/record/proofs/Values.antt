@@ -6,9 +6,9 @@ use mathlib.Core.Option.{Option, none, some}
 use native.Mathlib.Omega.{arith}
 use lib.Dec.{T}
 use borrow.Author.Tests.{lt-ltb}
-use Rattle.protocol.specs.Rules.{SeatState, free, staying, leaving}
+use Rattle.protocol.specs.Rules.{SeatState, free, staying, leaving, reserved}
 use Rattle.protocol.specs.State.{Phase, open-phase, clearing, isFree}
-use Rattle.record.specs.Layout.{seats, noLink}
+use Rattle.record.specs.Layout.{seats, states, noLink}
 use Rattle.record.specs.Meaning.{phaseOf, stateOf, linkOf, phaseByte, stateByte, linkByte}
 
 -- a link is none or names a seat
@@ -26,18 +26,20 @@ unfolding phaseOf
 phaseOf-phaseByte open-phase = refl
 phaseOf-phaseByte clearing = refl
 
-pub stateByte-stateOf : (b : ℕ) → b < 3 → stateByte (stateOf b) ≡ b
+pub stateByte-stateOf : (b : ℕ) → b < states → stateByte (stateOf b) ≡ b
 unfolding stateOf
 stateByte-stateOf zero h = refl
 stateByte-stateOf (suc zero) h = refl
 stateByte-stateOf (suc (suc zero)) h = refl
-stateByte-stateOf (suc (suc (suc b))) h = absurd (omega arith)
+stateByte-stateOf (suc (suc (suc zero))) h = refl
+stateByte-stateOf (suc (suc (suc (suc b)))) h = absurd (omega arith)
 
 pub stateOf-stateByte : (s : SeatState) → stateOf (stateByte s) ≡ s
 unfolding stateOf
 stateOf-stateByte free = refl
 stateOf-stateByte staying = refl
 stateOf-stateByte leaving = refl
+stateOf-stateByte reserved = refl
 
 pub linkByte-linkOf : (b : ℕ) → (b ≡ noLink) ⊎ (b < seats) → linkByte (linkOf b) ≡ b
 unfolding linkOf
@@ -54,10 +56,11 @@ pub phaseByte-lt : (p : Phase) → phaseByte p < 2
 phaseByte-lt open-phase = omega arith
 phaseByte-lt clearing = omega arith
 
-pub stateByte-lt : (s : SeatState) → stateByte s < 3
+pub stateByte-lt : (s : SeatState) → stateByte s < states
 stateByte-lt free = omega arith
 stateByte-lt staying = omega arith
 stateByte-lt leaving = omega arith
+stateByte-lt reserved = omega arith
 
 pub linkByte-lt : (o : Option ℕ) → NamesSeat o → (linkByte o ≡ noLink) ⊎ (linkByte o < seats)
 linkByte-lt none h = inl refl

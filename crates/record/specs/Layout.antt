@@ -13,6 +13,10 @@ seats = 64
 abbrev pub levels : ℕ
 levels = suc width
 
+-- how many states a seat has, from 0 on
+abbrev pub states : ℕ
+states = 4
+
 -- the byte of a link that is none
 abbrev pub noLink : ℕ
 noLink = 255

@@ -10,7 +10,7 @@ use Rattle.memory.specs.Bits.{bitSet, packed}
 use Rattle.base.specs.Loops.{tabulate}
 use Rattle.graph.specs.Vector.{width}
 use Rattle.protocol.specs.Numbering.{exists, place, messageAt}
-use Rattle.protocol.specs.Rules.{SeatState, free, staying, leaving}
+use Rattle.protocol.specs.Rules.{SeatState, free, staying, leaving, reserved}
 use Rattle.protocol.specs.State.{Phase, open-phase, clearing, Seats, Meaning}
 use Rattle.record.specs.Layout.{seats, levels, byteBits, numberSize, vectorSize, noLink, phaseAt, stateAt, numberFrom, vectorFrom, linkAt}
 use Rattle.record.specs.Layout.{pendingFrom, size}
@@ -21,7 +21,7 @@ unfoldable pub phaseOf : ℕ → Phase
 phaseOf b = cond (eqb b 0) open-phase clearing
 
 unfoldable pub stateOf : ℕ → SeatState
-stateOf b = cond (eqb b 0) free (cond (eqb b 1) staying leaving)
+stateOf b = cond (eqb b 0) free (cond (eqb b 1) staying (cond (eqb b 2) leaving reserved))
 
 unfoldable pub linkOf : ℕ → Option ℕ
 linkOf b = cond (ltb b seats) (some b) none
@@ -52,6 +52,7 @@ abbrev pub stateByte : SeatState → ℕ
 stateByte free = 0
 stateByte staying = 1
 stateByte leaving = 2
+stateByte reserved = 3
 
 abbrev pub linkByte : Option ℕ → ℕ
 linkByte none = noLink

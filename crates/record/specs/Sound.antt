@@ -1,5 +1,5 @@
--- Soundness of the bytes of a record (document 01, "Sound"), a clause for each of its sentences, in their order. There is no other
--- byte or bit. Assumes nothing.
+-- Soundness of the bytes of a record (document 01, "Sound", with the reservations of document 02, #105), a clause for each of its sentences, in
+-- their order. There is no other byte or bit. Assumes nothing.
 use Prim.Native.Nat.{ℕ}
 use mathlib.Core.Bool.{Bool, not, _&&_, _||_}
 use mathlib.Core.List.{List}
@@ -12,7 +12,7 @@ use Rattle.graph.specs.Vector.{width}
 use Rattle.protocol.specs.Numbering.{messageAt}
 use Rattle.protocol.specs.State.{taken}
 use Rattle.protocol.specs.Sound.{linkOk, messageOk}
-use Rattle.record.specs.Layout.{seats, levels, noLink, messages, phaseAt, stateAt, linkAt, pendingFrom}
+use Rattle.record.specs.Layout.{seats, levels, states, noLink, messages, phaseAt, stateAt, linkAt, pendingFrom}
 use Rattle.record.specs.Meaning.{seatsIn}
 
 module _ (l : List ℕ) where
@@ -20,9 +20,9 @@ module _ (l : List ℕ) where
   unfoldable pub phaseFits : Bool
   phaseFits = ltb (getD l phaseAt 0) 2
 
-  -- states 0 to 2
+  -- states 0 to 3
   unfoldable pub statesFit : Bool
-  statesFit = all seats (λ s. ltb (getD l (stateAt s) 0) 3)
+  statesFit = all seats (λ s. ltb (getD l (stateAt s) 0) states)
 
   -- a free seat's entry is as opened
   unfoldable pub asOpened : ℕ → Bool
@@ -34,11 +34,11 @@ module _ (l : List ℕ) where
   unfoldable pub unusedFit : Bool
   unusedFit = all seats (λ s. taken (seatsIn l) s || asOpened s)
 
-  -- numbers differ
+  -- numbers differ, of lots and of reservations together
   unfoldable pub numbersDiffer : Bool
   numbersDiffer = all seats (λ x. all x (λ y. not (taken (seatsIn l) x && (taken (seatsIn l) y && eqb (seatsIn l .number x) (seatsIn l .number y)))))
 
-  -- a link is none, or names another seated lot on its own side sharing the level's bits
+  -- a link is none, or one of a seated lot that names another on its own side sharing the level's bits: so a reserved entry has no links
   unfoldable pub linkFits : (x k : ℕ) → Side → Bool
   linkFits x k d = let b = getD l (linkAt x k d) 0 in eqb b noLink || (ltb b seats && linkOk width (seatsIn l) x k d b)
 

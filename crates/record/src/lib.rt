@@ -87,6 +87,8 @@ pub const STAYING: u8 = 1;
 
 pub const LEAVING: u8 = 2;
 
+pub const RESERVED: u8 = 3;
+
 // The byte of a link that is none.
 pub const NONE: u8 = 255;
 
@@ -105,7 +107,7 @@ pub fn set_phase(rec: &mut [u8], v: u8)
     rec[PHASE] = v;
 }
 
-// The state of seat s: FREE, STAYING or LEAVING.
+// The state of seat s: FREE, STAYING, LEAVING or RESERVED.
 pub fn state(rec: &[u8], s: usize) -> u8
     requires { ⌜ (length (now rec) ≡ size) × (s < seats) ⌝ }
     ensures { λ r. ⌜ r ≡ getD (now (rec .entry)) (stateAt s) 0 ⌝ }

@@ -1,12 +1,12 @@
-// The lots of a record in the terms of its meaning (specs/Meaning.antt): the phase, which seats are taken, who is seated, who stays and who is a
-// member, sides, shared bits and links. Sides are those of graph, LEFT and RIGHT.
+// The lots of a record in the terms of its meaning (specs/Meaning.antt): the phase, which seats are taken or only reserved, who is seated, who stays
+// and who is a member, sides, shared bits and links. Sides are those of graph, LEFT and RIGHT.
 ghost use mathlib.Core.Path.{_≡_};
 ghost use Prim.Native.Nat.{_<_};
 ghost use lib.Dec.{leb};
 ghost use lib.ListN.{length};
 ghost use Rattle.graph.specs.Side.{onSide, sideOf, sideOfNumber};
 ghost use Rattle.graph.specs.Vector.{width, shared};
-ghost use Rattle.protocol.specs.State.{isClearing, taken, seated, stays, leaves, member};
+ghost use Rattle.protocol.specs.State.{isClearing, taken, seated, stays, leaves, held, member};
 ghost use Rattle.protocol.specs.Sound.{pairOk};
 ghost use Rattle.record.specs.Layout.{seats, levels, size};
 ghost use Rattle.record.specs.Meaning.{seatsIn, meaning, linkOf};
@@ -19,12 +19,13 @@ pub fn is_clearing(rec: &[u8]) -> bool
     crate::phase(rec) != crate::OPEN
 }
 
-// Whether a lot sits on seat s.
+// Whether a lot of the graph sits on seat s: staying or leaving.
 pub fn is_seated(rec: &[u8], s: usize) -> bool
     requires { ⌜ (length (now rec) ≡ size) × (s < seats) ⌝ }
     ensures { λ r. ⌜ r ≡ seated (seatsIn (now (rec .entry))) s ⌝ }
 {
-    crate::state(rec, s) != crate::FREE
+    let t = crate::state(rec, s);
+    t == crate::STAYING || t == crate::LEAVING
 }
 
 // Whether seat s is not free.
@@ -43,12 +44,20 @@ pub fn is_staying(rec: &[u8], s: usize) -> bool
     crate::state(rec, s) == crate::STAYING
 }
 
-// Whether a leaving lot sits on seat s. A state that is none of the three is read as leaving.
+// Whether a leaving lot sits on seat s.
 pub fn is_leaving(rec: &[u8], s: usize) -> bool
     requires { ⌜ (length (now rec) ≡ size) × (s < seats) ⌝ }
     ensures { λ r. ⌜ r ≡ leaves (seatsIn (now (rec .entry))) s ⌝ }
 {
-    crate::state(rec, s) > crate::STAYING
+    crate::state(rec, s) == crate::LEAVING
+}
+
+// Whether seat s is reserved. A state that is none of the four is read so.
+pub fn is_reserved(rec: &[u8], s: usize) -> bool
+    requires { ⌜ (length (now rec) ≡ size) × (s < seats) ⌝ }
+    ensures { λ r. ⌜ r ≡ held (seatsIn (now (rec .entry))) s ⌝ }
+{
+    crate::state(rec, s) > crate::LEAVING
 }
 
 // Whether the lot on seat s is a member: in phase open any lot, while clearing a staying one.

@@ -24,3 +24,5 @@ pub const MESSAGES_LEFT: u8 = 11;
 pub const NO_SUCH_LEVEL: u8 = 12;
 
 pub const UNSETTLED: u8 = 13;
+
+pub const NOT_RESERVED: u8 = 14;

@@ -9,7 +9,7 @@ use borrow.Author.Tests.{eq-eqb}
 use Rattle.base.proofs.All.{all-and}
 use Rattle.protocol.specs.State.{taken}
 use Rattle.protocol.specs.Refusals.{first}
-use Rattle.record.specs.Layout.{seats, stateAt, size}
+use Rattle.record.specs.Layout.{seats, states, stateAt, size}
 use Rattle.record.specs.Meaning.{seatsIn}
 use Rattle.record.specs.Sound.{sound, messagesFit, phaseFits, statesFit, asOpened, unusedFit, numbersDiffer, linksFit}
 use Rattle.record.specs.Reading.{recordRefusal}
@@ -19,7 +19,7 @@ module _ (l : List ℕ) where
   sound-parts : sound l ≡ entriesFit l && messagesFit l
   unfolding sound entriesFit statesFit unusedFit
   sound-parts =
-      rw (all-and seats (λ s. ltb (getD l (stateAt s) 0) 3) (λ s. taken (seatsIn l) s || asOpened l s))
+      rw (all-and seats (λ s. ltb (getD l (stateAt s) 0) states) (λ s. taken (seatsIn l) s || asOpened l s))
       (by (phaseFits l) (statesFit l) (unusedFit l) (numbersDiffer l) (linksFit l) (messagesFit l))
     where
       by : (p s u n k m : Bool) → p && (s && (u && (n && (k && m)))) ≡ (p && ((s && u) && (n && k))) && m

@@ -24,7 +24,7 @@ use record::lots::is_taken;
 // How many phases and states there are.
 const PHASES: u8 = 2;
 
-const STATES: u8 = 3;
+const STATES: u8 = 4;
 
 // How many buckets there are: a prime, so that numbers at equal distances, such as round ones, are spread.
 const BUCKETS: usize = 509;
@@ -40,7 +40,7 @@ pub fn phase_fits(rec: &[u8]) -> bool
 }
 
 // Whether seat s has no link.
-fn no_links(rec: &[u8], s: usize) -> bool
+pub fn no_links(rec: &[u8], s: usize) -> bool
     requires { ⌜ (length (now rec) ≡ size) × (s < seats) ⌝ }
     ensures { λ r. ⌜ r ≡ all levels (unlinked (now (rec .entry)) s) ⌝ }
 {

@@ -12,6 +12,7 @@ ghost use Rattle.record.specs.Layout.{seats, levels, size};
 ghost use Rattle.record.specs.Meaning.{seatsIn};
 ghost use Rattle.record.specs.Sound.{linkFits, linksFit};
 ghost use Rattle.soundness.specs.inner.Parts.{HasNumbers, seatFits};
+use crate::entries::no_links;
 use graph::LEFT;
 use graph::RIGHT;
 use graph::on_side;
@@ -67,18 +68,18 @@ fn lot_fits(rec: &[u8], numbers: &[u64; SEATS], x: usize) -> bool
     true
 }
 
-// All links of seat x: a seat without a lot is known to have none.
+// All links of seat x: a seat without a lot has none, reserved or free.
 fn seat_fits(rec: &[u8], numbers: &[u64; SEATS], x: usize) -> bool
-    requires { ⌜ (length (now rec) ≡ size) × HasNumbers (now rec) (now numbers) × (x < seats) × (all seats (seatFits (now rec)) ≡ true) ⌝ }
+    requires { ⌜ (length (now rec) ≡ size) × HasNumbers (now rec) (now numbers) × (x < seats) ⌝ }
     ensures { λ r. ⌜ r ≡ all levels (λ k. linkFits (now (rec .entry)) x k left && linkFits (now (rec .entry)) x k right) ⌝ }
 {
     if !is_seated(rec, x) {
-        return true;
+        return no_links(rec, x);
     }
     lot_fits(rec, numbers, x)
 }
 
-// All links: those of the first `top` seats, above which no lot sits.
+// All links: those of the first `top` seats, above which all are free.
 pub fn links_fit(rec: &[u8], numbers: &[u64; SEATS], top: usize) -> bool
     requires { ⌜ (length (now rec) ≡ size) × HasNumbers (now rec) (now numbers) × (all seats (seatFits (now rec)) ≡ true) × (top ≤ seats)
         × ((s : ℕ) → s < seats → top ≤ s → taken (seatsIn (now rec)) s ≡ false) ⌝ }

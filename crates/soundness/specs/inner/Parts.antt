@@ -8,11 +8,11 @@ use lib.ListN.{getD}
 use Rattle.base.specs.Loops.{all}
 use Rattle.graph.specs.Side.{left, right}
 use Rattle.protocol.specs.State.{taken}
-use Rattle.record.specs.Layout.{seats, noLink, stateAt, linkAt}
+use Rattle.record.specs.Layout.{seats, states, noLink, stateAt, linkAt}
 use Rattle.record.specs.Meaning.{seatsIn}
 use Rattle.record.specs.Sound.{phaseFits, asOpened, numbersDiffer, linksFit}
 
--- a has the number of each lot
+-- a has the number of each taken seat
 abbrev pub HasNumbers : (l a : List ℕ) → Type 0
 HasNumbers l a = (s : ℕ) → s < seats → taken (seatsIn l) s ≡ true → getD a s 0 ≡ seatsIn l .number s
 
@@ -20,13 +20,13 @@ HasNumbers l a = (s : ℕ) → s < seats → taken (seatsIn l) s ≡ true → ge
 abbrev pub unlinked : (l : List ℕ) (s k : ℕ) → Bool
 unlinked l s k = eqb (getD l (linkAt s k left) 0) noLink && eqb (getD l (linkAt s k right) 0) noLink
 
--- x and y are not two taken lots with one number
+-- x and y are not two taken seats with one number
 abbrev pub differ : (l : List ℕ) (x y : ℕ) → Bool
 differ l x y = not (taken (seatsIn l) x && (taken (seatsIn l) y && eqb (seatsIn l .number x) (seatsIn l .number y)))
 
 -- the clauses of one seat: its state, and if it is free its entry
 abbrev pub seatFits : (l : List ℕ) (s : ℕ) → Bool
-seatFits l s = ltb (getD l (stateAt s) 0) 3 && (taken (seatsIn l) s || asOpened l s)
+seatFits l s = ltb (getD l (stateAt s) 0) states && (taken (seatsIn l) s || asOpened l s)
 
 -- every clause of `sound` but that of the messages, those of the seats together
 unfoldable pub entriesFit : List ℕ → Bool

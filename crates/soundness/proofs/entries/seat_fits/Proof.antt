@@ -7,7 +7,7 @@ use lib.ListN.{getD}
 use borrow.Author.Tests.{lt-ltb, le-ltb}
 use Rattle.base.proofs.Tests.{true-false}
 use Rattle.base.proofs.Cases.{and-true}
-use Rattle.record.specs.Layout.{stateAt}
+use Rattle.record.specs.Layout.{states, stateAt}
 use Rattle.soundness.proofs.Numbers.{free-differs}
 use Rattle.soundness.proofs.Kept.{kept-free}
 use Rattle.soundness.proofs.entries.seat_fits.Statement.{statement}
@@ -19,7 +19,7 @@ state-requires c κs = search needs
 returns : tie.Need-returns
 returns c =
     let r = c .before .before .before in
-    let high : ltb (getD (r .args .rec .now) (stateAt (r .args .s)) 0) 3 ≡ false = rw (← c .before .state .ensures) (le-ltb _ _ (c .if1 .taken)) in
+    let high : ltb (getD (r .args .rec .now) (stateAt (r .args .s)) 0) states ≡ false = rw (← c .before .state .ensures) (le-ltb _ _ (c .if1 .taken)) in
     (rw high, λ e. true-false e refl)
 
 is-taken-requires : tie.Need-is-taken-requires
@@ -34,7 +34,7 @@ returns-2 : tie.Need-returns-2
 returns-2 c =
     let r = c .before .before .before .before .before .before .before .before .before in
     let b = c .before .before .before .before .before .before in
-    let low : ltb (getD (r .args .rec .now) (stateAt (r .args .s)) 0) 3 ≡ true = rw (← b .before .state .ensures) (lt-ltb _ _ (b .if1 .left)) in
+    let low : ltb (getD (r .args .rec .now) (stateAt (r .args .s)) 0) states ≡ true = rw (← b .before .state .ensures) (lt-ltb _ _ (b .if1 .left)) in
     let lot = sym (c .before .before .before .before .before .is-taken .ensures) ∙ c .before .before .before .before .if2 .taken in
     (rw (low, lot) (c .lot-fits .ensures .0), c .lot-fits .ensures .1)
 
@@ -46,7 +46,7 @@ returns-3 c =
     let r = c .before .before .before .before .before .before in
     let l = r .args .rec .now in
     let b = c .before .before .before in
-    let low : ltb (getD l (stateAt (r .args .s)) 0) 3 ≡ true = rw (← b .before .state .ensures) (lt-ltb _ _ (b .if1 .left)) in
+    let low : ltb (getD l (stateAt (r .args .s)) 0) states ≡ true = rw (← b .before .state .ensures) (lt-ltb _ _ (b .if1 .left)) in
     let free = sym (c .before .before .is-taken .ensures) ∙ c .before .if2 .left in
     (rw (low, free-differs l (r .args .s) free, free, and-true) (c .as-opened .ensures), λ e. kept-free l (r .args .s) (r .pre .2) free)
 

@@ -1,4 +1,4 @@
--- `joining::any_seated` meets its contract. The loop's invariant: no seat below s is taken. Assumes nothing.
+-- `joining::newcomer::any_seated` meets its contract. The loop's invariant: no seat below s is taken. Assumes nothing.
 use Prim.Native.Nat.{ℕ, _-_, _≤_}
 use mathlib.Core.Path.{_≡_, sym, ap, _∙_}
 use mathlib.Core.Bool.{false}
@@ -9,8 +9,8 @@ use Rattle.protocol.specs.State.{seated}
 use Rattle.record.specs.Layout.{seats}
 use Rattle.record.specs.Meaning.{seatsIn}
 use Rattle.base.proofs.Any.{any-start, any-more, any-here}
-use Rattle.joining.proofs.any_seated.Statement.{statement}
-use Rattle.joining.proofs.any_seated.Tie as tie
+use Rattle.joining.proofs.newcomer.any_seated.Statement.{statement}
+use Rattle.joining.proofs.newcomer.any_seated.Tie as tie
 
 abbrev Inv-loop : tie.InvT-loop
 Inv-loop rec s₀ s = (s ≤ seats) × (any s (seated (seatsIn rec)) ≡ false)

@@ -1,8 +1,8 @@
--- `joining::lacks_contact` meets its contract. Assumes nothing.
+-- `joining::newcomer::lacks_contact` meets its contract. Assumes nothing.
 use borrow.Author.Needs.{needs}
 use borrow.Author.Tests.{lt-ltb, le-ltb}
-use Rattle.joining.proofs.lacks_contact.Statement.{statement}
-use Rattle.joining.proofs.lacks_contact.Tie as tie
+use Rattle.joining.proofs.newcomer.lacks_contact.Statement.{statement}
+use Rattle.joining.proofs.newcomer.lacks_contact.Tie as tie
 
 is-seated-requires : tie.Need-is-seated-requires
 is-seated-requires c κs = search needs

@@ -1,7 +1,7 @@
--- `joining::write_lot` meets its contract. Assumes nothing.
+-- `joining::newcomer::fill` meets its contract. Assumes nothing.
 use borrow.Author.Needs.{needs}
-use Rattle.joining.proofs.write_lot.Statement.{statement}
-use Rattle.joining.proofs.write_lot.Tie as tie
+use Rattle.joining.proofs.newcomer.fill.Statement.{statement}
+use Rattle.joining.proofs.newcomer.fill.Tie as tie
 
 set-state-requires : tie.Need-set-state-requires
 set-state-requires c κs = search needs
@@ -20,5 +20,5 @@ returns c =
     let b = c .before .before .before .before .before .before in
     rw (c .before .before .set-vector .ensures, b .set-number .ensures, b .before .before .before .before .set-state .ensures)
 
-pub write-lot-spec : {M : Type 1} → statement M
-write-lot-spec = tie.close (tie.spec set-state-requires set-number-requires set-vector-requires same-length returns)
+pub fill-spec : {M : Type 1} → statement M
+fill-spec = tie.close (tie.spec set-state-requires set-number-requires set-vector-requires same-length returns)

@@ -1,12 +1,12 @@
--- `joining::is_numbered` meets its contract. Assumes nothing.
+-- `joining::newcomer::is_numbered` meets its contract. Assumes nothing.
 use Prim.Native.Nat.{ℕ}
 use mathlib.Core.Path.{sym, ap, _∙_}
 use lib.Dec.{eqb}
 use borrow.Author.Needs.{needs}
 use Rattle.record.proofs.SeatBytes.{number-bytes}
 use Rattle.base.proofs.Stops.{and-stop, and-go}
-use Rattle.joining.proofs.is_numbered.Statement.{statement}
-use Rattle.joining.proofs.is_numbered.Tie as tie
+use Rattle.joining.proofs.newcomer.is_numbered.Statement.{statement}
+use Rattle.joining.proofs.newcomer.is_numbered.Tie as tie
 
 is-taken-requires : tie.Need-is-taken-requires
 is-taken-requires c κs = search needs

@@ -1,8 +1,8 @@
--- `joining::lacks_seat` meets its contract. Assumes nothing.
+-- `joining::newcomer::lacks_seat` meets its contract. Assumes nothing.
 use borrow.Author.Needs.{needs}
 use borrow.Author.Tests.{lt-ltb, le-ltb, le-leb, lt-leb}
-use Rattle.joining.proofs.lacks_seat.Statement.{statement}
-use Rattle.joining.proofs.lacks_seat.Tie as tie
+use Rattle.joining.proofs.newcomer.lacks_seat.Statement.{statement}
+use Rattle.joining.proofs.newcomer.lacks_seat.Tie as tie
 
 cast-result : tie.Need-cast-result
 cast-result c = search needs

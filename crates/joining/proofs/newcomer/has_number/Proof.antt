@@ -1,4 +1,4 @@
--- `joining::has_number` meets its contract. The loop's invariant: no lot below seat s has the number. Assumes nothing.
+-- `joining::newcomer::has_number` meets its contract. The loop's invariant: no lot below seat s has the number. Assumes nothing.
 use Prim.Native.Nat.{ℕ, _-_, _≤_}
 use mathlib.Core.Path.{_≡_, sym, ap, _∙_}
 use mathlib.Core.Bool.{Bool, false, _&&_}
@@ -11,8 +11,8 @@ use Rattle.protocol.specs.State.{taken}
 use Rattle.record.specs.Layout.{seats}
 use Rattle.record.specs.Meaning.{seatsIn}
 use Rattle.base.proofs.Any.{any-start, any-more, any-here}
-use Rattle.joining.proofs.has_number.Statement.{statement}
-use Rattle.joining.proofs.has_number.Tie as tie
+use Rattle.joining.proofs.newcomer.has_number.Statement.{statement}
+use Rattle.joining.proofs.newcomer.has_number.Tie as tie
 
 -- seat x is taken, with the number n
 abbrev numbered : (l : List ℕ) (n x : ℕ) → Bool

@@ -1,0 +1,90 @@
+// What a join, a reservation and its confirmation have in common: the tests of number and contact, the three fields of a seat, and the MEET to the
+// contact.
+ghost use mathlib.Core.Path.{_≡_};
+ghost use mathlib.Core.Bool.{_&&_, _||_};
+ghost use Prim.Native.Nat.{_<_};
+ghost use lib.Dec.{eqb};
+ghost use lib.ListN.{length};
+ghost use Rattle.base.specs.Loops.{any};
+ghost use Rattle.protocol.specs.State.{taken, seated, noSeat};
+ghost use Rattle.protocol.specs.pages.Join.{noSuchContact, inUse, lacksContact};
+ghost use Rattle.record.specs.Layout.{seats, size};
+ghost use Rattle.record.specs.Meaning.{seatsIn};
+ghost use Rattle.joining.specs.inner.Newcomer.{filled, greeted};
+use messages::meet_place;
+use record::NONE;
+use record::SEATS;
+use record::lots::is_seated;
+use record::lots::is_taken;
+
+// Whether some lot is seated.
+fn any_seated(rec: &[u8]) -> bool
+    requires { ⌜ length (now rec) ≡ size ⌝ }
+    ensures { λ r. ⌜ r ≡ any seats (seated (seatsIn (now (rec .entry)))) ⌝ }
+{
+    for s in 0..SEATS {
+        if is_seated(rec, s) {
+            return true;
+        }
+    }
+    false
+}
+
+// Whether seat s is taken, with the number n.
+fn is_numbered(rec: &[u8], s: usize, n: u64) -> bool
+    requires { ⌜ (length (now rec) ≡ size) × (s < seats) ⌝ }
+    ensures { λ r. ⌜ r ≡ taken (seatsIn (now (rec .entry))) s && eqb (seatsIn (now (rec .entry)) .number s) n ⌝ }
+{
+    is_taken(rec, s) && record::number(rec, s) == n
+}
+
+// Whether some taken seat has the number n.
+pub fn has_number(rec: &[u8], n: u64) -> bool
+    requires { ⌜ length (now rec) ≡ size ⌝ }
+    ensures { λ r. ⌜ r ≡ inUse seats (seatsIn (now (rec .entry))) n ⌝ }
+{
+    for s in 0..SEATS {
+        if is_numbered(rec, s, n) {
+            return true;
+        }
+    }
+    false
+}
+
+// Whether a contact is a seat without a lot, or none while lots are seated.
+pub fn lacks_contact(rec: &[u8], contact: usize) -> bool
+    requires { ⌜ length (now rec) ≡ size ⌝ }
+    ensures { λ r. ⌜ r ≡ lacksContact seats (seatsIn (now (rec .entry))) contact ⌝ }
+{
+    if contact < SEATS {
+        return !is_seated(rec, contact);
+    }
+    any_seated(rec)
+}
+
+// Whether a call names a seat or a contact that does not exist.
+pub fn lacks_seat(seat: usize, contact: usize) -> bool
+    ensures { λ r. ⌜ r ≡ noSeat seats seat || noSuchContact seats contact ⌝ }
+{
+    seat >= SEATS || (contact >= SEATS && contact != NONE as usize)
+}
+
+// Writes state, number and vector of seat s.
+pub fn fill(rec: &mut [u8], s: usize, state: u8, number: u64, vector: u8)
+    requires { ⌜ (length (now rec) ≡ size) × (s < seats) ⌝ }
+    ensures { λ _. ⌜ now (rec .exit) ≡ filled (now (rec .entry)) s state number vector ⌝ }
+{
+    record::set_state(rec, s, state);
+    record::set_number(rec, s, number);
+    record::set_vector(rec, s, vector);
+}
+
+// Lets the contact know of the newcomer on seat s: it is sent MEET at level 0. A contact that is no seat is none.
+pub fn greet(rec: &mut [u8], s: usize, contact: usize)
+    requires { ⌜ (length (now rec) ≡ size) × (s < seats) ⌝ }
+    ensures { λ _. ⌜ now (rec .exit) ≡ greeted (now (rec .entry)) s contact ⌝ }
+{
+    if contact < SEATS {
+        record::send(rec, meet_place(contact, s, 0));
+    }
+}
