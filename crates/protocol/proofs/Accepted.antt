@@ -21,6 +21,13 @@ or-false : (a b : Bool) → (a || b) ≡ false → a ≡ false
 or-false true b e = e
 or-false false b e = refl
 
+-- seat and contact can be named: the seat exists
+pub has-seat : (N s : ℕ) → noSeat N s ≡ false → s < N
+has-seat N s e = ltb-true s N (not-false (ltb s N) e)
+
+pub named-seat : (N s c : ℕ) → (noSeat N s || noSuchContact N c) ≡ false → s < N
+named-seat N s c e = has-seat N s (or-false (noSeat N s) (noSuchContact N c) e)
+
 module _ (N W : ℕ) (r : Seats) (p : Msg → Bool) where
   -- 1 and 2 are the record's, 12 is the reading's
   abbrev pub Free : Call → ℕ → Type 0
@@ -41,9 +48,6 @@ module _ (N W : ℕ) (r : Seats) (p : Msg → Bool) where
   not-used n e x l t q =
       any-none N (λ z. taken r z && eqb (r .number z) n) e x l (and-T (taken r x) (eqb (r .number x) n) t (true-T (eq-eqb _ _ q)))
 
-  is-seat : (s : ℕ) → noSeat N s ≡ false → s < N
-  is-seat s e = ltb-true s N (not-false (ltb s N) e)
-
   pub record Reserves (s n : ℕ) : Type 0 where
     pub seat : s < N
     pub opens : r .phase ≡ open-phase
@@ -55,7 +59,7 @@ module _ (N W : ℕ) (r : Seats) (p : Msg → Bool) where
   reserve-rows s n v e =
       let rs = rows N W r p (reserve s n v) in
       record {
-        seat = is-seat s (no-row rs noSuchSeat tt e);
+        seat = has-seat N s (no-row rs noSuchSeat tt e);
         opens = phase-open (r .phase) (false-not (no-row rs inClearing tt e));
         free = no-row rs seatTaken tt e;
         unused = not-used n (no-row rs numberInUse tt e);
@@ -74,7 +78,7 @@ module _ (N W : ℕ) (r : Seats) (p : Msg → Bool) where
       let rs = rows N W r p (confirm s c) in
       let known : lacksContact N r c ≡ false = no-row rs noContact tt e in
       record {
-        seat = is-seat s (or-false (noSeat N s) (noSuchContact N c) (no-row rs noSuchSeat tt e));
+        seat = named-seat N s c (no-row rs noSuchSeat tt e);
         opens = phase-open (r .phase) (false-not (no-row rs inClearing tt e));
         reserved = not-false (held r s) (no-row rs notReserved tt e);
         contact = λ l. true-T (not-false (seated r c) (rw (lt-ltb c N l) at known));
@@ -100,7 +104,7 @@ module _ (N W : ℕ) (r : Seats) (p : Msg → Bool) where
   unfolding refusal rows
   give-back-rows s e =
       let rs = rows N W r p (giveBack s) in
-      record { seat = is-seat s (no-row rs noSuchSeat tt e); reserved = not-false (held r s) (no-row rs notReserved tt e) }
+      record { seat = has-seat N s (no-row rs noSuchSeat tt e); reserved = not-false (held r s) (no-row rs notReserved tt e) }
 
   pub record Leaves (s : ℕ) : Type 0 where
     pub seat : s < N
@@ -113,7 +117,7 @@ module _ (N W : ℕ) (r : Seats) (p : Msg → Bool) where
   leave-rows s e =
       let rs = rows N W r p (leave s) in
       record {
-        seat = is-seat s (no-row rs noSuchSeat tt e);
+        seat = has-seat N s (no-row rs noSuchSeat tt e);
         opens = phase-open (r .phase) (false-not (no-row rs inClearing tt e));
         occupied = not-false (seated r s) (no-row rs emptySeat tt e);
         stayed = no-row rs alreadyLeaving tt e;

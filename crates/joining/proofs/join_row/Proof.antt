@@ -1,20 +1,14 @@
 -- `joining::join_row` meets its contract: its tests are the rows of the table, in order. Assumes nothing.
-use mathlib.Core.Path.{_≡_, refl, sym, _∙_}
-use mathlib.Core.Bool.{Bool, true, false, _||_}
-use lib.Dec.{ltb}
+use mathlib.Core.Path.{refl, sym, _∙_}
 use borrow.Author.Needs.{needs}
-use borrow.Author.Tests.{ltb-true, not-false}
 use Rattle.protocol.specs.Calls.{rows, refusal}
 use Rattle.protocol.specs.Refusals.{first}
+use Rattle.protocol.proofs.Accepted.{named-seat}
 use Rattle.record.specs.Meaning.{meaning}
 use Rattle.record.specs.Layout.{seats}
 use Rattle.joining.proofs.Rows.{row-here, row-next}
 use Rattle.joining.proofs.join_row.Statement.{statement}
 use Rattle.joining.proofs.join_row.Tie as tie
-
-or-fst : (a b : Bool) → a || b ≡ false → a ≡ false
-or-fst true b e = e
-or-fst false b e = refl
 
 lacks-seat-requires : tie.Need-lacks-seat-requires
 lacks-seat-requires c κs = search needs
@@ -35,9 +29,9 @@ returns-2 c v =
 
 is-taken-requires : tie.Need-is-taken-requires
 is-taken-requires c κs =
-    let s = c .before .before .before .before .before .args .seat in
+    let a = c .before .before .before .before .before .args in
     let e = sym (c .before .before .before .lacks-seat .ensures) ∙ c .before .before .if1 .left in
-    (search needs, ltb-true s seats (not-false (ltb s seats) (or-fst _ _ e)))
+    (search needs, named-seat seats (a .seat) (a .contact) e)
 
 returns-3 : tie.Need-returns-3
 unfolding refusal rows first meaning

@@ -1,0 +1,2 @@
+-- Why reserving, confirming and giving back do what the definitions say.
+pub mod After

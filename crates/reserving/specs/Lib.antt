@@ -1,0 +1,1 @@
+-- The calls' contracts cite record's specs alone.
