@@ -20,7 +20,7 @@ use Rattle.protocol.specs.pages.Join.{noSuchContact, lacksContact, greet
 use Rattle.protocol.specs.Calls.{join, reserve, confirm, giveBack, rows, refusal, seatsAfter, linksAfter, sends, takes, accept}
 use Rattle.protocol.specs.Sound.{Sound}
 use Rattle.protocol.proofs.Calls.{at-same, at-tested, at-own, at-twice, after-nothing, no-row}
-use Rattle.protocol.proofs.SoundFacts.{free-empty}
+use Rattle.protocol.proofs.SoundFacts.{is-free, free-empty}
 use Rattle.protocol.proofs.Accepted.{Reserves, reserve-rows, join-reserve}
 
 -- a seat that has no lot before nor after: who is seated stays the same
@@ -102,10 +102,7 @@ module _ (N W : ℕ) (M : Meaning) (s n v : ℕ) where
       untaken = not-false (isFree (M .seats .state s)) (reserve-rows N W (M .seats) (M .pending) s n v e .free)
 
       was-free : M .seats .state s ≡ free
-      was-free = by (M .seats .state s) (true-T untaken)
-        where
-          by : (t : SeatState) → T (isFree t) → t ≡ free
-          by free u = refl
+      was-free = is-free (M .seats .state s) (true-T untaken)
 
       as-opened : (M .seats .number s ≡ 0) × (M .seats .vector s ≡ 0) × ((k : ℕ) (d : Side) → M .link s k d ≡ none)
       as-opened = h .unused s (true-T untaken)

@@ -49,6 +49,9 @@ stays-seated r x t = by (r .state x) t
     by staying t = t
     by leaving t = tt
 
+pub is-free : (s : SeatState) → T (isFree s) → s ≡ free
+is-free free t = refl
+
 -- a seat with a lot is taken
 pub seated-taken : (r : Seats) (x : ℕ) → T (seated r x) → T (taken r x)
 seated-taken r x t = by (r .state x) t

@@ -4,7 +4,7 @@ use Prim.Native.Nat.{ℕ, _≤_}
 use mathlib.Core.Path.{_≡_, refl, sym, ap, _∙_, subst}
 use mathlib.Core.Logic.{_↔_, _≢_}
 use mathlib.Core.Option.{Option, none, some}
-use mathlib.Core.Bool.{Bool, false, not, cond}
+use mathlib.Core.Bool.{Bool, false, not, cond, _||_}
 use mathlib.Core.List.{List, [], _∷_, _++_}
 use native.Mathlib.Omega.{arith}
 use lib.Dec.{eqb}
@@ -13,7 +13,7 @@ use Rattle.base.specs.Loops.{oneIf, count}
 use Rattle.base.proofs.Count.{oneIf-zero, count-same}
 use Rattle.graph.specs.Vector.{width}
 use Rattle.protocol.specs.Message.{Msg, Name, nameOf, named}
-use Rattle.protocol.specs.Rules.{SeatState, free, staying, leaving}
+use Rattle.protocol.specs.Rules.{SeatState, free, staying, leaving, reserved}
 use Rattle.protocol.specs.State.{Seats, Meaning, isFree, isSeated, seated, isPending}
 use Rattle.protocol.specs.Refusals.{wrongSize, unsound, noSuchLevel, emptySeat, noSuchMessage}
 use Rattle.protocol.specs.Calls.{deliver, refusal}
@@ -54,22 +54,27 @@ module _ {bound : List ℕ → ℕ} {s : Standing (List ℕ)} (D : Demand3 bound
     λ h. omega (arith, D .none-left .1 (λ m. unread m (ap (λ (a : MessageAnswer). a .pending) (h (nameOf m))))),
   )
 
--- `seated`, `lots`: the count of lots is how many seats read as a lot
-reads-lot : (r : Seats) (x : ℕ) → seated r x ≡ eqb (lotOf r x .refused) 0
+-- `seated`, `lots`: the count of lots is how many seats read as a lot of the graph, staying or leaving
+abbrev readsLot : LotAnswer → Bool
+readsLot a = eqb (a .state) (stateByte staying) || eqb (a .state) (stateByte leaving)
+
+reads-lot : (r : Seats) (x : ℕ) → seated r x ≡ readsLot (lotOf r x)
 unfolding lotOf
 reads-lot r x = by (r .state x)
   where
     by : (t : SeatState) → isSeated t
-        ≡ eqb (cond {A = LotAnswer} (not (not (isFree t))) (record { refused = emptySeat; state = 0; number = 0; vector = 0 })
-        (record { refused = 0; state = stateByte t; number = r .number x; vector = r .vector x }) .refused) 0
+        ≡ readsLot (cond {A = LotAnswer} (not (not (isFree t))) (record { refused = emptySeat; state = 0; number = 0; vector = 0 })
+        (record { refused = 0; state = stateByte t; number = r .number x; vector = r .vector x }))
     by free = refl
     by staying = refl
     by leaving = refl
+    by reserved = refl
 
 module _ {bound : List ℕ → ℕ} {s : Standing (List ℕ)} (D : Demand3 bound s) where
-  pub count-lots : readCounts (s .now) .lots ≡ count seats (λ x. eqb (readLot (s .now) x .refused) 0)
-  count-lots = D .seated ∙ count-same seats (seated (roster (s .history) .seats)) (λ x. eqb (readLot (s .now) x .refused) 0) (λ x p.
-      reads-lot (roster (s .history) .seats) x ∙ ap (λ (a : LotAnswer). eqb (a .refused) 0) (sym (D .lots x p)))
+  pub count-lots : readCounts (s .now) .lots
+      ≡ count seats (λ x. eqb (readLot (s .now) x .state) (stateByte staying) || eqb (readLot (s .now) x .state) (stateByte leaving))
+  count-lots = D .seated ∙ count-same seats (seated (roster (s .history) .seats)) (λ x. readsLot (readLot (s .now) x)) (λ x p.
+      reads-lot (roster (s .history) .seats) x ∙ ap readsLot (sym (D .lots x p)))
 
 -- `refusals`, of a call e with the calls before it in `older` and those after it in `newer`
 meant-append : (es : List (Past (List ℕ))) (e : Past (List ℕ)) (fs : List (Past (List ℕ)))

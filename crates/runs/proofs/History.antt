@@ -11,15 +11,15 @@ use lib.Dec.{T}
 use Rattle.base.proofs.Cases.{eq-or-ne}
 use Rattle.base.proofs.Tests.{true-false}
 use Rattle.protocol.specs.Message.{Msg, Name, named}
-use Rattle.protocol.specs.Rules.{SeatState, free, staying, leaving}
+use Rattle.protocol.specs.Rules.{SeatState, free, staying, leaving, reserved}
 use Rattle.protocol.specs.State.{Phase, open-phase, clearing, Seats, Meaning, isFree, nobody, taken, leaves, isPending}
 use Rattle.protocol.specs.Refusals.{wrongSize, unsound, noSuchLevel, noSuchMessage, order, Row, appliesIn, firstOf, first}
 use Rattle.protocol.specs.Page.{at}
 use Rattle.protocol.specs.pages.Turn.{afterTurn}
-use Rattle.protocol.specs.Calls.{Call, join, leave, deliver, turn, unlessRefused, rows, refusal, seatsAfter}
+use Rattle.protocol.specs.Calls.{Call, join, reserve, confirm, giveBack, leave, deliver, turn, unlessRefused, rows, refusal, seatsAfter}
 use Rattle.protocol.specs.Run.{Past, logOf, Roster, rosterAfter, rosterOf, pendingOf, RefusedByTable}
 use Rattle.protocol.proofs.Calls.{at-other}
-use Rattle.protocol.proofs.Accepted.{rows-free, join-rows, leave-rows}
+use Rattle.protocol.proofs.Accepted.{rows-free, reserve-rows, confirm-rows, join-reserve, give-back-rows, leave-rows}
 
 -- a refusal that is given applies
 given-applies : (ns : List ℕ) (rs : List Row) (n : ℕ) → n ≢ 0 → firstOf ns rs ≡ n → appliesIn rs n ≡ true
@@ -81,7 +81,10 @@ module _ (N W : ℕ) where
 
   after-below : (r : Seats) (p : Msg → Bool) → Below N r → (c : Call) → refusal N W r p c ≡ 0 → Below N (seatsAfter N W r c)
   unfolding seatsAfter
-  after-below r p h (join s n v c) e = at-below s staying r (join-rows N W r p s n v c e .seat) h
+  after-below r p h (join s n v c) e = at-below s staying r (reserve-rows N W r p s n v (join-reserve N W r p s n v c e) .seat) h
+  after-below r p h (reserve s n v) e = at-below s reserved r (reserve-rows N W r p s n v e .seat) h
+  after-below r p h (confirm s c) e = at-below s staying r (confirm-rows N W r p s c e .seat) h
+  after-below r p h (giveBack s) e = at-below s free r (give-back-rows N W r p s e .seat) h
   after-below r p h (leave s) e = at-below s leaving r (leave-rows N W r p s e .seat) h
   after-below r p h (deliver n) e = h
   after-below r p h turn e = turn-below (r .phase) r h

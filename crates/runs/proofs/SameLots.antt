@@ -12,22 +12,23 @@ use Rattle.base.proofs.Cases.{lt-or-ge}
 use Rattle.memory.specs.Bytes.{AreBytes}
 use Rattle.graph.specs.Vector.{width}
 use Rattle.protocol.specs.Refusals.{emptySeat}
-use Rattle.protocol.specs.Rules.{SeatState, free, staying, leaving}
+use Rattle.protocol.specs.Rules.{SeatState, free, staying, leaving, reserved}
 use Rattle.protocol.specs.State.{oneComponent, Seats, isFree, isSeated, taken, seated, member, members}
 use Rattle.protocol.specs.Sound.{Sound}
 use Rattle.protocol.specs.Run.{Standing, logOf, membersOf}
-use Rattle.protocol.proofs.SoundFacts.{seated-taken}
+use Rattle.base.proofs.Tests.{true-T}
+use Rattle.protocol.proofs.SoundFacts.{is-free, seated-taken}
 use Rattle.protocol.proofs.Reached.{member-seated}
 use Rattle.protocol.proofs.Theorem.{one-component}
 use Rattle.record.specs.Layout.{seats}
-use Rattle.record.specs.Meaning.{seatsIn, meaning, bytesOf, phaseOf, stateByte}
+use Rattle.record.specs.Meaning.{seatsIn, meaning, bytesOf, phaseOf, stateOf, stateByte}
 use Rattle.record.specs.Reading.{LotAnswer, readLot, CountAnswer, recordRefusal, readCounts}
 use Rattle.record.proofs.Form.{no-seat-state}
 use Rattle.record.proofs.Refused.{Passed, record-passed}
 use Rattle.record.proofs.Reading.{counts-read}
 use Rattle.record.proofs.Round.{bytes-meaning}
 use Rattle.record.proofs.Sound.{sound-is}
-use Rattle.record.proofs.Values.{phaseOf-phaseByte}
+use Rattle.record.proofs.Values.{phaseOf-phaseByte, stateOf-stateByte}
 use Rattle.search.proofs.Agree.{Agree}
 use Rattle.runs.specs.Run.{meant, roster, lotOf, Demand3}
 use Rattle.runs.proofs.Readings.{read-lot}
@@ -42,7 +43,7 @@ counts-passed : (l : List ℕ) → readCounts l .refused ≡ 0 → Passed l
 unfolding readCounts
 counts-passed l e = record-passed l refl (not-refused (recordRefusal l) _ _ refl (eqb (recordRefusal l) 0) refl e)
 
--- what reading a seat answers says its state, and of a lot number and vector
+-- what reading a seat answers says its state, and of a lot or a reservation number and vector
 module _ (a b : Seats) (x : ℕ) where
   answer : Seats → SeatState → LotAnswer
   answer r t = cond (not (not (isFree t))) (record { refused = emptySeat; state = 0; number = 0; vector = 0 })
@@ -55,17 +56,19 @@ module _ (a b : Seats) (x : ℕ) where
 
   same-lot : (t u : SeatState) → answer a t ≡ answer b u → SameLot t u
   unfolding answer
-  same-lot free free e = record { state = refl; number = λ h. absurd h; vector = λ h. absurd h }
-  same-lot free staying e = absurd (let z = ap (λ (r : LotAnswer). r .refused) e in omega arith)
-  same-lot free leaving e = absurd (let z = ap (λ (r : LotAnswer). r .refused) e in omega arith)
-  same-lot staying free e = absurd (let z = ap (λ (r : LotAnswer). r .refused) e in omega arith)
-  same-lot staying staying e =
-      record { state = refl; number = λ h. ap (λ (r : LotAnswer). r .number) e; vector = λ h. ap (λ (r : LotAnswer). r .vector) e }
-  same-lot staying leaving e = absurd (let z = ap (λ (r : LotAnswer). r .state) e in omega arith)
-  same-lot leaving free e = absurd (let z = ap (λ (r : LotAnswer). r .refused) e in omega arith)
-  same-lot leaving staying e = absurd (let z = ap (λ (r : LotAnswer). r .state) e in omega arith)
-  same-lot leaving leaving e =
-      record { state = refl; number = λ h. ap (λ (r : LotAnswer). r .number) e; vector = λ h. ap (λ (r : LotAnswer). r .vector) e }
+  same-lot t u e = by (isFree t) (isFree u) refl refl
+    where
+      by : (p q : Bool) → isFree t ≡ p → isFree u ≡ q → SameLot t u
+      by true true p q = record { state = is-free t (true-T p) ∙ sym (is-free u (true-T q)); number = λ h. absurd (rw p at h); vector = λ h. absurd (rw p at h) }
+      by true false p q = absurd (let z = ap (λ (r : LotAnswer). r .refused) (rw (p, q) at e) in omega arith)
+      by false true p q = absurd (let z = ap (λ (r : LotAnswer). r .refused) (rw (p, q) at e) in omega arith)
+      by false false p q =
+          let f = rw (p, q) at e in
+          record {
+            state = sym (stateOf-stateByte t) ∙ ap (λ (r : LotAnswer). stateOf (r .state)) f ∙ stateOf-stateByte u;
+            number = λ h. ap (λ (r : LotAnswer). r .number) f;
+            vector = λ h. ap (λ (r : LotAnswer). r .vector) f;
+          }
 
   lot-same : lotOf a x ≡ lotOf b x → SameLot (a .state x) (b .state x)
   unfolding lotOf answer
@@ -114,6 +117,7 @@ module _ {bound : List ℕ → ℕ} {s : Standing (List ℕ)} (D : Demand3 bound
         by t free e f = record { state = e; number = λ h. absurd (rw e at h); vector = λ h. absurd (rw e at h) }
         by t staying e f = absurd (f tt)
         by t leaving e f = absurd (f tt)
+        by t reserved e f = absurd (f tt)
 
     -- every seat
     pub same-seat : (x : ℕ) → SameLot (seatsIn l) R x (seatsIn l .state x) (R .state x)

@@ -5,7 +5,7 @@ use mathlib.Core.List.{List, [], _∷_, _++_, map}
 use native.Mathlib.Omega.{arith}
 use Rattle.graph.specs.Vector.{width}
 use Rattle.protocol.specs.Message.{Name, name}
-use Rattle.protocol.specs.Calls.{Call, join, leave, deliver, turn, InRange}
+use Rattle.protocol.specs.Calls.{Call, join, reserve, confirm, giveBack, leave, deliver, turn, InRange}
 use Rattle.protocol.specs.Bundle.{Item, one, bundle, leftBy, spread}
 use Rattle.protocol.specs.Run.{AllInRange}
 use Rattle.record.specs.Layout.{seats}
@@ -15,6 +15,9 @@ use Rattle.runs.specs.Typed.{Typed, TypedItem, AllTyped}
 
 pub typed-fits : (c : Call) → Typed c → InRange seats width c
 typed-fits (join s n v c) (ts, tn, tv, tc) = (tn, tv)
+typed-fits (reserve s n v) (ts, tn, tv) = (tn, tv)
+typed-fits (confirm s c) t = tt
+typed-fits (giveBack s) t = tt
 typed-fits (leave s) t = tt
 typed-fits (deliver n) t = tt
 typed-fits turn t = tt
@@ -33,6 +36,15 @@ all-typed l (bundle n ∷ is) t = deliveries-fit (bundleIn l n) _ (all-typed (le
 -- the largest values
 pub widest-join : Typed (join 255 18446744073709551615 255 255)
 widest-join = (omega arith, omega arith, omega arith, omega arith)
+
+pub widest-reserve : Typed (reserve 255 18446744073709551615 255)
+widest-reserve = (omega arith, omega arith, omega arith)
+
+pub widest-confirm : Typed (confirm 255 255)
+widest-confirm = (omega arith, omega arith)
+
+pub widest-give-back : Typed (giveBack 255)
+widest-give-back = omega arith
 
 pub widest-leave : Typed (leave 255)
 widest-leave = omega arith

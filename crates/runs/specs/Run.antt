@@ -41,7 +41,7 @@ meant (e ∷ es) = record { logged = e .logged; before = meaning (e .before) } �
 abbrev pub roster : List (Past (List ℕ)) → Roster
 roster es = rosterOf seats width (logOf (meant es))
 
--- what reading a seat answers of the seats of a roster: its lot, or 8
+-- what reading a seat answers of the seats of a roster: its lot or its reservation, or 8
 unfoldable pub lotOf : Seats → ℕ → LotAnswer
 lotOf r x = cond (not (taken r x)) (record { refused = emptySeat; state = 0; number = 0; vector = 0 })
     (record { refused = 0; state = stateByte (r .state x); number = r .number x; vector = r .vector x })
@@ -50,7 +50,7 @@ lotOf r x = cond (not (taken r x)) (record { refused = emptySeat; state = 0; num
 pub record Demand3 (bound : List ℕ → ℕ) (s : Standing (List ℕ)) : Type 0 where
   -- each refusal number is the table's, from the roster and the pending messages before the call
   pub refusals : RefusedByTable seats width (meant (s .history))
-  -- reading gives the roster's lots, 8 at every other seat, their count and the phase
+  -- reading gives the roster's lots and reservations, 8 at every other seat, the count of the seated lots, and the phase
   pub lots : (x : ℕ) → x < seats → readLot (s .now) x ≡ lotOf (roster (s .history) .seats) x
   pub readable : readCounts (s .now) .refused ≡ 0
   pub phase : readCounts (s .now) .phase ≡ phaseByte (roster (s .history) .seats .phase)

@@ -2,7 +2,7 @@
 -- speaks of every list of calls and bundles with such arguments, and of no fewer. Assumes nothing.
 use Prim.Native.Nat.{ℕ, _^_, _<_}
 use mathlib.Core.List.{List, [], _∷_}
-use Rattle.protocol.specs.Calls.{Call, join, leave, deliver, turn}
+use Rattle.protocol.specs.Calls.{Call, join, reserve, confirm, giveBack, leave, deliver, turn}
 use Rattle.protocol.specs.Bundle.{Item, one, bundle}
 
 -- the bits of the types u8, u16 and u64
@@ -27,6 +27,9 @@ IsU64 n = n < 2 ^ u64Bits
 -- the arguments of a call
 abbrev pub Typed : Call → Type 0
 Typed (join seat number vector contact) = IsU8 seat × IsU64 number × IsU8 vector × IsU8 contact
+Typed (reserve seat number vector) = IsU8 seat × IsU64 number × IsU8 vector
+Typed (confirm seat contact) = IsU8 seat × IsU8 contact
+Typed (giveBack seat) = IsU8 seat
 Typed (leave seat) = IsU8 seat
 Typed (deliver n) = IsU8 (n .kind) × IsU8 (n .to) × IsU8 (n .about) × IsU8 (n .level) × IsU8 (n .side)
 Typed turn = Unit {0}
