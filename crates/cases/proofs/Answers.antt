@@ -14,7 +14,7 @@ use Rattle.protocol.specs.Message.{Msg, among}
 use Rattle.protocol.specs.Numbering.{somePending}
 use Rattle.protocol.specs.State.{open-phase, clearing, isClearing, Seats, Meaning, seated, stays}
 use Rattle.protocol.specs.Refusals.{noSuchSeat, emptySeat, unsettled}
-use Rattle.protocol.specs.Calls.{Call, join, leave, deliver, turn, Outcome}
+use Rattle.protocol.specs.Calls.{Call, join, reserve, confirm, giveBack, leave, deliver, turn, Outcome}
 use Rattle.protocol.specs.Sound.{Sound, numberBits}
 use Rattle.protocol.specs.Run.{logOf, AllInRange}
 use Rattle.protocol.proofs.SoundFacts.{seated-below, pending-exists}
@@ -44,22 +44,30 @@ use Rattle.cases.proofs.View.{View, meant, someLeft, some-left, viewRef
 use Rattle.cases.specs.Lists.{accepted, Pending, LinksOf, Settles, Lot100}
 use Rattle.cases.proofs.Seen.{seen, seen-sound, seen-bytes, seen-log, seen-order}
 
--- the arguments of the calls fit their types, as a test
+-- the arguments of the calls fit their types, as a test: number and vector
+abbrev sizes : (n b : ℕ) → Bool
+sizes n b = ltb n (2 ^ numberBits) && ltb b (2 ^ width)
+
 unfoldable pub fits : List Call → Bool
 fits [] = true
-fits (join s n b c ∷ cs) = (ltb n (2 ^ numberBits) && ltb b (2 ^ width)) && fits cs
+fits (join s n b c ∷ cs) = sizes n b && fits cs
+fits (reserve s n b ∷ cs) = sizes n b && fits cs
+fits (confirm s c ∷ cs) = fits cs
+fits (giveBack s ∷ cs) = fits cs
 fits (leave s ∷ cs) = fits cs
 fits (deliver n ∷ cs) = fits cs
 fits (turn ∷ cs) = fits cs
 
+sizes-in : (n b : ℕ) → T (sizes n b) → (n < 2 ^ numberBits) × (b < 2 ^ width)
+sizes-in n b t = (ltb→lt n _ (and-fst (ltb n (2 ^ numberBits)) _ t), ltb→lt b _ (and-snd (ltb n (2 ^ numberBits)) _ t))
+
 pub fits-in : (cs : List Call) → T (fits cs) → AllInRange seats width cs
 unfolding fits
 fits-in [] t = tt
-fits-in (join s n b c ∷ cs) t =
-    let u = and-fst (ltb n (2 ^ numberBits) && ltb b (2 ^ width)) _ t in (
-      (ltb→lt n _ (and-fst (ltb n (2 ^ numberBits)) _ u), ltb→lt b _ (and-snd (ltb n (2 ^ numberBits)) _ u)),
-      fits-in cs (and-snd (ltb n (2 ^ numberBits) && ltb b (2 ^ width)) _ t),
-    )
+fits-in (join s n b c ∷ cs) t = (sizes-in n b (and-fst (sizes n b) _ t), fits-in cs (and-snd (sizes n b) _ t))
+fits-in (reserve s n b ∷ cs) t = (sizes-in n b (and-fst (sizes n b) _ t), fits-in cs (and-snd (sizes n b) _ t))
+fits-in (confirm s c ∷ cs) t = (tt, fits-in cs t)
+fits-in (giveBack s ∷ cs) t = (tt, fits-in cs t)
 fits-in (leave s ∷ cs) t = (tt, fits-in cs t)
 fits-in (deliver n ∷ cs) t = (tt, fits-in cs t)
 fits-in (turn ∷ cs) t = (tt, fits-in cs t)

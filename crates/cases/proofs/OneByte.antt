@@ -21,7 +21,7 @@ use Rattle.protocol.specs.Numbering.{messageAt}
 use Rattle.protocol.specs.Rules.{free}
 use Rattle.protocol.specs.Sound.{messageOk}
 use Rattle.protocol.proofs.Numbering.{sideNumber-lt}
-use Rattle.record.specs.Layout.{seats, levels, noLink, numberSize, vectorSize, messages, phaseAt, stateAt, numberFrom, vectorFrom, linkAt, pendingFrom}
+use Rattle.record.specs.Layout.{states, seats, levels, noLink, numberSize, vectorSize, messages, phaseAt, stateAt, numberFrom, vectorFrom, linkAt, pendingFrom}
 use Rattle.record.specs.Meaning.{phaseOf, stateOf, seatsIn}
 use Rattle.record.specs.Sound.{phaseFits, statesFit, asOpened, unusedFit, numbersDiffer, linkFits, linksFit, messagesFit}
 
@@ -80,7 +80,7 @@ module _ (l : List ℕ) (v : ℕ) (within : phaseAt < length l) where
 
 -- the byte of a state
 module _ (l : List ℕ) (s v : ℕ) (h : s < seats) (within : stateAt s < length l) where
-  pub state-set : ltb v 3 ≡ false → statesFit (set l (stateAt s) v) ≡ false
+  pub state-set : ltb v states ≡ false → statesFit (set l (stateAt s) v) ≡ false
   unfolding statesFit
   state-set e = all-fails seats s _ h (rw (getD-set-same l (stateAt s) v 0 within) e)
 

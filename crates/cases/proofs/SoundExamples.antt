@@ -1,7 +1,7 @@
 -- The examples of soundness, specs/SoundExamples.antt: each record's clauses by the tests of its lists, evaluated. Assumes nothing.
 use Prim.Native.Nat.{ℕ, zero, suc, _<_}
 use mathlib.Core.Path.{_≡_, refl, sym, ap, _∙_}
-use mathlib.Core.Bool.{Bool, true, false}
+use mathlib.Core.Bool.{Bool, true, false, not, _&&_}
 use mathlib.Core.List.{List, [], _∷_}
 use native.Mathlib.Omega.{arith}
 use lib.Dec.{T, ltb}
@@ -12,18 +12,18 @@ use Rattle.graph.specs.Side.{left, right, onSide}
 use Rattle.graph.specs.Vector.{width, bit, equalBits, shared}
 use Rattle.protocol.specs.Message.{Msg, meet, probe, pull, going, seek, found, none-found}
 use Rattle.protocol.specs.Numbering.{exists}
-use Rattle.protocol.specs.Rules.{free, staying, leaving}
-use Rattle.protocol.specs.State.{Phase, open-phase, clearing}
+use Rattle.protocol.specs.Rules.{SeatState, free, staying, leaving, reserved}
+use Rattle.protocol.specs.State.{Phase, open-phase, clearing, isFree}
 use Rattle.protocol.specs.Sound.{pairOk, linkOk, messageOk}
 use Rattle.protocol.specs.Page.{at}
 use Rattle.protocol.specs.pages.Deliver.{applied}
-use Rattle.record.specs.Layout.{seats, phaseAt, stateAt}
+use Rattle.record.specs.Layout.{states, seats, phaseAt, stateAt}
 use Rattle.record.specs.Meaning.{phaseOf, stateOf, meaning, bytesOf}
 use Rattle.record.specs.Sound.{messagesFit, sound}
 use Rattle.record.proofs.Places.{length-bytesOf}
 use Rattle.record.proofs.Round.{read-phase, read-state}
 use Rattle.cases.specs.Small.{Held, holds, LinkOf, linked, fieldIn, linkIn, seatsOf, small, smallBytes, three, twins}
-use Rattle.cases.specs.SoundExamples.{clauses, every, AllHold, PhaseBroken, StatesBroken, threeIn, holding, linking, pendingIn}
+use Rattle.cases.specs.SoundExamples.{clauses, every, AllHold, PhaseBroken, StatesBroken, threeIn, holding, linking, pendingIn, heldIn}
 use Rattle.cases.specs.SoundExamples.{RecordExamples, MessageExamples}
 use Rattle.cases.proofs.Small.{heldFit, linksWritten, allExist, allOk, unusedOf, numbersOf, linksOf}
 use Rattle.cases.proofs.Small.{phase-read, states-read, unused-read, numbers-read, links-read, messages-read}
@@ -72,6 +72,24 @@ clauses-pending p m x =
     clauses-three p (m ∷ []) (rw (and-true (exists seats width m)) x)
     ∙ ap (λ (b : Bool). true ∷ true ∷ true ∷ true ∷ true ∷ b ∷ []) (and-true (messageOk width (seatsOf p three) m))
 
+-- the three lots and number 400 on the last seat, in a state that takes the seat: only the message decides
+clauses-held : (p : Phase) (t : SeatState) (m : Msg) → T (not (isFree t)) → T (exists seats width m)
+    → clauses (heldIn p t m) ≡ true ∷ true ∷ true ∷ true ∷ true ∷ messageOk width (seatsOf p (holds 63 t 400 0 ∷ three)) m ∷ []
+unfolding heldFit linksWritten allExist allOk unusedOf numbersOf linksOf all fieldIn linkIn at
+clauses-held p t m h x = by t h
+  where
+    one : T (exists seats width m && true)
+    one = rw (and-true (exists seats width m)) x
+
+    ends : (t : SeatState) → messageOk width (seatsOf p (holds 63 t 400 0 ∷ three)) m && true ≡ messageOk width (seatsOf p (holds 63 t 400 0 ∷ three)) m
+    ends t = and-true (messageOk width (seatsOf p (holds 63 t 400 0 ∷ three)) m)
+
+    by : (t : SeatState) → T (not (isFree t))
+        → clauses (heldIn p t m) ≡ true ∷ true ∷ true ∷ true ∷ true ∷ messageOk width (seatsOf p (holds 63 t 400 0 ∷ three)) m ∷ []
+    by staying h = clauses-small p (holds 63 staying 400 0 ∷ three) [] (m ∷ []) tt tt one ∙ ap (λ (b : Bool). true ∷ true ∷ true ∷ true ∷ true ∷ b ∷ []) (ends staying)
+    by leaving h = clauses-small p (holds 63 leaving 400 0 ∷ three) [] (m ∷ []) tt tt one ∙ ap (λ (b : Bool). true ∷ true ∷ true ∷ true ∷ true ∷ b ∷ []) (ends leaving)
+    by reserved h = clauses-small p (holds 63 reserved 400 0 ∷ three) [] (m ∷ []) tt tt one ∙ ap (λ (b : Bool). true ∷ true ∷ true ∷ true ∷ true ∷ b ∷ []) (ends reserved)
+
 -- the clauses one by one
 clauseAt : ℕ → List Bool → Bool
 clauseAt n [] = true
@@ -87,7 +105,7 @@ module _ (l : List ℕ) (h : AllHold l) where
       same-six (phase-set l v w ∙ e) (states-beside l v w ∙ ap (clauseAt 1) h) (unused-alike a ∙ ap (clauseAt 2) h)
       (numbers-alike a ∙ ap (clauseAt 3) h) (links-fit-alike a ∙ ap (clauseAt 4) h) (messages-alike a ∙ ap (clauseAt 5) h)
 
-  state-broken : (s v : ℕ) → s < seats → stateAt s < length l → ltb v 3 ≡ false → stateOf v ≡ stateOf (getD l (stateAt s) 0)
+  state-broken : (s v : ℕ) → s < seats → stateAt s < length l → ltb v states ≡ false → stateOf v ≡ stateOf (getD l (stateAt s) 0)
       → StatesBroken (set l (stateAt s) v)
   unfolding clauseAt
   state-broken s v g w e q =
@@ -102,17 +120,19 @@ phase-2 =
     let w : phaseAt < length (bytesOf M) = rw (length-bytesOf M) (omega arith) in
     phase-broken (threeIn clearing) (clauses-three clearing [] tt) 2 w refl (sym (ap phaseOf (read-phase M)))
 
-leaver-last : AllHold (holding (holds 63 leaving 400 0))
+last-held : (t : SeatState) → T (not (isFree t)) → AllHold (holding (holds 63 t 400 0))
 unfolding heldFit unusedOf numbersOf linksOf all fieldIn linkIn at
-leaver-last = clauses-holding (holds 63 leaving 400 0) tt
+last-held staying h = clauses-holding (holds 63 staying 400 0) tt
+last-held leaving h = clauses-holding (holds 63 leaving 400 0) tt
+last-held reserved h = clauses-holding (holds 63 reserved 400 0) tt
 
-state-3 : StatesBroken (set (holding (holds 63 leaving 400 0)) (stateAt 63) 3)
+state-4 : StatesBroken (set (holding (holds 63 reserved 400 0)) (stateAt 63) 4)
 unfolding stateOf fieldIn at
-state-3 =
-    let M = small open-phase (holds 63 leaving 400 0 ∷ three) [] [] in
+state-4 =
+    let M = small open-phase (holds 63 reserved 400 0 ∷ three) [] [] in
     let g : 63 < seats = omega arith in
     let w : stateAt 63 < length (bytesOf M) = rw (length-bytesOf M) (omega arith) in
-    state-broken (holding (holds 63 leaving 400 0)) leaver-last 63 3 g w refl (sym (ap stateOf (read-state M 63 g)))
+    state-broken (holding (holds 63 reserved 400 0)) (last-held reserved tt) 63 4 g w refl (sym (ap stateOf (read-state M 63 g)))
 
 clauses-all : (b : List ℕ) → sound b ≡ every (clauses b)
 unfolding sound every
@@ -123,10 +143,23 @@ unfolding heldFit linksWritten allExist allOk unusedOf numbersOf linksOf all fie
 record-examples = record {
   clauses-all = clauses-all;
   phase = (clauses-three open-phase [] tt, clauses-three clearing [] tt, phase-2);
-  state = (leaver-last, state-3);
+  state = (last-held leaving tt, last-held reserved tt, state-4);
   unused = (clauses-holding (holds 3 free 1 0) tt, clauses-holding (holds 63 free 0 1) tt, clauses-holding (holds 3 free 0 0) tt);
   unused-link = clauses-linking (linked 3 0 right 0) tt;
   numbers = (clauses-holding (holds 63 staying 200 0) tt, clauses-holding (holds 63 staying 201 0) tt, clauses-holding (holds 63 staying 0 0) tt);
+  reserved-number = (
+    clauses-holding (holds 63 reserved 100 0) tt,
+    clauses-holding (holds 63 reserved 200 0) tt,
+    clauses-small open-phase (holds 3 reserved 400 0 ∷ holds 63 reserved 400 0 ∷ three) [] [] tt tt tt,
+    clauses-small open-phase (holds 3 reserved 400 0 ∷ holds 63 reserved 401 0 ∷ three) [] [] tt tt tt,
+    clauses-holding (holds 63 reserved 0 0) tt,
+  );
+  reserved-link = (
+    clauses-small open-phase (holds 63 reserved 400 0 ∷ three) (linked 63 0 left 0 ∷ []) [] tt tt tt,
+    clauses-small open-phase (holds 63 reserved 400 0 ∷ three) (linked 0 0 right 63 ∷ []) [] tt tt tt,
+    clauses-small open-phase (holds 63 staying 400 0 ∷ three) (linked 63 0 left 0 ∷ []) [] tt tt tt,
+    clauses-small open-phase (holds 63 staying 400 0 ∷ three) (linked 0 0 right 63 ∷ []) [] tt tt tt,
+  );
   link-seat = (clauses-linking (linked 0 0 right 0) tt, clauses-linking (linked 0 0 left 3) tt, clauses-linking (linked 0 0 right 64) tt);
   link-side = (
     clauses-linking (linked 0 0 left 1) tt,
@@ -194,6 +227,25 @@ message-examples = record {
     clauses-pending clearing (none-found 3 0 right) tt,
     clauses-pending clearing (none-found 63 8 right) tt,
     clauses-pending open-phase (none-found 0 8 left) tt,
+  );
+  reserved-breaks = (
+    clauses-held open-phase reserved (meet 63 0 0) tt tt,
+    clauses-held open-phase reserved (meet 0 63 0) tt tt,
+    clauses-held open-phase reserved (probe 63 0 0) tt tt,
+    clauses-held open-phase reserved (probe 0 63 0) tt tt,
+    clauses-held open-phase reserved (pull 63 true 0 right) tt tt,
+    clauses-held clearing reserved (going 63 0 right) tt tt,
+    clauses-held clearing reserved (seek 63 0 0) tt tt,
+    clauses-held clearing reserved (seek 0 63 0) tt tt,
+    clauses-held clearing reserved (found 63 0 0) tt tt,
+    clauses-held clearing reserved (found 0 63 0) tt tt,
+    clauses-held clearing reserved (none-found 63 0 right) tt tt,
+  );
+  reserved-fits = (
+    clauses-held open-phase staying (meet 63 0 0) tt tt,
+    clauses-held open-phase staying (meet 0 63 0) tt tt,
+    clauses-held clearing staying (found 63 0 0) tt tt,
+    clauses-held clearing staying (none-found 63 0 right) tt tt,
   );
   level-fits = (clauses-small open-phase twins [] (meet 0 1 8 ∷ []) tt tt tt, clauses-small open-phase twins [] (probe 0 1 7 ∷ []) tt tt tt);
   no-place = no-place;

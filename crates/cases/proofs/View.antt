@@ -12,7 +12,8 @@ use Rattle.base.proofs.Tests.{T-true, true-T, or-left, dec-T, not-T-false, fals
 use Rattle.protocol.specs.Message.{Msg, sameMsg, among}
 use Rattle.protocol.specs.Numbering.{exists, somePending}
 use Rattle.protocol.specs.State.{Seats, Meaning}
-use Rattle.protocol.specs.Calls.{Call, join, leave, deliver, turn, rows, refusal, seatsAfter, linksAfter, sends, takes, unlessRefused, accept, call}
+use Rattle.protocol.specs.Calls.{Call, join, reserve, confirm, giveBack, leave, deliver, turn, rows, refusal, seatsAfter, linksAfter, sends, takes}
+use Rattle.protocol.specs.Calls.{unlessRefused, accept, call}
 use Rattle.protocol.specs.Refusals.{row, first}
 use Rattle.protocol.specs.Page.{isTaken, pendingAfter}
 use Rattle.protocol.specs.Sound.{Sound}
@@ -42,6 +43,9 @@ without o (m ∷ l) = cond (isTaken o m) (without o l) (m ∷ without o l)
 -- the table's refusal number; only a turn looks at the list alone
 unfoldable pub viewRefusal : View → Call → ℕ
 viewRefusal v (join s n b c) = refusal seats width (v .seats) (among (v .pending)) (join s n b c)
+viewRefusal v (reserve s n b) = refusal seats width (v .seats) (among (v .pending)) (reserve s n b)
+viewRefusal v (confirm s c) = refusal seats width (v .seats) (among (v .pending)) (confirm s c)
+viewRefusal v (giveBack s) = refusal seats width (v .seats) (among (v .pending)) (giveBack s)
 viewRefusal v (leave s) = refusal seats width (v .seats) (among (v .pending)) (leave s)
 viewRefusal v (deliver n) = refusal seats width (v .seats) (among (v .pending)) (deliver n)
 viewRefusal v turn = first (row 11 (someLeft (v .pending)) ∷ [])
@@ -109,6 +113,9 @@ module _ (v : View) (h : Sound seats width (meant v)) where
   view-refusal : (c : Call) → refusal seats width (v .seats) (among (v .pending)) c ≡ viewRefusal v c
   unfolding viewRefusal refusal rows
   view-refusal (join s n b c) = refl
+  view-refusal (reserve s n b) = refl
+  view-refusal (confirm s c) = refl
+  view-refusal (giveBack s) = refl
   view-refusal (leave s) = refl
   view-refusal (deliver n) = refl
   view-refusal turn = ap (λ (b : Bool). first (row 11 b ∷ [])) (some-left (v .pending) (λ m t. pending-exists h m t))

@@ -8,7 +8,7 @@ use Rattle.graph.specs.Side.{left, right}
 use Rattle.graph.specs.Vector.{width}
 use Rattle.protocol.specs.Message.{Msg, meet, probe, pull, going, seek, found, none-found}
 use Rattle.protocol.specs.Numbering.{exists}
-use Rattle.protocol.specs.Rules.{free, staying, leaving}
+use Rattle.protocol.specs.Rules.{SeatState, free, staying, leaving, reserved}
 use Rattle.protocol.specs.State.{Phase, open-phase, clearing}
 use Rattle.protocol.specs.Sound.{messageOk}
 use Rattle.record.specs.Layout.{seats, phaseAt, stateAt}
@@ -59,14 +59,20 @@ linking l = smallBytes open-phase three (l ∷ []) []
 abbrev pub pendingIn : Phase → Msg → List ℕ
 pendingIn p m = smallBytes p three [] (m ∷ [])
 
+-- with a pending message, and in that state number 400 on the last seat
+abbrev pub heldIn : Phase → SeatState → Msg → List ℕ
+heldIn p t m = smallBytes p (holds 63 t 400 0 ∷ three) [] (m ∷ [])
+
 -- phase, states, free seats, numbers, links
 pub record RecordExamples : Type 0 where
   -- soundness is the clauses, and no more
   pub clauses-all : (b : List ℕ) → sound b ≡ every (clauses b)
   -- the three lots, in phase 0 and in phase 1; phase 2
   pub phase : AllHold (threeIn open-phase) × AllHold (threeIn clearing) × PhaseBroken (set (threeIn clearing) phaseAt 2)
-  -- states 0, 1 and 2 are among those of the three lots; a leaver on the last seat, and state 3 there
-  pub state : AllHold (holding (holds 63 leaving 400 0)) × StatesBroken (set (holding (holds 63 leaving 400 0)) (stateAt 63) 3)
+  -- states 0, 1 and 2 are among those of the three lots; state 2 on the last seat, state 3 there, and state 4
+  pub state : AllHold (holding (holds 63 leaving 400 0))
+      × AllHold (holding (holds 63 reserved 400 0))
+      × StatesBroken (set (holding (holds 63 reserved 400 0)) (stateAt 63) 4)
   -- a free seat with a number; with a vector; as opened
   pub unused : UnusedBroken (holding (holds 3 free 1 0)) × UnusedBroken (holding (holds 63 free 0 1)) × AllHold (holding (holds 3 free 0 0))
   -- with a link: the clause of links breaks too, since only a lot has links
@@ -75,6 +81,17 @@ pub record RecordExamples : Type 0 where
   pub numbers : NumbersBroken (holding (holds 63 staying 200 0))
       × AllHold (holding (holds 63 staying 201 0))
       × AllHold (holding (holds 63 staying 0 0))
+  -- a reservation with the number of a lot, of a leaving lot, and of another reservation; with the next number; as free seats read
+  pub reserved-number : NumbersBroken (holding (holds 63 reserved 100 0))
+      × NumbersBroken (holding (holds 63 reserved 200 0))
+      × NumbersBroken (smallBytes open-phase (holds 3 reserved 400 0 ∷ holds 63 reserved 400 0 ∷ three) [] [])
+      × AllHold (smallBytes open-phase (holds 3 reserved 400 0 ∷ holds 63 reserved 401 0 ∷ three) [] [])
+      × AllHold (holding (holds 63 reserved 0 0))
+  -- a reservation with a link, and a link to a reservation, on its own side and sharing all bits; the same to and from a lot
+  pub reserved-link : LinksBroken (smallBytes open-phase (holds 63 reserved 400 0 ∷ three) (linked 63 0 left 0 ∷ []) [])
+      × LinksBroken (smallBytes open-phase (holds 63 reserved 400 0 ∷ three) (linked 0 0 right 63 ∷ []) [])
+      × AllHold (smallBytes open-phase (holds 63 staying 400 0 ∷ three) (linked 63 0 left 0 ∷ []) [])
+      × AllHold (smallBytes open-phase (holds 63 staying 400 0 ∷ three) (linked 0 0 right 63 ∷ []) [])
   -- a link to the lot itself, which lies on no side of it; to a free seat, on its own side and sharing all bits; to a seat that is none
   pub link-seat : LinksBroken (linking (linked 0 0 right 0)) × LinksBroken (linking (linked 0 0 left 3)) × LinksBroken (linking (linked 0 0 right 64))
   -- to the wrong side; to the right one, a leaving lot
@@ -131,6 +148,22 @@ pub record MessageExamples : Type 0 where
       × MessagesBroken (pendingIn clearing (none-found 3 0 right))
       × MessagesBroken (pendingIn clearing (none-found 63 8 right))
       × MessagesBroken (pendingIn open-phase (none-found 0 8 left))
+  -- messages to and about a reservation, of each kind that can name it; beside them to and about a lot in its place
+  pub reserved-breaks : MessagesBroken (heldIn open-phase reserved (meet 63 0 0))
+      × MessagesBroken (heldIn open-phase reserved (meet 0 63 0))
+      × MessagesBroken (heldIn open-phase reserved (probe 63 0 0))
+      × MessagesBroken (heldIn open-phase reserved (probe 0 63 0))
+      × MessagesBroken (heldIn open-phase reserved (pull 63 true 0 right))
+      × MessagesBroken (heldIn clearing reserved (going 63 0 right))
+      × MessagesBroken (heldIn clearing reserved (seek 63 0 0))
+      × MessagesBroken (heldIn clearing reserved (seek 0 63 0))
+      × MessagesBroken (heldIn clearing reserved (found 63 0 0))
+      × MessagesBroken (heldIn clearing reserved (found 0 63 0))
+      × MessagesBroken (heldIn clearing reserved (none-found 63 0 right))
+  pub reserved-fits : AllHold (heldIn open-phase staying (meet 63 0 0))
+      × AllHold (heldIn open-phase staying (meet 0 63 0))
+      × AllHold (heldIn clearing staying (found 63 0 0))
+      × AllHold (heldIn clearing staying (none-found 63 0 right))
   -- levels, where all bits are shared: a MEET at level 8, a PROBE at level 7
   pub level-fits : AllHold (smallBytes open-phase twins [] (meet 0 1 8 ∷ [])) × AllHold (smallBytes open-phase twins [] (probe 0 1 7 ∷ []))
   -- a PROBE or a PULL at level 8 and another kind at level 9 have no place, so no bytes mean them; and they would break the clause
