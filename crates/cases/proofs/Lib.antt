@@ -10,4 +10,5 @@ pub mod SoundExamples
 pub mod Refusals
 pub mod Scans
 pub mod Leavers
+pub mod Reservations
 pub mod Writings

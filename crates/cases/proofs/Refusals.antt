@@ -161,7 +161,7 @@ module _ (p : Phase) (hs : List Held) (fit : T (heldFit hs)) (fine : AllHold (sm
       by (yes x) = meaning-pending b m x ∙ read-message (small p hs [] []) m x
       by (no x) = message-examples .no-place b m (not-T-false x) ∙ sym (none-among m)
 
-  call-refused : (c : Call) → callRefusal b c ≡ refused (seatsOf p hs) c
+  pub call-refused : (c : Call) → callRefusal b c ≡ refused (seatsOf p hs) c
   call-refused c =
       call-accepted b sized fine-sound c
       ∙ ap (λ (r : Seats). refusal seats width r (meaning b .pending) c) (meaning-seats b ∙ seats-read p hs [] [] fit)

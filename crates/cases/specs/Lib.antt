@@ -1,5 +1,5 @@
 -- Document 01's proved cases over the definitions of the crates below, and examples: the table of refusals, soundness on small records, scans that wait,
--- scans past leaving lots, a link written.
+-- scans past leaving lots, reservations, a link written.
 pub mod Lists
 pub mod Cases
 pub mod Small
@@ -7,4 +7,5 @@ pub mod SoundExamples
 pub mod Refusals
 pub mod Scans
 pub mod Leavers
+pub mod Reservations
 pub mod Writings

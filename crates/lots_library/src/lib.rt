@@ -3,7 +3,8 @@
 // the definitions that the public calls' own contracts cite.
 ghost use mathlib.Core.Path.{_≡_};
 ghost use Rattle.protocol.specs.Message.{name};
-ghost use Rattle.protocol.specs.Calls.{join as joining, leave as leaving, deliver as delivering, turn as turning};
+ghost use Rattle.protocol.specs.Calls.{join as joining, reserve as reserving, confirm as confirming, giveBack as givingBack};
+ghost use Rattle.protocol.specs.Calls.{leave as leaving, deliver as delivering, turn as turning};
 ghost use Rattle.record.specs.Reading.{recordRefusal, openRefusal, openBytes, readLot, readLink, readMessage, readCounts};
 ghost use Rattle.record.specs.Call.{called};
 ghost use Rattle.record.specs.Bundle.{bundled};
@@ -48,6 +49,30 @@ pub extern "C" fn lots_join(rec: &mut [u8], seat: u8, number: u64, vector: u8, c
     ensures { λ r. ⌜ record { refused = r; after = now (rec .exit) } ≡ called (now (rec .entry)) (joining seat number vector contact) ⌝ }
 {
     number_of(joining::join(rec, seat, number, vector, contact))
+}
+
+// Holds a free seat for a lot with a number and a vector. Refused: 1, 2, 3, 7, 4, 5.
+#[no_mangle]
+pub extern "C" fn lots_reserve(rec: &mut [u8], seat: u8, number: u64, vector: u8) -> u8
+    ensures { λ r. ⌜ record { refused = r; after = now (rec .exit) } ≡ called (now (rec .entry)) (reserving seat number vector) ⌝ }
+{
+    number_of(reserving::reserve(rec, seat, number, vector))
+}
+
+// Seats the lot of a reserved seat. Refused: 1, 2, 3, 7, 14, 6.
+#[no_mangle]
+pub extern "C" fn lots_confirm(rec: &mut [u8], seat: u8, contact: u8) -> u8
+    ensures { λ r. ⌜ record { refused = r; after = now (rec .exit) } ≡ called (now (rec .entry)) (confirming seat contact) ⌝ }
+{
+    number_of(reserving::confirm(rec, seat, contact))
+}
+
+// Frees a reserved seat. Refused: 1, 2, 3, 14.
+#[no_mangle]
+pub extern "C" fn lots_give_back(rec: &mut [u8], seat: u8) -> u8
+    ensures { λ r. ⌜ record { refused = r; after = now (rec .exit) } ≡ called (now (rec .entry)) (givingBack seat) ⌝ }
+{
+    number_of(reserving::give_back(rec, seat))
 }
 
 // Marks a lot as leaving. Refused: 1, 2, 3, 7, 8, 9.
@@ -152,7 +177,7 @@ pub extern "C" fn lots_check(rec: &[u8], yes: &mut u8) -> u8
     }
 }
 
-// State, number and vector of the lot on a seat. Refused: 1, 2, 3, 8.
+// State, number and vector of a seat with a lot or a reservation. Refused: 1, 2, 3, 8.
 #[no_mangle]
 pub extern "C" fn lots_read_lot(
     rec: &[u8],
@@ -171,7 +196,7 @@ pub extern "C" fn lots_read_lot(
             *vector = 0;
             n
         }
-        LotRead::Seated(s, n, v) => {
+        LotRead::Taken(s, n, v) => {
             *state = s;
             *number = n;
             *vector = v;

@@ -18,9 +18,9 @@ use Rattle.reading.specs.Answer.{messageNumbers, MessageNumbered, countN
 
 pub lot-determined : (a b : LotRead) → LotNumbered a → LotNumbered b → lotNumbers a ≡ lotNumbers b → a ≡ b
 lot-determined (lot.Refused n) (lot.Refused m) p q e = ap (λ (x : LotAnswer). lot.Refused (x .refused)) e
-lot-determined (lot.Refused n) (lot.Seated s x v) p q e = absurd (omega (arith, p, ap (λ (x : LotAnswer). x .refused) e))
-lot-determined (lot.Seated s x v) (lot.Refused n) p q e = absurd (omega (arith, q, ap (λ (x : LotAnswer). x .refused) e))
-lot-determined (lot.Seated s x v) (lot.Seated t y w) p q e = ap (λ (x : LotAnswer). lot.Seated (x .state) (x .number) (x .vector)) e
+lot-determined (lot.Refused n) (lot.Taken s x v) p q e = absurd (omega (arith, p, ap (λ (x : LotAnswer). x .refused) e))
+lot-determined (lot.Taken s x v) (lot.Refused n) p q e = absurd (omega (arith, q, ap (λ (x : LotAnswer). x .refused) e))
+lot-determined (lot.Taken s x v) (lot.Taken t y w) p q e = ap (λ (x : LotAnswer). lot.Taken (x .state) (x .number) (x .vector)) e
 
 pub link-determined : (a b : LinkRead) → LinkNumbered a → LinkNumbered b → linkNumbers a ≡ linkNumbers b → a ≡ b
 link-determined (link.Refused n) (link.Refused m) p q e = ap (λ (x : LinkAnswer). link.Refused (x .refused)) e

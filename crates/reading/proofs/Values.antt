@@ -37,7 +37,7 @@ module _ (l : List ℕ) where
   lot-refused s {n} e h = rw (← e, ne-eqb n 0 h)
 
   pub lot-values : (s : ℕ) → Held l s
-      → lotNumbers (lot.Seated (getD l (stateAt s) 0) (numberAt l (numberFrom s) numberSize) (numberAt l (vectorFrom s) vectorSize)) ≡ readLot l s
+      → lotNumbers (lot.Taken (getD l (stateAt s) 0) (numberAt l (numberFrom s) numberSize) (numberAt l (vectorFrom s) vectorSize)) ≡ readLot l s
   lot-values s a =
       let h = a .seat in
       let read = lot-read l (a .accepted .sized) (a .accepted .fine) s h (rw (meaning-seats l) (a .there)) in

@@ -18,11 +18,11 @@ use Rattle.reading.specs.declared.next.NextRead.the-variants as next
 -- a lot: state, number and vector
 abbrev pub lotNumbers : LotRead → LotAnswer
 lotNumbers (lot.Refused n) = record { refused = n; state = 0; number = 0; vector = 0 }
-lotNumbers (lot.Seated s n v) = record { refused = 0; state = s; number = n; vector = v }
+lotNumbers (lot.Taken s n v) = record { refused = 0; state = s; number = n; vector = v }
 
 abbrev pub LotNumbered : LotRead → Type 0
 LotNumbered (lot.Refused n) = 0 < n
-LotNumbered (lot.Seated s n v) = Unit {0}
+LotNumbered (lot.Taken s n v) = Unit {0}
 
 -- a link: a seat or 255
 abbrev pub linkNumbers : LinkRead → LinkAnswer

@@ -28,10 +28,10 @@ use rows::seat_refusal;
 use soundness::record_refusal;
 use soundness::sized_refusal;
 
-// State, number and vector of a lot.
+// State, number and vector of a taken seat: a lot, or a reservation.
 pub enum LotRead {
     Refused(u8),
-    Seated(u8, u64, u8),
+    Taken(u8, u64, u8),
 }
 
 // The seat that a link names, or 255.
@@ -52,7 +52,7 @@ pub enum CountsRead {
     Counted(u8, u8, u32),
 }
 
-// The lot on a seat of a lent record: 1, 2, 3, 8, or 0.
+// The lot or the reservation on a seat of a lent record: 1, 2, 3, 8, or 0.
 pub fn lot_refusal(rec: &[u8], seat: u8) -> u8
     ensures { λ r. ⌜ r ≡ lotRefusal (now (rec .entry)) seat ⌝ }
 {
@@ -91,7 +91,7 @@ pub fn open(rec: &mut [u8]) -> Answer
     Answer::Done
 }
 
-// The lot on a seat. Refused: 1, 2, 3, 8.
+// The lot on a seat, or its reservation. Refused: 1, 2, 3, 8.
 pub fn read_lot(rec: &[u8], seat: u8) -> LotRead
     ensures { λ r. ⌜ (lotNumbers r ≡ readLot (now (rec .entry)) seat) × LotNumbered r ⌝ }
 {
@@ -100,7 +100,7 @@ pub fn read_lot(rec: &[u8], seat: u8) -> LotRead
         return LotRead::Refused(n);
     }
     let s = seat as usize;
-    LotRead::Seated(
+    LotRead::Taken(
         record::state(rec, s),
         record::number(rec, s),
         record::vector(rec, s),

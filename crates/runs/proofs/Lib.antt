@@ -8,5 +8,6 @@ pub mod SameLots
 pub mod Uses
 pub mod Fields
 pub mod Unmet
+pub mod Reserved
 pub mod Right
 pub mod Bundles
