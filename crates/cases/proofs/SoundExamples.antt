@@ -76,19 +76,18 @@ clauses-pending p m x =
 clauses-held : (p : Phase) (t : SeatState) (m : Msg) → T (not (isFree t)) → T (exists seats width m)
     → clauses (heldIn p t m) ≡ true ∷ true ∷ true ∷ true ∷ true ∷ messageOk width (seatsOf p (holds 63 t 400 0 ∷ three)) m ∷ []
 unfolding heldFit linksWritten allExist allOk unusedOf numbersOf linksOf all fieldIn linkIn at
-clauses-held p t m h x = by t h
+clauses-held p t m h x = by t h ∙ ap (λ (b : Bool). true ∷ true ∷ true ∷ true ∷ true ∷ b ∷ []) (and-true (fitted t))
   where
+    fitted : SeatState → Bool
+    fitted t = messageOk width (seatsOf p (holds 63 t 400 0 ∷ three)) m
+
     one : T (exists seats width m && true)
     one = rw (and-true (exists seats width m)) x
 
-    ends : (t : SeatState) → messageOk width (seatsOf p (holds 63 t 400 0 ∷ three)) m && true ≡ messageOk width (seatsOf p (holds 63 t 400 0 ∷ three)) m
-    ends t = and-true (messageOk width (seatsOf p (holds 63 t 400 0 ∷ three)) m)
-
-    by : (t : SeatState) → T (not (isFree t))
-        → clauses (heldIn p t m) ≡ true ∷ true ∷ true ∷ true ∷ true ∷ messageOk width (seatsOf p (holds 63 t 400 0 ∷ three)) m ∷ []
-    by staying h = clauses-small p (holds 63 staying 400 0 ∷ three) [] (m ∷ []) tt tt one ∙ ap (λ (b : Bool). true ∷ true ∷ true ∷ true ∷ true ∷ b ∷ []) (ends staying)
-    by leaving h = clauses-small p (holds 63 leaving 400 0 ∷ three) [] (m ∷ []) tt tt one ∙ ap (λ (b : Bool). true ∷ true ∷ true ∷ true ∷ true ∷ b ∷ []) (ends leaving)
-    by reserved h = clauses-small p (holds 63 reserved 400 0 ∷ three) [] (m ∷ []) tt tt one ∙ ap (λ (b : Bool). true ∷ true ∷ true ∷ true ∷ true ∷ b ∷ []) (ends reserved)
+    by : (t : SeatState) → T (not (isFree t)) → clauses (heldIn p t m) ≡ true ∷ true ∷ true ∷ true ∷ true ∷ (fitted t && true) ∷ []
+    by staying h = clauses-small p (holds 63 staying 400 0 ∷ three) [] (m ∷ []) tt tt one
+    by leaving h = clauses-small p (holds 63 leaving 400 0 ∷ three) [] (m ∷ []) tt tt one
+    by reserved h = clauses-small p (holds 63 reserved 400 0 ∷ three) [] (m ∷ []) tt tt one
 
 -- the clauses one by one
 clauseAt : ℕ → List Bool → Bool

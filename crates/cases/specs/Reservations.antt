@@ -86,7 +86,9 @@ pub record OtherExamples : Type 0 where
   pub join-5 : (refused openWaiting (join 3 400 0 0) ≡ 5) × (refused openWaiting (join 3 401 0 0) ≡ 0)
   pub join-6 : (refused openWaiting (join 3 500 0 4) ≡ 6) × (refused openWaiting (join 3 500 0 255) ≡ 6)
   -- a record with reservations alone needs contact 255
-  pub join-first : (refused onlyWaiting (join 3 500 0 255) ≡ 0) × (refused onlyWaiting (join 3 500 0 4) ≡ 6) × (refused onlyWaiting (join 3 500 0 0) ≡ 6)
+  pub join-first : (refused onlyWaiting (join 3 500 0 255) ≡ 0)
+      × (refused onlyWaiting (join 3 500 0 4) ≡ 6)
+      × (refused onlyWaiting (join 3 500 0 0) ≡ 6)
   -- nothing leaves there
   pub leave-8 : (refused openWaiting (leave 4) ≡ 8) × (refused openWaiting (leave 0) ≡ 0)
 

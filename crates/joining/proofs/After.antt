@@ -8,11 +8,10 @@ use mathlib.Core.Bool.{Bool, false}
 use mathlib.Core.List.{List}
 use lib.ListN.{set}
 use borrow.Author.Tests.{lt-ltb, le-ltb}
-use Rattle.memory.specs.Bits.{setBit}
 use Rattle.graph.specs.Vector.{width}
 use Rattle.base.proofs.Cases.{lt-or-ge}
 use Rattle.protocol.specs.Message.{Msg, meet}
-use Rattle.protocol.specs.Numbering.{exists, place}
+use Rattle.protocol.specs.Numbering.{exists}
 use Rattle.protocol.specs.Rules.{SeatState, staying, leaving}
 use Rattle.protocol.specs.State.{Meaning, seated}
 use Rattle.protocol.specs.Page.{pendingAfter}
@@ -22,7 +21,7 @@ use Rattle.protocol.specs.Calls.{join, leave, seatsAfter, linksAfter, sends, ta
 use Rattle.protocol.proofs.Calls.{after-nothing}
 use Rattle.protocol.proofs.SoundFacts.{free-empty, empty-unlinked}
 use Rattle.protocol.proofs.Accepted.{Reserves, reserve-rows, join-reserve, leave-rows}
-use Rattle.record.specs.Layout.{seats, stateAt, pendingFrom}
+use Rattle.record.specs.Layout.{seats, stateAt}
 use Rattle.record.specs.Meaning.{meaning, bytesOf, stateByte}
 use Rattle.record.proofs.Form.{Form}
 use Rattle.record.proofs.Round.{bytes-meaning}

@@ -114,7 +114,8 @@ module _ {G G′ : World} (g : Has G G′) where
     done-over e (todo (pullf i p l q)) = todo (pullf i p l (rw e (j .kept _ q)))
 
   -- with messages that are proper there, and all lots of a component connected
-  invariant-over : {S S′ : State} → Keeps S S′ → ((m : Msg) → S′ .pend m → Ok G′ m) → Whole G′ S′ 0 → Invariant G S → Invariant G′ S′
+  invariant-over : {S S′ : State} → Keeps S S′ → ((m : Msg) → S′ .pend m → Ok G′ m) → Whole G′ S′ 0 → Invariant G S
+      → Invariant G′ S′
   invariant-over {S} j ok w i = record {
     proper = record { link-pair = λ e. pair-over (h .link-pair (old j h e)); link-side = λ e. side-over j h (old j h e); pend-ok = λ {m} p. ok m p };
     back = record { way = λ e. let f = old j h e in way-over j h f (i .back .way f) };

@@ -1,7 +1,7 @@
 -- An accepted join, reservation, confirmation, return or leave keeps soundness; and what seats before and after share if lots stay as they are. A join is
 -- a reservation and its confirmation. Assumes nothing.
 use Prim.Native.Nat.{ℕ, _^_, _<_, zero-le}
-use mathlib.Core.Path.{_≡_, refl, sym, _∙_, ap, subst}
+use mathlib.Core.Path.{_≡_, refl, sym, _∙_, subst}
 use mathlib.Core.Logic.{_⊎_, inl, inr, _≢_}
 use mathlib.Core.Option.{none, some}
 use mathlib.Core.Bool.{Bool, true, false, not, cond}
@@ -22,8 +22,9 @@ use Rattle.protocol.specs.pages.Join.{greeting}
 use Rattle.protocol.specs.Sound.{numberBits, linkOk, messageOk, Sound}
 use Rattle.protocol.proofs.Calls.{at-same, at-other, at-tested, at-all}
 use Rattle.protocol.proofs.SoundFacts.{Two, Linked, Proper, p-meet, p-probe, p-pull, p-going, p-seek, p-found, p-none, linked-ok, proper-ok}
-use Rattle.protocol.proofs.SoundFacts.{not-clearing, link-linked, pending-proper, stays-seated, seated-taken, held-taken, held-empty, free-empty, pending-after}
-use Rattle.protocol.proofs.Accepted.{Reserves, reserve-rows, Confirms, confirm-rows, GivesBack, give-back-rows, Leaves, leave-rows, join-reserve}
+use Rattle.protocol.proofs.SoundFacts.{not-clearing, link-linked, pending-proper, stays-seated, seated-taken, held-taken}
+use Rattle.protocol.proofs.SoundFacts.{held-empty, free-empty, pending-after}
+use Rattle.protocol.proofs.Accepted.{reserve-rows, Confirms, confirm-rows, give-back-rows, leave-rows, join-reserve}
 use Rattle.protocol.proofs.Reserving.{join-confirm, join-in-two}
 
 -- lot x, seated in r, is seated in r′, with the same number and vector
@@ -49,7 +50,8 @@ module _ {W : ℕ} {r r′ : Seats} where
   linked-kept p q (t, l) = (two-kept p q t, lt-kept p q l)
 
   -- every lot stays, and while clearing the staying ones stay so: what fitted its kind still does
-  proper-kept : {p : Phase} {m : Msg} → ((x : ℕ) → T (seated r x) → Kept r r′ x) → (p ≡ clearing → (x : ℕ) → T (stays r x) → T (stays r′ x))
+  proper-kept : {p : Phase} {m : Msg} → ((x : ℕ) → T (seated r x) → Kept r r′ x)
+      → (p ≡ clearing → (x : ℕ) → T (stays r x) → T (stays r′ x))
       → Proper W r p m → Proper W r′ p m
   proper-kept f g (p-meet t) = p-meet (two-kept (f _ (t .one)) (f _ (t .two)) t)
   proper-kept f g (p-probe t w) = p-probe (two-kept (f _ (t .one)) (f _ (t .two)) t) w
@@ -64,7 +66,8 @@ module _ {N W : ℕ} {M : Meaning} (h : Sound N W M) where
   r = M .seats
 
   -- in the same phase what is pending still fits
-  pending-kept : {r′ : Seats} → ((x : ℕ) → T (seated r x) → Kept r r′ x) → (r .phase ≡ clearing → (x : ℕ) → T (stays r x) → T (stays r′ x))
+  pending-kept : {r′ : Seats} → ((x : ℕ) → T (seated r x) → Kept r r′ x)
+      → (r .phase ≡ clearing → (x : ℕ) → T (stays r x) → T (stays r′ x))
       → r′ .phase ≡ r .phase → (m : Msg) → T (M .pending m) → T (messageOk W r′ m)
   pending-kept {r′} f g e m t = proper-ok W r′ e (proper-kept f g (pending-proper h t))
 
@@ -139,14 +142,17 @@ module _ {N W : ℕ} {M : Meaning} (h : Sound N W M) where
       stayed e x u = rw (at-other s t (r .state) x (other x (stays-seated r x u))) u
 
       -- the seat itself, or one taken before
-      who : (x : ℕ) → T (taken r′ x) → ((x ≡ s) × T (not (isFree t))) ⊎ ((x ≢ s) × T (taken r x))
+      Who : ℕ → Type 0
+      Who x = ((x ≡ s) × T (not (isFree t))) ⊎ ((x ≢ s) × T (taken r x))
+
+      who : (x : ℕ) → T (taken r′ x) → Who x
       who x u = by (ℕ-discrete x s)
         where
-          by : Dec (x ≡ s) → ((x ≡ s) × T (not (isFree t))) ⊎ ((x ≢ s) × T (taken r x))
+          by : Dec (x ≡ s) → Who x
           by (yes q) = inl (q, rw (at-same s t (r .state) x q) at u)
           by (no q) = inr (q, rw (at-other s t (r .state) x q) at u)
 
-      seat : (x : ℕ) → ((x ≡ s) × T (not (isFree t))) ⊎ ((x ≢ s) × T (taken r x)) → x < N
+      seat : (x : ℕ) → Who x → x < N
       seat x (inl (q, u)) = subst (λ (y : ℕ). y < N) (sym q) ls
       seat x (inr (q, u)) = h .seats x u
 
@@ -156,8 +162,7 @@ module _ {N W : ℕ} {M : Meaning} (h : Sound N W M) where
       unlike : (x y : ℕ) → x ≡ s → T (not (isFree t)) → y ≢ s → T (taken r y) → r′ .number y ≢ r′ .number x
       unlike x y q i p u f = apart i y (h .seats y u) u (sym (same-number y p) ∙ f ∙ at-same s n (r .number) x q)
 
-      differ : (x y : ℕ) → ((x ≡ s) × T (not (isFree t))) ⊎ ((x ≢ s) × T (taken r x)) → ((y ≡ s) × T (not (isFree t))) ⊎ ((y ≢ s) × T (taken r y))
-          → r′ .number x ≡ r′ .number y → x ≡ y
+      differ : (x y : ℕ) → Who x → Who y → r′ .number x ≡ r′ .number y → x ≡ y
       differ x y (inl (p, i)) (inl (q, j)) f = p ∙ sym q
       differ x y (inl (p, i)) (inr (q, u)) f = absurd (unlike x y p i q u (sym f))
       differ x y (inr (p, u)) (inl (q, i)) f = absurd (unlike y x q i p u f)

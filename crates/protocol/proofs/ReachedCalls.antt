@@ -9,7 +9,6 @@ use native.Mathlib.Omega.{arith}
 use native.Mathlib.Decide.{decLt, ℕ-discrete}
 use lib.Dec.{T, ltb}
 use borrow.Author.Tests.{lt-ltb, le-ltb}
-use Rattle.graph.specs.Side.{Side}
 use Rattle.graph.specs.Graph.{Links}
 use Rattle.base.proofs.Tests.{false-T, not-T-false, true-false}
 use Rattle.protocol.specs.Message.{Msg, meet, nameOf, among}
@@ -74,8 +73,9 @@ module _ (comp : ℕ → ℕ) {W : ℕ} where
   }
 
   -- links and messages stay, too
-  sane-same : {N : ℕ} {M : Meaning} → Sound N W M → {r′ : Seats} {p : Phase} → SameSeated (M .seats) r′ → (p ≡ clearing → stays r′ ≡ stays (M .seats))
-      → Sane comp W M p → Sane comp W (record { seats = r′; link = M .link; pending = M .pending }) p
+  sane-same : {N : ℕ} {M : Meaning} → Sound N W M → {r′ : Seats} {p : Phase} → SameSeated (M .seats) r′
+      → (p ≡ clearing → stays r′ ≡ stays (M .seats)) → Sane comp W M p
+      → Sane comp W (record { seats = r′; link = M .link; pending = M .pending }) p
   sane-same h q e (in-open i) = let l = sound-laws h in in-open (λ l′. invariant-same (has q l l′) (has (same-back q) l′ l) (i l))
   sane-same {M = M} h {r′} q e (in-clearing L a i) =
       let l = sound-laws h in

@@ -2,18 +2,17 @@
 -- links and messages; and reserving and then giving back leave all as it was. Assumes nothing.
 use Prim.Native.Nat.{ℕ}
 use mathlib.Core.Path.{_≡_, refl, sym, _∙_, ap, fun-ext}
-use mathlib.Core.Option.{Option, none}
+use mathlib.Core.Option.{none}
 use mathlib.Core.Bool.{Bool, true, false, not, cond, _||_}
-use mathlib.Core.List.{[], _++_}
+use mathlib.Core.List.{[]}
 use native.Mathlib.Decide.{ℕ-discrete}
-use lib.Dec.{T, eqb}
+use lib.Dec.{eqb}
 use borrow.Author.Tests.{eq-eqb, ne-eqb, not-false}
 use Rattle.base.specs.Loops.{any}
 use Rattle.base.proofs.Tests.{true-T}
 use Rattle.graph.specs.Side.{Side}
-use Rattle.protocol.specs.Message.{Msg}
 use Rattle.protocol.specs.Rules.{SeatState, free, staying, reserved}
-use Rattle.protocol.specs.State.{Seats, Meaning, isFree, isSeated, isReserved, isClearing, taken, seated, held, noSeat}
+use Rattle.protocol.specs.State.{Seats, Meaning, isFree, isSeated, isReserved, isClearing, seated, held, noSeat}
 use Rattle.protocol.specs.Refusals.{noSuchSeat, inClearing, noContact, first}
 use Rattle.protocol.specs.Page.{at, seating, withoutLinks, pendingAfter}
 use Rattle.protocol.specs.pages.Join.{noSuchContact, lacksContact, greeting}
@@ -21,10 +20,11 @@ use Rattle.protocol.specs.Calls.{join, reserve, confirm, giveBack, rows,
 use Rattle.protocol.specs.Sound.{Sound}
 use Rattle.protocol.proofs.Calls.{at-same, at-tested, at-own, at-twice, after-nothing, no-row}
 use Rattle.protocol.proofs.SoundFacts.{is-free, free-empty}
-use Rattle.protocol.proofs.Accepted.{Reserves, reserve-rows, join-reserve}
+use Rattle.protocol.proofs.Accepted.{reserve-rows, join-reserve}
 
 -- a seat that has no lot before nor after: who is seated stays the same
-pub seated-seating : (s : ℕ) (t : SeatState) (n v : ℕ) (r : Seats) → seated r s ≡ false → isSeated t ≡ false → seated (seating s t n v r) ≡ seated r
+pub seated-seating : (s : ℕ) (t : SeatState) (n v : ℕ) (r : Seats) → seated r s ≡ false → isSeated t ≡ false
+    → seated (seating s t n v r) ≡ seated r
 seated-seating s t n v r e f = fun-ext (at-tested s t (r .state) isSeated (f ∙ sym e))
 
 -- what is without links on seat s already stays as it is
@@ -58,11 +58,7 @@ module _ (N W : ℕ) (M : Meaning) (s n v : ℕ) where
         ∙ no-row rs noContact tt e in
         rw (seat, opens, reserving-held, known)
 
-    -- and sends what the join sends, while reserving sends nothing
-    pub join-sends : sends N W M (reserve s n v) ++ sends N W reserving (confirm s c) ≡ sends N W M (join s n v c)
-    unfolding sends
-    join-sends = refl
-
+    -- and both come to the same
     pub join-in-two : accept N W reserving (confirm s c) ≡ accept N W M (join s n v c)
     unfolding accept seatsAfter linksAfter sends takes
     join-in-two i = record {

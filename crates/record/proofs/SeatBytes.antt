@@ -20,8 +20,8 @@ unfolding phaseOf
 clearing-of b = ⊎-elim (λ e. rw (eq-eqb b 0 e)) (λ e. rw (ne-eqb b 0 e)) (eq-or-ne b 0)
 
 -- what a test says of a byte as a state, from what it says of 0, 1, 2 and any above
-by-state : (p : SeatState → Bool) (q : ℕ → Bool) → p free ≡ q 0 → p staying ≡ q 1 → p leaving ≡ q 2 → ((b : ℕ) → 2 < b → p reserved ≡ q b)
-    → (b : ℕ) → p (stateOf b) ≡ q b
+by-state : (p : SeatState → Bool) (q : ℕ → Bool) → p free ≡ q 0 → p staying ≡ q 1 → p leaving ≡ q 2
+    → ((b : ℕ) → 2 < b → p reserved ≡ q b) → (b : ℕ) → p (stateOf b) ≡ q b
 unfolding stateOf
 by-state p q e f g h zero = e
 by-state p q e f g h (suc zero) = f

@@ -10,7 +10,7 @@ use Rattle.protocol.specs.Rules.{free, staying, reserved}
 use Rattle.protocol.specs.Calls.{reserve, confirm, giveBack, seatsAfter, linksAfter, sends, takes, accept}
 use Rattle.protocol.proofs.Calls.{after-nothing}
 use Rattle.protocol.proofs.SoundFacts.{free-empty, held-empty}
-use Rattle.protocol.proofs.Accepted.{Reserves, reserve-rows, Confirms, confirm-rows, GivesBack, give-back-rows}
+use Rattle.protocol.proofs.Accepted.{Reserves, reserve-rows, confirm-rows, GivesBack, give-back-rows}
 use Rattle.record.specs.Layout.{seats, stateAt}
 use Rattle.record.specs.Meaning.{meaning, bytesOf, stateByte}
 use Rattle.record.proofs.Round.{bytes-meaning}

@@ -7,7 +7,7 @@ use Rattle.memory.specs.Bytes.{AreBytes}
 use Rattle.graph.specs.Vector.{width}
 use Rattle.protocol.specs.State.{Meaning}
 use Rattle.protocol.specs.Sound.{numberBits, Sound}
-use Rattle.protocol.specs.Calls.{Call, join, reserve, confirm, giveBack, refusal, sends, unlessRefused, accept, call}
+use Rattle.protocol.specs.Calls.{Call, join, reserve, confirm, giveBack, refusal, sends, unlessRefused, accept}
 use Rattle.protocol.proofs.Accepted.{join-reserve}
 use Rattle.protocol.proofs.Reserving.{join-confirm, join-in-two, reserve-give-back, back-again}
 use Rattle.protocol.proofs.KeepCalls.{reserve-sound}

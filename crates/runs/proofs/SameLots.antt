@@ -59,7 +59,11 @@ module _ (a b : Seats) (x : ℕ) where
   same-lot t u e = by (isFree t) (isFree u) refl refl
     where
       by : (p q : Bool) → isFree t ≡ p → isFree u ≡ q → SameLot t u
-      by true true p q = record { state = is-free t (true-T p) ∙ sym (is-free u (true-T q)); number = λ h. absurd (rw p at h); vector = λ h. absurd (rw p at h) }
+      by true true p q = record {
+        state = is-free t (true-T p) ∙ sym (is-free u (true-T q));
+        number = λ h. absurd (rw p at h);
+        vector = λ h. absurd (rw p at h);
+      }
       by true false p q = absurd (let z = ap (λ (r : LotAnswer). r .refused) (rw (p, q) at e) in omega arith)
       by false true p q = absurd (let z = ap (λ (r : LotAnswer). r .refused) (rw (p, q) at e) in omega arith)
       by false false p q =

@@ -65,7 +65,10 @@ free-links l x u h f = sym (all-from levels _ (λ k g. both k (all-at levels k f
     free k = eqb (getD l (linkAt x k left) 0) noLink && eqb (getD l (linkAt x k right) 0) noLink
 
     opened : asOpened l x ≡ true
-    opened = let t : taken (seatsIn l) x || asOpened l x ≡ true = and-right (ltb (getD l (stateAt x) 0) states) _ (all-at seats x (seatFits l) u h) in rw f at t
+    opened =
+        let t : taken (seatsIn l) x || asOpened l x ≡ true =
+        and-right (ltb (getD l (stateAt x) 0) states) _ (all-at seats x (seatFits l) u h) in
+        rw f at t
 
     none : all levels free ≡ true
     none =

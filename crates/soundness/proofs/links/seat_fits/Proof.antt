@@ -15,7 +15,8 @@ no-links-requires c κs = search needs
 returns : tie.Need-returns
 returns c =
     let r = c .before .before .before .before in
-    c .no-links .ensures ∙ sym (empty-links (r .args .rec .now) (r .args .x) (sym (c .before .before .is-seated .ensures) ∙ not-true _ (c .before .if1 .taken)))
+    let none = sym (c .before .before .is-seated .ensures) ∙ not-true _ (c .before .if1 .taken) in
+    c .no-links .ensures ∙ sym (empty-links (r .args .rec .now) (r .args .x) none)
 
 lot-fits-requires : tie.Need-lot-fits-requires
 lot-fits-requires c κs =
