@@ -28,24 +28,6 @@ fn both(call: Call, model: &mut Model, bytes: &mut [u8]) -> Answer {
 /// The calls that a line of a script makes.
 fn calls(command: Command, model: &Model) -> Vec<Call> {
     match command {
-        Command::Join {
-            seat,
-            number,
-            vector,
-            contact,
-        } => vec![Call::Join {
-            seat,
-            number,
-            vector,
-            contact,
-        }],
-        Command::Leave { seat } => vec![Call::Leave { seat }],
-        Command::Deliver(message) => vec![Call::Deliver(message)],
-        Command::Turn => vec![Call::Turn],
-        Command::Find { start, number } => vec![Call::Find {
-            seat: start,
-            number,
-        }],
         Command::Print => vec![Call::Check, Call::ReadCounts],
         Command::Settle => {
             let mut settling = model.clone();
@@ -56,6 +38,7 @@ fn calls(command: Command, model: &Model) -> Vec<Call> {
             }
             calls
         }
+        _ => Vec::from_iter(command.call()),
     }
 }
 
@@ -107,7 +90,7 @@ fn on_records_that_no_calls_lead_to() {
             accepted[call.index()] += usize::from(answer.refusal == 0);
             if let Call::Find { seat, .. } = call {
                 let unsettled = way.map(|_| Refusal::Unsettled);
-                let refusal = model.lot(seat).err().or(unsettled);
+                let refusal = model.link(seat, 0, 0).err().or(unsettled);
                 assert_eq!(answer.refusal, refusal.map_or(0, Refusal::number));
                 *ways.entry((answer.refusal, way)).or_insert(0) += 1;
             }
