@@ -1,12 +1,14 @@
 //! The calls on lent bytes agree with the model: answers, values and every
-//! byte, on the records of scripts and on records that no calls lead to.
+//! byte, on the records of scripts and lists and on records that no calls lead to.
 
 use crate::call::{Answer, Call, NAMES};
 use crate::graph::SEATS;
 use crate::inputs::{self, Style};
 use crate::lent::{self, from_bytes, to_bytes};
+use crate::list;
 use crate::model::{Model, Refusal, NO_CONTACT};
 use crate::random::Random;
+use crate::reserved::Unsound;
 use crate::scan::Scan;
 use crate::script::{self, Numbers, Pools, Vectors};
 use crate::text::{self, Command};
@@ -69,6 +71,21 @@ fn on_scripts() {
             both(call, &mut model.clone(), &mut bytes.clone());
         }
     }
+}
+
+/// With reservations, which no script has.
+#[test]
+fn on_lists() {
+    let mut accepted = [0; NAMES.len()];
+    for index in 0..60 {
+        let mut model = Model::open();
+        let mut bytes = to_bytes(&model);
+        for call in list::generate(4, index, 100) {
+            let answer = both(call, &mut model, &mut bytes);
+            accepted[call.index()] += usize::from(answer.refusal == 0);
+        }
+    }
+    assert!(accepted.iter().all(|&count| count > 5), "{accepted:?}");
 }
 
 #[test]
@@ -177,7 +194,7 @@ fn settle_by_any_bundles(model: &mut Model, bytes: &mut [u8], random: &mut Rando
 #[test]
 fn soundness_of_damaged_bytes() {
     let mut random = Random::new(3);
-    let mut sound = [0; 2];
+    let (mut sound, mut ways) = ([0; 2], BTreeMap::new());
     for _ in 0..6_000 {
         let pools = inputs::pools(&mut random);
         let mut bytes = inputs::sound_record(&pools, &mut random);
@@ -190,8 +207,25 @@ fn soundness_of_damaged_bytes() {
         };
         assert_eq!(refusal, expected);
         sound[usize::from(expected.is_none())] += 1;
+        if expected == Some(Refusal::Unsound) {
+            *ways.entry(Unsound::of_bytes(&bytes)).or_insert(0) += 1;
+        }
     }
     assert!(sound.iter().all(|&count| count > 500), "{sound:?}");
+    for way in Unsound::ALL.map(Some) {
+        assert!(ways.get(&way) > Some(&10), "{ways:?}");
+    }
+}
+
+/// A sound record in which so many lots are reserved.
+fn record_with_reserved(reserved: usize, pools: &Pools, random: &mut Random) -> Vec<u8> {
+    loop {
+        let bytes = inputs::sound_record(pools, random);
+        let model = from_bytes(&bytes).expect("the record is sound");
+        if model.taken().count() == model.seated().count() + reserved {
+            return bytes;
+        }
+    }
 }
 
 /// Every bit of a small record is changed in turn.
@@ -199,8 +233,8 @@ fn soundness_of_damaged_bytes() {
 fn soundness_of_each_bit() {
     let mut random = Random::new(4);
     let pools = Pools::new(5, Numbers::Close, Vectors::Few, &mut random);
-    for _ in 0..2 {
-        let mut bytes = inputs::sound_record(&pools, &mut random);
+    for reserved in 0..3 {
+        let mut bytes = record_with_reserved(reserved, &pools, &mut random);
         for place in (0..bytes.len() * 8).filter(|place| place % 37 == 0 || *place < 15_000) {
             bytes[place / 8] ^= 1 << (place % 8);
             let sound = lent::validate(&bytes).is_ok();

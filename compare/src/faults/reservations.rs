@@ -1,14 +1,13 @@
 //! Reservations put wrongly into the model. Scripts have none, so lists of calls
 //! show them.
 
-use crate::call::Call;
 use crate::list::{self, fixed};
 use crate::model::{Fault, Model, WrongReserved, WrongReserving};
 use crate::selfcheck::{run_list_on, Failure};
 use std::collections::BTreeSet;
 
 const LISTS: u64 = 150;
-const CALLS: usize = 150;
+const CALLS: u64 = 150;
 
 const REFUSAL: &str = "not the table's refusal";
 const REFUSED_CHANGED: &str = "a refused call changed the record";
@@ -23,117 +22,79 @@ const CONFIRM: &str = "a confirmation is not the join in its place";
 const LEFT: &str = "a reservation that is given back leaves something";
 
 /// Each with all ways in which lists fail.
-const WRONG: [(Fault, &[&str]); 29] = [
-    (Fault::ReservedIsMember, &[MEMBERS]),
-    (Fault::Reserved(WrongReserved::Counted), &[READINGS]),
-    (Fault::Reserved(WrongReserved::FoundFrom), &[REFUSAL]),
-    (Fault::Reserved(WrongReserved::Holds), &[OTHER_LOT]),
-    (Fault::Reserved(WrongReserved::MayLeave), &[REFUSAL]),
-    (Fault::Reserved(WrongReserved::LinkRead), &[READINGS]),
-    (Fault::Reserved(WrongReserved::IsContact), &[REFUSAL]),
-    (Fault::Reserved(WrongReserved::NeedsContact), &[REFUSAL]),
-    (Fault::Reserved(WrongReserved::SeatFree), &[REFUSAL]),
-    (Fault::Reserved(WrongReserved::NumberFree), &[REFUSAL]),
-    (Fault::Reserved(WrongReserved::NotShown), &[READINGS]),
-    (
-        Fault::Reserving(WrongReserving::ReserveSends),
-        &[JOIN, UNSOUND],
-    ),
-    (
-        Fault::Reserving(WrongReserving::ReserveLinks),
-        &[JOIN, UNSOUND],
-    ),
-    (
-        Fault::Reserving(WrongReserving::ConfirmSendsNothing),
-        &[JOIN, GRAPH],
-    ),
-    (
-        Fault::Reserving(WrongReserving::ConfirmTellsTheNewcomer),
-        &[JOIN, SENDS],
-    ),
-    (
-        Fault::Reserving(WrongReserving::FirstConfirmSends),
-        &[JOIN, UNSOUND],
-    ),
-    (
-        Fault::Reserving(WrongReserving::ConfirmSendsToItself),
-        &[REFUSAL],
-    ),
-    (Fault::Reserving(WrongReserving::GiveBackKeeps), &[LEFT]),
-    (
-        Fault::Reserving(WrongReserving::GiveBackLeavesNumber(None)),
-        &[REFUSAL, CONFIRM],
-    ),
-    (
-        Fault::Reserving(WrongReserving::GiveBackLeavesVector(None)),
-        &[JOIN, READINGS],
-    ),
-    (
-        Fault::Reserving(WrongReserving::TurnToClearingFrees),
-        &[READINGS],
-    ),
-    (
-        Fault::Reserving(WrongReserving::TurnToOpenFrees),
-        &[READINGS],
-    ),
-    (
-        Fault::Reserving(WrongReserving::RefusedJoinReserves),
-        &[REFUSED_CHANGED],
-    ),
-    (
-        Fault::Reserving(WrongReserving::ReserveInClearing),
-        &[REFUSAL],
-    ),
-    (
-        Fault::Reserving(WrongReserving::ConfirmInClearing),
-        &[REFUSAL],
-    ),
-    (Fault::Reserving(WrongReserving::GiveBackWaits), &[REFUSAL]),
-    (
-        Fault::Reserving(WrongReserving::NotReservedIsEmpty),
-        &[REFUSAL],
-    ),
-    (
-        Fault::Reserving(WrongReserving::NotReservedBeforeClearing),
-        &[REFUSAL],
-    ),
-    (
-        Fault::Reserving(WrongReserving::NoContactBeforeNotReserved),
-        &[REFUSAL],
-    ),
+const RESERVED: [(WrongReserved, &[&str]); 10] = [
+    (WrongReserved::Counted, &[READINGS]),
+    (WrongReserved::FoundFrom, &[REFUSAL]),
+    (WrongReserved::Holds, &[OTHER_LOT]),
+    (WrongReserved::MayLeave, &[REFUSAL]),
+    (WrongReserved::LinkRead, &[READINGS]),
+    (WrongReserved::IsContact, &[REFUSAL]),
+    (WrongReserved::NeedsContact, &[REFUSAL]),
+    (WrongReserved::SeatFree, &[REFUSAL]),
+    (WrongReserved::NumberFree, &[REFUSAL]),
+    (WrongReserved::NotShown, &[READINGS]),
 ];
 
-/// What each of the lists comes to.
-fn run_lists(model: Model) -> Vec<Result<(), Failure>> {
-    let run = |index| run_list_on(model.clone(), &list::generate(1, index, CALLS));
-    (0..LISTS).map(run).collect()
+const RESERVING: [(WrongReserving, &[&str]); 18] = [
+    (WrongReserving::ReserveSends, &[JOIN, UNSOUND]),
+    (WrongReserving::ReserveLinks, &[JOIN, UNSOUND]),
+    (WrongReserving::ConfirmSendsNothing, &[JOIN, GRAPH]),
+    (WrongReserving::ConfirmTellsTheNewcomer, &[JOIN, SENDS]),
+    (WrongReserving::FirstConfirmSends, &[JOIN, UNSOUND]),
+    (WrongReserving::ConfirmSendsToItself, &[REFUSAL]),
+    (WrongReserving::GiveBackKeeps, &[LEFT]),
+    (
+        WrongReserving::GiveBackLeavesNumber(None),
+        &[CONFIRM, REFUSAL],
+    ),
+    (
+        WrongReserving::GiveBackLeavesVector(None),
+        &[JOIN, READINGS],
+    ),
+    (WrongReserving::TurnToClearingFrees, &[READINGS]),
+    (WrongReserving::TurnToOpenFrees, &[READINGS]),
+    (WrongReserving::RefusedJoinReserves, &[REFUSED_CHANGED]),
+    (WrongReserving::ReserveInClearing, &[REFUSAL]),
+    (WrongReserving::ConfirmInClearing, &[REFUSAL]),
+    (WrongReserving::GiveBackWaits, &[REFUSAL]),
+    (WrongReserving::NotReservedIsEmpty, &[REFUSAL]),
+    (WrongReserving::NotReservedBeforeClearing, &[REFUSAL]),
+    (WrongReserving::NoContactBeforeNotReserved, &[REFUSAL]),
+];
+
+fn wrong() -> impl Iterator<Item = (Fault, &'static [&'static str])> {
+    let reserved = RESERVED.map(|(wrong, ways)| (Fault::Reserved(wrong), ways));
+    let reserving = RESERVING.map(|(wrong, ways)| (Fault::Reserving(wrong), ways));
+    let member: (_, &[_]) = (Fault::ReservedIsMember, &[MEMBERS]);
+    reserved.into_iter().chain(reserving).chain([member])
 }
 
-/// The calls before the first failure, that which fails counted in.
-fn calls_until(runs: &[Result<(), Failure>]) -> usize {
-    let first = runs.iter().position(Result::is_err).expect("a list fails");
-    let last = runs[first]
-        .as_ref()
-        .map_or_else(|failure| failure.line, |_| 0);
-    first * CALLS + last
+/// The lists that fail, and how.
+fn failures(model: Model) -> Vec<(u64, Failure)> {
+    let failure = |index| {
+        let list = list::generate(1, index, CALLS as usize);
+        let failure = run_list_on(model.clone(), &list).err()?;
+        Some((index, failure))
+    };
+    (0..LISTS).filter_map(failure).collect()
 }
 
 #[test]
 fn no_fault_no_failure() {
-    assert!(run_lists(Model::open()).iter().all(Result::is_ok));
+    assert!(failures(Model::open()).is_empty());
 }
 
 #[test]
 fn reservations_go_wrong() {
-    for (fault, ways) in WRONG {
-        let runs = run_lists(Model::with_fault(fault));
-        let failures = runs.iter().filter_map(|run| run.as_ref().err());
-        let caught: BTreeSet<&str> = failures.clone().map(|failure| failure.what).collect();
+    for (fault, ways) in wrong() {
+        let failures = failures(Model::with_fault(fault));
+        let (index, first) = failures.first().expect("the fault passes every self check");
+        let calls = index * CALLS + first.line as u64;
         println!(
-            "{fault:?}: {} calls, {} of {LISTS} lists",
-            calls_until(&runs),
-            failures.count()
+            "{fault:?}: {calls} calls, {} of {LISTS} lists",
+            failures.len()
         );
+        let caught: BTreeSet<&str> = failures.iter().map(|(_, failure)| failure.what).collect();
         assert_eq!(
             caught,
             BTreeSet::from_iter(ways.iter().copied()),
@@ -145,13 +106,11 @@ fn reservations_go_wrong() {
 /// Each shows in a list that is written for reservations.
 #[test]
 fn fixed_lists_show_wrong_reservations() {
-    for (fault, _) in WRONG {
-        let fails = |list: &fixed::Answered| {
-            let calls: Vec<Call> = list.iter().map(|(call, _)| *call).collect();
-            run_list_on(Model::with_fault(fault), &calls).is_err()
-        };
+    for (fault, _) in wrong() {
+        let model = Model::with_fault(fault);
         let lists = fixed::lists().into_iter();
-        let failing = lists.filter(|(_, list)| fails(list)).count();
+        let runs = lists.map(|(_, list)| run_list_on(model.clone(), &fixed::calls(&list)));
+        let failing = runs.filter(Result::is_err).count();
         println!("{fault:?}: {failing} of the fixed lists");
         assert!(failing > 0, "{fault:?}");
     }

@@ -24,6 +24,11 @@ pub fn lists() -> Vec<(&'static str, Answered)> {
     ]
 }
 
+/// Without the answers.
+pub fn calls(list: &[(Call, Answer)]) -> Vec<Call> {
+    list.iter().map(|(call, _)| *call).collect()
+}
+
 const OK: Answer = Answer {
     refusal: 0,
     values: NO_VALUES,
@@ -402,7 +407,7 @@ mod tests {
     fn all_of_reserved_lots_is_met() {
         let mut met = BTreeSet::new();
         for (name, list) in lists() {
-            let list: Vec<Call> = list.into_iter().map(|(call, _)| call).collect();
+            let list = calls(&list);
             assert_eq!(selfcheck::run_list(&list), Ok(()), "{name}");
             met.extend(list::met(&list));
         }

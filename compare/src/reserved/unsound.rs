@@ -109,12 +109,10 @@ fn names_about(m: Message) -> bool {
 }
 
 fn take_messages(bytes: &mut [u8], which: impl Fn(Message) -> bool) {
-    for (at, byte) in bytes[PENDING_AT..].iter_mut().enumerate() {
-        for bit in (0..8)
-            .filter(|bit| *byte >> bit & 1 == 1)
-            .collect::<Vec<_>>()
-        {
-            if which(message_at(at * 8 + bit)) {
+    let pending = bytes[PENDING_AT..].iter_mut().enumerate();
+    for (at, byte) in pending.filter(|(_, byte)| **byte != 0) {
+        for bit in 0..8 {
+            if *byte >> bit & 1 == 1 && which(message_at(at * 8 + bit)) {
                 *byte &= !(1 << bit);
             }
         }
