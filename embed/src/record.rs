@@ -1,5 +1,7 @@
 //! The record and its calls.
 
+mod reserving;
+
 use crate::pending::{next_in, PendingMessages};
 use crate::reading::{seat_or_none, Counts, Found, Lot, Message, Phase, State};
 use crate::refusal::Refusal;
@@ -94,9 +96,11 @@ impl<B: AsMut<[u8]>> Record<B> {
     }
 
     /// Seats a lot, staying and without links, and sends its contact a MEET about
-    /// it at level 0. The first lot has no contact, and nothing is sent.
+    /// it at level 0. Where no lot is seated, whether or not some are reserved, there
+    /// is no contact, and nothing is sent.
     ///
-    /// `Some(255)` is the same as `None`.
+    /// It is [`reserve`](Record::reserve) and [`confirm`](Record::confirm) in one
+    /// step. `Some(255)` is the same as `None`.
     ///
     /// Refusals: 1 wrong size, 2 unsound, 3 no such seat (also of the contact),
     /// 7 clearing, 4 seat taken, 5 number in use, 6 no contact.
@@ -214,7 +218,8 @@ impl<B: AsMut<[u8]>> Record<B> {
     /// when the leavers' seats become free. Open and without leavers, nothing
     /// changes.
     ///
-    /// On the way to clearing every leaver sends GOING to each of its links.
+    /// On the way to clearing every leaver sends GOING to each of its links. Reserved
+    /// lots stay as they are.
     ///
     /// Refusals: 1 wrong size, 2 unsound, 11 messages left.
     ///
@@ -253,9 +258,9 @@ impl<B: AsRef<[u8]>> Record<B> {
         self.bytes.as_ref()
     }
 
-    /// Looks up a scanned number from the lot on a seat: the holder is the staying
-    /// lot with the largest number not above it, none if no staying lot has such a
-    /// number.
+    /// Looks up a scanned number from the seated lot on a seat: the holder is the
+    /// staying lot with the largest number not above it, none if no staying lot has
+    /// such a number.
     ///
     /// Every accepted scan gives the right holder. It waits for a settled record:
     /// phase open, nothing pending, and [`check`](Record::check) would say yes.
@@ -296,7 +301,7 @@ impl<B: AsRef<[u8]>> Record<B> {
         Ok(Found { holder, hops })
     }
 
-    /// Whether the links of all lots, while clearing of the staying ones, are
+    /// Whether the links of all seated lots, while clearing of the staying ones, are
     /// those of the skip graph: Constraints 1 to 6 hold, in one level-0 list.
     ///
     /// Refusals: 1 wrong size, 2 unsound.
@@ -320,7 +325,7 @@ impl<B: AsRef<[u8]>> Record<B> {
         Ok(yes == 1)
     }
 
-    /// Reads the lot on a seat.
+    /// Reads the lot on a seat, seated or reserved.
     ///
     /// Refusals: 1 wrong size, 2 unsound, 3 no such seat, 8 empty seat.
     ///
@@ -350,8 +355,8 @@ impl<B: AsRef<[u8]>> Record<B> {
         })
     }
 
-    /// Reads a link of the lot on a seat: the neighbour's seat, or none. The side
-    /// is [`LEFT`](crate::LEFT) or [`RIGHT`](crate::RIGHT).
+    /// Reads a link of the seated lot on a seat: the neighbour's seat, or none. The
+    /// side is [`LEFT`](crate::LEFT) or [`RIGHT`](crate::RIGHT).
     ///
     /// Refusals: 1 wrong size, 2 unsound, 3 no such seat, 12 no such level (or
     /// side), 8 empty seat.
@@ -448,8 +453,8 @@ impl<B: AsRef<[u8]>> Record<B> {
         PendingMessages::over(self.as_bytes())
     }
 
-    /// Reads the count of seated lots, the phase and the count of pending
-    /// messages.
+    /// Reads the count of seated lots, which leaves reserved ones out, the phase and
+    /// the count of pending messages.
     ///
     /// Refusals: 1 wrong size, 2 unsound.
     ///
@@ -522,8 +527,8 @@ mod tests {
     use super::*;
 
     #[test]
-    #[should_panic = "refusal 14"]
-    fn there_are_thirteen_refusals() {
-        let _ = accepted(14);
+    #[should_panic = "refusal 15"]
+    fn there_are_fourteen_refusals() {
+        let _ = accepted(15);
     }
 }

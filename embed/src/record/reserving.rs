@@ -1,0 +1,90 @@
+//! A join in two steps: a reservation, and its confirmation or return.
+
+use super::{accepted, Record};
+use crate::refusal::Refusal;
+use crate::{sys, NO_SEAT};
+
+impl<B: AsMut<[u8]>> Record<B> {
+    /// Reserves a seat and a number for a lot, with its vector, and sends nothing.
+    ///
+    /// The seat and the number are in use from now on, but the lot is not seated: it
+    /// has no links, is not counted, is no contact, and every call finds its seat
+    /// empty but [`lot`](Record::lot), which shows it. Turns leave it alone.
+    ///
+    /// Refusals: 1 wrong size, 2 unsound, 3 no such seat, 7 clearing, 4 seat taken,
+    /// 5 number in use.
+    ///
+    /// ```
+    /// use lots_record::{Record, Refusal, State};
+    ///
+    /// let mut record = Record::new();
+    /// record.reserve(0, 100, 0)?;
+    /// assert_eq!(record.lot(0)?.state, State::Reserved);
+    /// assert_eq!(record.counts()?.lots, 0);
+    /// assert_eq!(record.find(0, 100), Err(Refusal::EmptySeat));
+    /// assert_eq!(record.join(0, 200, 0, None), Err(Refusal::SeatTaken));
+    /// assert_eq!(record.join(1, 100, 0, None), Err(Refusal::NumberInUse));
+    /// # Ok::<(), Refusal>(())
+    /// ```
+    #[doc(alias = "lots_reserve")]
+    pub fn reserve(&mut self, seat: u8, number: u64, vector: u8) -> Result<(), Refusal> {
+        let bytes = self.bytes.as_mut();
+        let (record, length) = (bytes.as_mut_ptr(), bytes.len());
+        // SAFETY: the slice is ours to write for its length.
+        accepted(unsafe { sys::lots_reserve(record, length, seat, number, vector) })
+    }
+
+    /// Seats the lot that is reserved on a seat, and does the rest of
+    /// [`join`](Record::join): the lot is staying, and its contact is sent a MEET
+    /// about it at level 0. Where no lot is seated there is no contact, and nothing is
+    /// sent.
+    ///
+    /// `Some(255)` is the same as `None`.
+    ///
+    /// Refusals: 1 wrong size, 2 unsound, 3 no such seat (also of the contact),
+    /// 7 clearing, 14 not reserved, 6 no contact (also its own seat).
+    ///
+    /// ```
+    /// use lots_record::{Message, Record, Refusal, State};
+    ///
+    /// let mut record = Record::new();
+    /// record.reserve(0, 100, 0)?;
+    /// record.reserve(1, 200, 128)?;
+    /// record.confirm(0, None)?;
+    /// record.confirm(1, Some(0))?;
+    /// assert_eq!(record.lot(1)?.state, State::Staying);
+    /// assert!(record.is_pending(Message::new(1, 0, 1, 0, 0))?);
+    /// assert_eq!(record.confirm(1, Some(0)), Err(Refusal::NotReserved));
+    /// # Ok::<(), Refusal>(())
+    /// ```
+    #[doc(alias = "lots_confirm")]
+    pub fn confirm(&mut self, seat: u8, contact: Option<u8>) -> Result<(), Refusal> {
+        let bytes = self.bytes.as_mut();
+        let (record, length) = (bytes.as_mut_ptr(), bytes.len());
+        let contact = contact.unwrap_or(NO_SEAT);
+        // SAFETY: the slice is ours to write for its length.
+        accepted(unsafe { sys::lots_confirm(record, length, seat, contact) })
+    }
+
+    /// Frees the seat and the number of a reserved lot, in either phase and whatever
+    /// is pending: its bytes are those of a free seat again.
+    ///
+    /// Refusals: 1 wrong size, 2 unsound, 3 no such seat, 14 not reserved.
+    ///
+    /// ```
+    /// use lots_record::{Record, Refusal};
+    ///
+    /// let mut record = Record::new();
+    /// record.reserve(5, 100, 0)?;
+    /// record.give_back(5)?;
+    /// assert_eq!(record, Record::new());
+    /// assert_eq!(record.give_back(5), Err(Refusal::NotReserved));
+    /// # Ok::<(), Refusal>(())
+    /// ```
+    #[doc(alias = "lots_give_back")]
+    pub fn give_back(&mut self, seat: u8) -> Result<(), Refusal> {
+        let bytes = self.bytes.as_mut();
+        // SAFETY: the slice is ours to write for its length.
+        accepted(unsafe { sys::lots_give_back(bytes.as_mut_ptr(), bytes.len(), seat) })
+    }
+}
