@@ -35,8 +35,8 @@ pub enum Met {
     /// 14 of a seat in that state.
     NotReserved(Name, u8),
     Contact(Name, Contact),
-    /// The 64th reservation.
-    AllReserved,
+    /// An accepted call beside a reserved lot whose number and vector are 0.
+    NumberAndVector0,
 }
 
 #[derive(Clone, Copy, PartialEq, Eq, PartialOrd, Ord, Debug)]
@@ -75,7 +75,7 @@ pub enum Contact {
 
 /// All that can be met.
 pub fn all() -> BTreeSet<Met> {
-    let mut all = BTreeSet::from([Met::AllReserved]);
+    let mut all = BTreeSet::from([Met::NumberAndVector0]);
     all.extend(answered());
     all.extend(beside().map(Met::Beside));
     let at_reserved = [("join", 4), ("reserve", 4), ("leave", 8), ("find", 8)];
@@ -169,13 +169,12 @@ pub fn met(call: Call, answer: Answer, record: &[u8]) -> Vec<Met> {
         met.extend(before.named(name, call, answer.refusal));
         let contact = before.contact(call, answer.refusal);
         met.extend(contact.map(|contact| Met::Contact(name, contact)));
+        if answer.refusal == 0 && before.reserves_0() {
+            met.push(Met::NumberAndVector0);
+        }
     }
     if let (14, Call::Confirm { seat, .. } | Call::GiveBack { seat }) = (answer.refusal, call) {
         met.push(Met::NotReserved(name, before.state(seat)));
-    }
-    let last = matches!(call, Call::Reserve { .. }) && answer.refusal == 0;
-    if last && before.count(RESERVED) == SEATS - 1 {
-        met.push(Met::AllReserved);
     }
     met
 }
@@ -258,6 +257,11 @@ impl Before<'_> {
             (0, _) if self.state(contact) == LEAVING => Some(Contact::Leaving),
             _ => None,
         }
+    }
+
+    fn reserves_0(&self) -> bool {
+        let mut reserved = (0..SEATS as u8).filter(|&seat| self.state(seat) == RESERVED);
+        reserved.any(|seat| self.number(seat) == 0 && self.entry(seat)[VECTOR_AT] == 0)
     }
 
     fn count(&self, state: u8) -> usize {

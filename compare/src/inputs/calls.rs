@@ -150,9 +150,8 @@ impl Chooser<'_> {
     /// Mostly the seat of a seated lot, sometimes of a reserved one, any or an
     /// edge.
     fn seat(&mut self) -> u8 {
-        let edges = [0, 62, 63, 64, 65, 127, 128, 191, 254, 255];
         let seat = match self.random.below(12) {
-            0 => return self.random.pick(&edges),
+            0 => return self.random.pick(&EDGES),
             1 => return self.random.below(SEATS) as u8,
             2 | 3 => self.some_seat(|state| state != 0),
             _ => self.some_seat(is_seated),
@@ -276,6 +275,9 @@ impl Chooser<'_> {
         self.random.pick(&[0, 0, 0, 0, 1, 1, 1, 1, 2, 255])
     }
 }
+
+/// The first and the last seats, and numbers that are none.
+const EDGES: [u8; 10] = [0, 62, 63, 64, 65, 127, 128, 191, 254, 255];
 
 /// The first set bit, bytes taken eight at a time.
 fn first_set(bytes: &[u8]) -> Option<usize> {

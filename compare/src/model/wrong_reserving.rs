@@ -40,28 +40,41 @@ impl Model {
         let before = self.clone();
         let answer = call.on_model(self);
         match call {
-            Call::Reserve { .. } => self.wrongly_reserved(*wrong, call, answer, before),
+            Call::Join { .. } | Call::Reserve { .. } => {
+                self.wrongly_taken(*wrong, call, answer, before)
+            }
             Call::Confirm { seat, contact } => {
                 self.wrongly_confirmed(*wrong, seat, contact, answer, before)
             }
             Call::GiveBack { seat } => self.wrongly_given_back(wrong, seat, answer, before),
-            Call::Join { .. } => self.wrongly_joined(*wrong, call, answer, before),
             Call::Turn => self.wrongly_turned(*wrong, answer, before.phase),
             _ => answer,
         }
     }
 
-    fn wrongly_reserved(
+    /// A seat, by a reservation or a join.
+    fn wrongly_taken(
         &mut self,
         wrong: WrongReserving,
         call: Call,
         answer: Answer,
         before: Model,
     ) -> Answer {
-        let Call::Reserve { seat, number, .. } = call else {
-            return answer;
+        let (seat, number, vector, reserves) = match call {
+            Call::Join {
+                seat,
+                number,
+                vector,
+                ..
+            } => (seat, number, vector, false),
+            Call::Reserve {
+                seat,
+                number,
+                vector,
+            } => (seat, number, vector, true),
+            _ => return answer,
         };
-        let first = before.seated().next();
+        let first = before.seated().next().filter(|_| reserves);
         match (wrong, answer.refusal, first) {
             (ReserveSends, 0, Some((first, _))) => {
                 self.pending.insert(Message::meet(first, seat, 0));
@@ -70,12 +83,13 @@ impl Model {
                 let side = Side::toward(number, lot.number);
                 self.links_mut(seat)[0][side as usize] = Some(first);
             }
-            (ReserveInClearing, 7, _) => return self.in_phase_open(call),
+            (RefusedJoinReserves, 6, _) => self.hold(seat, number, vector),
+            (ReserveInClearing, 7, _) if reserves => return self.in_phase_open(call),
             (GiveBackLeavesNumber(left), 0, _) if left == Some(number) => {
                 *self = before;
                 return Answer::refused(5);
             }
-            (GiveBackLeavesVector(Some((left, vector))), 0, _) if left == seat => {
+            (GiveBackLeavesVector(Some((left, vector))), 0, _) if reserves && left == seat => {
                 self.hold(seat, number, vector);
             }
             _ => {}
@@ -141,33 +155,6 @@ impl Model {
                 return Answer::refused(7);
             }
             (NotReservedIsEmpty, None) if answer.refusal == 14 => return Answer::refused(8),
-            _ => {}
-        }
-        answer
-    }
-
-    fn wrongly_joined(
-        &mut self,
-        wrong: WrongReserving,
-        call: Call,
-        answer: Answer,
-        before: Model,
-    ) -> Answer {
-        let Call::Join {
-            seat,
-            number,
-            vector,
-            ..
-        } = call
-        else {
-            return answer;
-        };
-        match (wrong, answer.refusal) {
-            (RefusedJoinReserves, 6) => self.hold(seat, number, vector),
-            (GiveBackLeavesNumber(left), 0) if left == Some(number) => {
-                *self = before;
-                return Answer::refused(5);
-            }
             _ => {}
         }
         answer

@@ -36,47 +36,83 @@ impl Unsound {
     /// The way in which bytes of the right size are unsound, if nothing else is
     /// wrong with them.
     pub fn of_bytes(bytes: &[u8]) -> Option<Unsound> {
+        let states = bytes[ENTRIES_AT..PENDING_AT].chunks(ENTRY);
+        let mut states = states.map(|entry| entry[STATE_AT]);
+        if !states.any(|state| state == RESERVED || state == RESERVED + 1) {
+            return None;
+        }
         let is_alone = |way: &Unsound| {
             let mut other = bytes.to_vec();
-            way.put_right(&mut other);
-            other != bytes && lent::validate(&other).is_ok()
+            way.put_right(&mut other) && lent::validate(&other).is_ok()
         };
         Unsound::ALL.into_iter().find(is_alone)
     }
 
-    /// Takes away what is wrong in this way.
-    pub fn put_right(self, bytes: &mut [u8]) {
-        let before = bytes.to_vec();
-        let is_reserved = |seat: u8| usize::from(seat) < SEATS && state(&before, seat) == RESERVED;
+    /// Takes away what is wrong in this way; whether anything is.
+    pub fn put_right(self, bytes: &mut [u8]) -> bool {
+        let lots = Lots::read(bytes);
+        let mut changed = false;
+        let mut put = |byte: &mut u8, right: u8| {
+            changed |= *byte != right;
+            *byte = right;
+        };
+        match self {
+            Unsound::MessageTo => return take_messages(bytes, |m| lots.is_reserved(m.to)),
+            Unsound::MessageAbout => {
+                return take_messages(bytes, |m| names_about(m) && lots.is_reserved(m.about));
+            }
+            _ => {}
+        }
         for seat in 0..SEATS as u8 {
-            let entry = entry_mut(bytes, seat);
+            let (head, links) = entry_mut(bytes, seat).split_at_mut(LINKS_AT);
+            let is_reserved = lots.is_reserved(seat);
             match self {
-                Unsound::HasLink if is_reserved(seat) => entry[LINKS_AT..].fill(NO_LINK),
-                Unsound::NumberOfSeated | Unsound::NumberOfReserved if is_reserved(seat) => {
-                    let of_reserved = self == Unsound::NumberOfReserved;
-                    if has_number_of_other(&before, seat, of_reserved) {
-                        entry[..LINKS_AT].fill(0);
-                    }
+                Unsound::HasLink if is_reserved => {
+                    links.iter_mut().for_each(|link| put(link, NO_LINK));
                 }
                 Unsound::LinkTo => {
-                    let links = entry[LINKS_AT..].iter_mut();
-                    links
-                        .filter(|link| is_reserved(**link))
-                        .for_each(|link| *link = NO_LINK);
+                    let to_reserved = links.iter_mut().filter(|link| lots.is_reserved(**link));
+                    to_reserved.for_each(|link| put(link, NO_LINK));
                 }
-                Unsound::StateAbove if entry[STATE_AT] == RESERVED + 1 => {
-                    entry[STATE_AT] = RESERVED
+                Unsound::NumberOfSeated if is_reserved && lots.has_equal(seat, false) => {
+                    head.iter_mut().for_each(|byte| put(byte, 0));
+                }
+                Unsound::NumberOfReserved if is_reserved && lots.has_equal(seat, true) => {
+                    head.iter_mut().for_each(|byte| put(byte, 0));
+                }
+                Unsound::StateAbove if head[STATE_AT] == RESERVED + 1 => {
+                    put(&mut head[STATE_AT], RESERVED);
                 }
                 _ => {}
             }
         }
-        match self {
-            Unsound::MessageTo => take_messages(bytes, |m| is_reserved(m.to)),
-            Unsound::MessageAbout => {
-                take_messages(bytes, |m| names_about(m) && is_reserved(m.about))
-            }
-            _ => {}
-        }
+        changed
+    }
+}
+
+/// State and number of each seat.
+struct Lots([(u8, [u8; VECTOR_AT - NUMBER_AT]); SEATS]);
+
+impl Lots {
+    fn read(bytes: &[u8]) -> Lots {
+        Lots(std::array::from_fn(|seat| {
+            let entry = &bytes[ENTRIES_AT + ENTRY * seat..];
+            let number = entry[NUMBER_AT..VECTOR_AT].try_into();
+            (entry[STATE_AT], number.expect("a number has its bytes"))
+        }))
+    }
+
+    fn is_reserved(&self, seat: u8) -> bool {
+        usize::from(seat) < SEATS && self.0[usize::from(seat)].0 == RESERVED
+    }
+
+    /// Whether a lot on another seat, reserved or seated, has the number.
+    fn has_equal(&self, seat: u8, reserved: bool) -> bool {
+        let (_, number) = self.0[usize::from(seat)];
+        let mut others = (0..).zip(self.0).filter(|(other, _)| *other != seat);
+        others.any(|(_, (state, other))| {
+            state != FREE && (state == RESERVED) == reserved && other == number
+        })
     }
 }
 
@@ -84,37 +120,24 @@ fn entry_mut(bytes: &mut [u8], seat: u8) -> &mut [u8] {
     &mut bytes[ENTRIES_AT + ENTRY * usize::from(seat)..][..ENTRY]
 }
 
-fn state(bytes: &[u8], seat: u8) -> u8 {
-    bytes[ENTRIES_AT + ENTRY * usize::from(seat) + STATE_AT]
-}
-
-fn number(bytes: &[u8], seat: u8) -> &[u8] {
-    &bytes[ENTRIES_AT + ENTRY * usize::from(seat)..][NUMBER_AT..VECTOR_AT]
-}
-
-/// Of a lot on another seat, reserved or seated.
-fn has_number_of_other(bytes: &[u8], seat: u8, of_reserved: bool) -> bool {
-    (0..SEATS as u8).any(|other| {
-        let state = state(bytes, other);
-        other != seat
-            && state != FREE
-            && (state == RESERVED) == of_reserved
-            && number(bytes, other) == number(bytes, seat)
-    })
-}
-
 /// Whether `about` is a seat.
 fn names_about(m: Message) -> bool {
     [1, 2, 5, 6].contains(&m.kind)
 }
 
-fn take_messages(bytes: &mut [u8], which: impl Fn(Message) -> bool) {
-    let pending = bytes[PENDING_AT..].iter_mut().enumerate();
-    for (at, byte) in pending.filter(|(_, byte)| **byte != 0) {
-        for bit in 0..8 {
-            if *byte >> bit & 1 == 1 && which(message_at(at * 8 + bit)) {
-                *byte &= !(1 << bit);
+/// Whether there are any.
+fn take_messages(bytes: &mut [u8], which: impl Fn(Message) -> bool) -> bool {
+    let mut taken = false;
+    let (words, _) = bytes[PENDING_AT..].as_chunks_mut::<8>();
+    let words = words.iter_mut().enumerate();
+    for (index, word) in words.filter(|(_, word)| **word != [0; 8]) {
+        for bit in 0..64 {
+            let mask = 1 << (bit % 8);
+            if word[bit / 8] & mask != 0 && which(message_at(index * 64 + bit)) {
+                word[bit / 8] &= !mask;
+                taken = true;
             }
         }
     }
+    taken
 }

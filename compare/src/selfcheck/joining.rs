@@ -14,14 +14,17 @@ pub fn check(call: Call, before: &Model, after: &Model) -> Check {
             number,
             vector,
             contact,
-        } => holds(
-            reached(
-                before,
-                &[reserve(seat, number, vector), confirm(seat, contact)],
-                after,
-            ),
-            "a join is not a reservation and its confirmation",
-        ),
+        } => {
+            let reserve = Call::Reserve {
+                seat,
+                number,
+                vector,
+            };
+            holds(
+                reached(before, &[reserve, Call::Confirm { seat, contact }], after),
+                "a join is not a reservation and its confirmation",
+            )
+        }
         Call::Reserve { seat, .. } => holds(
             reached(after, &[Call::GiveBack { seat }], before),
             "a reservation that is given back leaves something",
@@ -66,16 +69,4 @@ fn reached(from: &Model, calls: &[Call], to: &Model) -> bool {
         && model.phase() == to.phase()
         && model.taken().eq(to.taken())
         && model.pending() == to.pending()
-}
-
-fn reserve(seat: u8, number: u64, vector: u8) -> Call {
-    Call::Reserve {
-        seat,
-        number,
-        vector,
-    }
-}
-
-fn confirm(seat: u8, contact: u8) -> Call {
-    Call::Confirm { seat, contact }
 }

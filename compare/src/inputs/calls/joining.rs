@@ -1,7 +1,7 @@
 //! Joins, reservations, confirmations and returns: mostly accepted ones, if there
 //! are any.
 
-use super::{is_reserved, is_seated, Chooser};
+use super::{is_reserved, is_seated, Chooser, EDGES};
 use crate::call::Call;
 use crate::model::NO_CONTACT;
 
@@ -46,9 +46,10 @@ impl Chooser<'_> {
     }
 
     pub(super) fn mostly_reserved(&mut self) -> u8 {
-        let reserved = match self.random.one_in(6) {
-            true => None,
-            false => self.some_seat(is_reserved),
+        let reserved = match self.random.below(12) {
+            0 => Some(self.random.pick(&EDGES)),
+            1 | 2 => None,
+            _ => self.some_seat(is_reserved),
         };
         reserved.unwrap_or_else(|| self.seat())
     }
@@ -65,6 +66,7 @@ impl Chooser<'_> {
     fn free_seat(&mut self, unlikely: Unlikely) -> u8 {
         match self.some_seat(|state| state == 0) {
             Some(seat) if unlikely != Unlikely::Seat => seat,
+            _ if self.random.one_in(3) => self.random.pick(&EDGES),
             _ => self.seat(),
         }
     }
@@ -76,12 +78,13 @@ impl Chooser<'_> {
         }
     }
 
-    /// Of a seated lot, or none if there is none; else the seat of a reserved or of
-    /// any lot, none, or any seat.
+    /// Of a seated lot, or none if there is none; else a reserved or a free seat, any,
+    /// or none.
     fn contact(&mut self, unlikely: Unlikely) -> u8 {
-        let contact = match (unlikely, self.random.below(3)) {
+        let contact = match (unlikely, self.random.below(4)) {
             (Unlikely::Contact, 0) => self.some_seat(is_reserved),
-            (Unlikely::Contact, 1) => Some(self.seat()),
+            (Unlikely::Contact, 1) => self.some_seat(|state| state == 0),
+            (Unlikely::Contact, 2) => Some(self.seat()),
             (Unlikely::Contact, _) => None,
             _ => self.some_seat(is_seated),
         };

@@ -3,7 +3,10 @@
 use super::{set, some_lot, some_seat};
 use crate::graph::{LEVELS, SEATS, SIDES};
 use crate::inputs::{entry_at, is_reserved, is_seated, state};
-use crate::lent::place::{link_at, NUMBER_AT, PHASE_AT, STATE_AT, VECTOR_AT};
+use crate::lent::place::{
+    link_at, ENTRIES_AT, ENTRY, LINKS_AT, NO_LINK, NUMBER_AT, PENDING_AT, PHASE_AT, STATE_AT,
+    VECTOR_AT,
+};
 use crate::lent::place_of;
 use crate::model::{Message, State};
 use crate::random::Random;
@@ -21,13 +24,14 @@ pub(super) fn damaged(bytes: &mut [u8], random: &mut Random) {
             None => return,
         },
     };
-    match random.below(8) {
+    match random.below(10) {
         0 | 1 => linked(bytes, seat, random),
         2 => number_copied(bytes, seat, is_seated, random),
         3 => number_copied(bytes, seat, is_reserved, random),
         4 => named_by_link(bytes, seat, random),
         5 => named_by_message(bytes, seat, random),
         6 => bytes[entry_at(seat) + STATE_AT] += 1,
+        7 | 8 => all_reserved(bytes),
         _ => {}
     }
 }
@@ -37,6 +41,17 @@ fn some(bytes: &[u8], wanted: impl Fn(u8) -> bool, random: &mut Random) -> Optio
     let start = some_seat(random);
     let mut seats = (start..start + SEATS).map(|seat| seat % SEATS);
     seats.find(|&seat| wanted(state(bytes, seat)))
+}
+
+/// No lot is seated any more, and nothing is pending: sound if the record was.
+fn all_reserved(bytes: &mut [u8]) {
+    for entry in bytes[ENTRIES_AT..PENDING_AT].chunks_mut(ENTRY) {
+        if entry[STATE_AT] != 0 {
+            entry[STATE_AT] = State::Reserved as u8;
+            entry[LINKS_AT..].fill(NO_LINK);
+        }
+    }
+    bytes[PENDING_AT..].fill(0);
 }
 
 fn linked(bytes: &mut [u8], seat: usize, random: &mut Random) {
