@@ -1,7 +1,8 @@
 //! The command language of the program `lots`: what a line means, and every
 //! byte of the answer.
 
-use crate::call::{self, Call, NO_VALUES};
+mod calls;
+
 use crate::graph::{self, List};
 use crate::model::{Counts, Found, Message, Model, Phase, Refusal};
 use std::io::Write;
@@ -25,33 +26,6 @@ pub enum Command {
         number: u64,
     },
     Print,
-}
-
-impl Command {
-    /// The call that the line makes; none if it makes several, or readings.
-    pub fn call(self) -> Option<Call> {
-        match self {
-            Command::Join {
-                seat,
-                number,
-                vector,
-                contact,
-            } => Some(Call::Join {
-                seat,
-                number,
-                vector,
-                contact,
-            }),
-            Command::Leave { seat } => Some(Call::Leave { seat }),
-            Command::Deliver(message) => Some(Call::Deliver(message)),
-            Command::Turn => Some(Call::Turn),
-            Command::Find {
-                start: seat,
-                number,
-            } => Some(Call::Find { seat, number }),
-            Command::Settle | Command::Print => None,
-        }
-    }
 }
 
 /// The length of the longest command, `J` with the widest numbers.
@@ -160,15 +134,6 @@ fn listing(model: &Model) -> Answer {
 }
 
 impl Answer {
-    /// As plain numbers: the refusal, and what a search found.
-    pub fn numbers(&self) -> call::Answer {
-        match self {
-            Answer::No(refusal) => call::Answer::refused(refusal.number()),
-            Answer::Found(found) => call::Answer::found(*found),
-            _ => call::Answer::accepted(NO_VALUES),
-        }
-    }
-
     /// Appends the answer's lines.
     pub fn print(&self, out: &mut Vec<u8>) {
         match self {

@@ -1,11 +1,11 @@
 //! The record and its calls.
 
-mod reserving;
+mod joining;
 
 use crate::pending::{next_in, PendingMessages};
 use crate::reading::{seat_or_none, Counts, Found, Lot, Message, Phase, State};
 use crate::refusal::Refusal;
-use crate::{sys, NO_SEAT, SIZE};
+use crate::{sys, SIZE};
 use core::fmt;
 
 /// A record of lots in the bytes of `B`, owned or borrowed.
@@ -93,41 +93,6 @@ impl<B: AsMut<[u8]>> Record<B> {
         let bytes = self.bytes.as_mut();
         // SAFETY: the slice is ours to write for its length.
         accepted(unsafe { sys::lots_open(bytes.as_mut_ptr(), bytes.len()) })
-    }
-
-    /// Seats a lot, staying and without links, and sends its contact a MEET about
-    /// it at level 0. Where no lot is seated, whether or not some are reserved, there
-    /// is no contact, and nothing is sent.
-    ///
-    /// It is [`reserve`](Record::reserve) and [`confirm`](Record::confirm) in one
-    /// step. `Some(255)` is the same as `None`.
-    ///
-    /// Refusals: 1 wrong size, 2 unsound, 3 no such seat (also of the contact),
-    /// 7 clearing, 4 seat taken, 5 number in use, 6 no contact.
-    ///
-    /// ```
-    /// use lots_record::{Message, Record, Refusal};
-    ///
-    /// let mut record = Record::new();
-    /// record.join(0, 100, 0, None)?;
-    /// record.join(1, 200, 128, Some(0))?;
-    /// assert!(record.is_pending(Message::new(1, 0, 1, 0, 0))?);
-    /// assert_eq!(record.join(1, 300, 64, Some(0)), Err(Refusal::SeatTaken));
-    /// # Ok::<(), Refusal>(())
-    /// ```
-    #[doc(alias = "lots_join")]
-    pub fn join(
-        &mut self,
-        seat: u8,
-        number: u64,
-        vector: u8,
-        contact: Option<u8>,
-    ) -> Result<(), Refusal> {
-        let bytes = self.bytes.as_mut();
-        let (record, length) = (bytes.as_mut_ptr(), bytes.len());
-        let contact = contact.unwrap_or(NO_SEAT);
-        // SAFETY: the slice is ours to write for its length.
-        accepted(unsafe { sys::lots_join(record, length, seat, number, vector, contact) })
     }
 
     /// Marks a staying lot as leaving. It goes on taking part until the turns
