@@ -288,8 +288,8 @@ impl Model {
 
     /// A seat with a reserved lot counts as empty. Refusals: 3, 8.
     fn seated_lot(&self, seat: u8) -> Result<&Lot, Refusal> {
-        let lot = self.lot(seat)?;
-        lot.is_seated().then_some(lot).ok_or(Refusal::EmptySeat)
+        must_be_seat(seat)?;
+        self.seated_at(seat).ok_or(Refusal::EmptySeat)
     }
 
     /// Reads a link: a seat, or none for document 01's 255. Refusals: 3, 12, 8.
@@ -348,16 +348,15 @@ impl Model {
             number: lot.number,
             vector: lot.vector,
         };
-        self.taken_by_members().map(member).collect()
+        self.member_lots().map(member).collect()
     }
 
     /// The links of the members, in their order.
     pub fn member_links(&self) -> Vec<Links> {
-        let members = self.taken_by_members();
-        members.map(|(_, lot)| lot.links).collect()
+        self.member_lots().map(|(_, lot)| lot.links).collect()
     }
 
-    fn taken_by_members(&self) -> impl Iterator<Item = (u8, &Lot)> {
+    fn member_lots(&self) -> impl Iterator<Item = (u8, &Lot)> {
         self.taken().filter(|(_, lot)| match lot.state {
             State::Staying => true,
             State::Leaving => self.phase == Phase::Open,

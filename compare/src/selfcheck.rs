@@ -136,10 +136,9 @@ impl Checked {
         before: &Model,
     ) -> Result<text::Answer, &'static str> {
         let answer = text::answer(&mut self.model, command);
-        let unchanged = self.model == *before;
         match command {
-            None => holds(unchanged, "a bad line changed the record")?,
-            Some(Command::Print) => holds(unchanged, "printing changed the record")?,
+            None => holds(self.model == *before, "a bad line changed the record")?,
+            Some(Command::Print) => holds(self.model == *before, "printing changed the record")?,
             Some(command) => match command.call() {
                 Some(call) => self.call(call, answer.numbers(), before)?,
                 None => self.changed_record()?,
@@ -152,30 +151,20 @@ impl Checked {
         let expected = self.roster.refusal(call, before.pending());
         let expected = expected.map_or(0, Refusal::number);
         holds(answer.refusal == expected, "not the table's refusal")?;
-        let unchanged = self.model == *before;
         if expected != 0 {
-            return holds(unchanged, "a refused call changed the record");
+            return holds(self.model == *before, "a refused call changed the record");
         }
         self.roster.accept(call);
-        if !call.changes_bytes() {
-            holds(unchanged, "a reading call changed the record")?;
+        if call.changes_bytes() {
+            self.changed_record()?;
+        } else {
+            holds(self.model == *before, "a reading call changed the record")?;
         }
         match call {
+            Call::Deliver(message) => self.delivery(message, before),
+            Call::Bundle { limit } => bundles::check_call(before, limit, answer, &self.model),
             Call::Find { seat, number } => self.search(seat, number, answer),
-            Call::Deliver(message) => {
-                self.delivery(message, before)?;
-                self.changed_record()
-            }
-            Call::Bundle { limit } => {
-                bundles::check_call(before, limit, answer, &self.model)?;
-                self.changed_record()
-            }
-            Call::Open | Call::Turn => self.changed_record(),
-            _ if call.changes_bytes() => {
-                self.changed_record()?;
-                joining::check(call, before, &self.model)
-            }
-            _ => Ok(()),
+            _ => joining::check(call, before, &self.model),
         }
     }
 
@@ -184,7 +173,7 @@ impl Checked {
     fn delivery(&self, message: Message, before: &Model) -> Check {
         let others = |model: &Model| -> Vec<_> {
             let other = |(seat, _): &(u8, &_)| *seat != message.to;
-            let lots = model.seated().filter(other);
+            let lots = model.taken().filter(other);
             lots.map(|(seat, lot)| (seat, lot.clone())).collect()
         };
         holds(

@@ -5,7 +5,7 @@ use super::{holds, Check};
 use crate::call::Call;
 use crate::model::{Message, Model, NO_CONTACT};
 
-/// An accepted call that is no delivery and no turn.
+/// An accepted call; those that are none of these pass.
 pub fn check(call: Call, before: &Model, after: &Model) -> Check {
     sends_what_it_says(call, before, after)?;
     match call {
@@ -47,13 +47,17 @@ pub fn check(call: Call, before: &Model, after: &Model) -> Check {
     }
 }
 
-/// A join and a confirmation one MEET to the contact, if there is one.
+/// A join and a confirmation one MEET to the contact, if there is one, the others
+/// nothing.
 fn sends_what_it_says(call: Call, before: &Model, after: &Model) -> Check {
     let mut pending = before.pending().clone();
-    if let Call::Join { seat, contact, .. } | Call::Confirm { seat, contact } = call {
-        if contact != NO_CONTACT {
-            pending.insert(Message::meet(contact, seat, 0));
+    match call {
+        Call::Join { seat, contact, .. } | Call::Confirm { seat, contact } => {
+            let contact = Some(contact).filter(|&contact| contact != NO_CONTACT);
+            pending.extend(contact.map(|contact| Message::meet(contact, seat, 0)));
         }
+        Call::Reserve { .. } | Call::GiveBack { .. } | Call::Leave { .. } => {}
+        _ => return Ok(()),
     }
     holds(
         *after.pending() == pending,
