@@ -63,8 +63,8 @@ uint8_t lots_join(uint8_t *record, size_t length, uint8_t seat, uint64_t number,
 
 /* Reserves a seat and a number for a lot, with its vector, and sends nothing. The
  * seat and the number are in use from now on, but the lot is not seated: it has no
- * links, is not counted, is no contact, and every call finds its seat empty but
- * lots_read_lot, which shows it. Turns leave it alone.
+ * links, is not counted and is no contact, to leave, to scan from and to read links
+ * its seat is empty, and turns leave it alone. lots_read_lot shows it.
  * Refusals: 1 wrong size, 2 unsound, 3 no such seat, 7 clearing, 4 seat taken,
  * 5 number in use. */
 uint8_t lots_reserve(uint8_t *record, size_t length, uint8_t seat,

@@ -43,8 +43,9 @@ impl<B: AsMut<[u8]>> Record<B> {
     /// Reserves a seat and a number for a lot, with its vector, and sends nothing.
     ///
     /// The seat and the number are in use from now on, but the lot is not seated: it
-    /// has no links, is not counted, is no contact, and every call finds its seat
-    /// empty but [`lot`](Record::lot), which shows it. Turns leave it alone.
+    /// has no links, is not counted and is no contact, to leave, to scan from and to
+    /// read links its seat is empty, and turns leave it alone. [`lot`](Record::lot)
+    /// shows it.
     ///
     /// Refusals: 1 wrong size, 2 unsound, 3 no such seat, 7 clearing, 4 seat taken,
     /// 5 number in use.
