@@ -1,6 +1,6 @@
-/* Lots 100 and 200 open on two scales, the second through the first. One of their messages is delivered by itself, the others are listed and
- * delivered by the bundle, the smallest first. 250 is scanned too early, while messages are pending, again when none is left, and once more when
- * lot 200 is leaving and may not be printed. */
+/* Lot 100 opens on a scale. Seats are held for lots 200 and 300 while the vet looks at the animals: 200 is confirmed through 100, 300 is given
+ * back. One of their messages is delivered by itself, the others are listed and delivered by the bundle, the smallest first. 250 is scanned too
+ * early, while messages are pending, again when none is left, and once more when lot 200 is leaving and may not be printed. */
 #include "lots.h"
 #include <inttypes.h>
 #include <stdio.h>
@@ -14,6 +14,24 @@ typedef uint8_t message[5];
 static uint8_t next(message m)
 {
     return lots_next_message(record, sizeof record, m[0], m[1], m[2], m[3], m[4], &m[0], &m[1], &m[2], &m[3], &m[4]);
+}
+
+/* Reserves two lots, confirms the first and gives the second back. */
+static uint8_t reserve(void)
+{
+    uint8_t state, vector, lots, phase;
+    uint64_t number;
+    uint32_t pending;
+    uint8_t refusals = lots_reserve(record, sizeof record, 1, 200, 0x80);
+
+    refusals |= lots_reserve(record, sizeof record, 2, 300, 0x40);
+    refusals |= lots_read_lot(record, sizeof record, 1, &state, &number, &vector);
+    refusals |= lots_read_counts(record, sizeof record, &lots, &phase, &pending);
+    printf("lot %" PRIu64 " in state %d, seated %d, pending %" PRIu32 "\n", number, state, lots, pending);
+    refusals |= lots_confirm(record, sizeof record, 1, 0);
+    refusals |= lots_give_back(record, sizeof record, 2);
+    printf("given back twice: refused with %d\n", lots_give_back(record, sizeof record, 2));
+    return refusals;
 }
 
 /* Prints what is pending, ascending: after a message come the numbers with its side one higher. */
@@ -57,7 +75,7 @@ int main(void)
     uint8_t refusals = lots_open(record, sizeof record);
 
     refusals |= lots_join(record, sizeof record, 0, 100, 0x00, LOTS_NO_SEAT);
-    refusals |= lots_join(record, sizeof record, 1, 200, 0x80, 0);
+    refusals |= reserve();
     refusals |= deliver();
     refusals |= list();
     printf("scan refused with %d\n", lots_find(record, sizeof record, 0, 250, &holder, &hops));

@@ -35,16 +35,17 @@ enum lots_refusal {
     LOTS_WRONG_SIZE = 1,       /* the memory is not LOTS_RECORD_SIZE bytes long */
     LOTS_UNSOUND = 2,          /* the bytes are no sound record */
     LOTS_NO_SUCH_SEAT = 3,     /* a seat above 63 */
-    LOTS_SEAT_TAKEN = 4,       /* a lot joins at a seat that is not free */
-    LOTS_NUMBER_IN_USE = 5,    /* a seated lot has the number of the lot that joins */
-    LOTS_NO_CONTACT = 6,       /* the contact's seat is free, or no contact while lots are seated */
-    LOTS_IN_CLEARING = 7,      /* no lot joins or leaves in phase clearing */
-    LOTS_EMPTY_SEAT = 8,       /* no lot has this seat */
+    LOTS_SEAT_TAKEN = 4,       /* the seat to take is not free: a lot is seated or reserved there */
+    LOTS_NUMBER_IN_USE = 5,    /* a seated or reserved lot has the number */
+    LOTS_NO_CONTACT = 6,       /* no lot is seated on the contact's seat, or no contact while lots are seated */
+    LOTS_IN_CLEARING = 7,      /* no lot joins, is reserved, is confirmed or leaves in phase clearing */
+    LOTS_EMPTY_SEAT = 8,       /* no lot is seated there; to read a lot, none is reserved there either */
     LOTS_ALREADY_LEAVING = 9,  /* the lot is leaving */
     LOTS_NO_SUCH_MESSAGE = 10, /* the five numbers are no pending message */
     LOTS_MESSAGES_LEFT = 11,   /* no turn while messages are pending */
     LOTS_NO_SUCH_LEVEL = 12,   /* a level above 8 or a side above 1 */
-    LOTS_UNSETTLED = 13        /* no scan while messages are pending, in clearing, or if the check says no */
+    LOTS_UNSETTLED = 13,       /* no scan while messages are pending, in clearing, or if the check says no */
+    LOTS_NOT_RESERVED = 14     /* no lot is reserved on the seat to confirm or to give back */
 };
 
 /* Writes an empty record in phase open over any bytes.
@@ -53,11 +54,34 @@ uint8_t lots_open(uint8_t *record, size_t length);
 
 /* Seats a lot, staying and without links, and sends its contact a MEET about it
  * at level 0. Any number and any vector are allowed; bit 0 of the vector is the
- * highest. The first lot has the contact LOTS_NO_SEAT, and nothing is sent.
+ * highest. Where no lot is seated, whether or not some are reserved, the contact is
+ * LOTS_NO_SEAT, and nothing is sent. It is lots_reserve and lots_confirm in one step.
  * Refusals: 1 wrong size, 2 unsound, 3 no such seat (also of the contact),
  * 7 clearing, 4 seat taken, 5 number in use, 6 no contact. */
 uint8_t lots_join(uint8_t *record, size_t length, uint8_t seat, uint64_t number,
                   uint8_t vector, uint8_t contact);
+
+/* Reserves a seat and a number for a lot, with its vector, and sends nothing. The
+ * seat and the number are in use from now on, but the lot is not seated: it has no
+ * links, is not counted and is no contact, to leave, to scan from and to read links
+ * its seat is empty, and turns leave it alone. lots_read_lot shows it.
+ * Refusals: 1 wrong size, 2 unsound, 3 no such seat, 7 clearing, 4 seat taken,
+ * 5 number in use. */
+uint8_t lots_reserve(uint8_t *record, size_t length, uint8_t seat,
+                     uint64_t number, uint8_t vector);
+
+/* Seats the lot that is reserved on a seat, and does the rest of lots_join: the lot
+ * is staying, and its contact is sent a MEET about it at level 0. Where no lot is
+ * seated the contact is LOTS_NO_SEAT, and nothing is sent.
+ * Refusals: 1 wrong size, 2 unsound, 3 no such seat (also of the contact),
+ * 7 clearing, 14 not reserved, 6 no contact (also its own seat). */
+uint8_t lots_confirm(uint8_t *record, size_t length, uint8_t seat,
+                     uint8_t contact);
+
+/* Frees the seat and the number of a reserved lot, in either phase and whatever is
+ * pending: its bytes are those of a free seat again.
+ * Refusals: 1 wrong size, 2 unsound, 3 no such seat, 14 not reserved. */
+uint8_t lots_give_back(uint8_t *record, size_t length, uint8_t seat);
 
 /* Marks a staying lot as leaving. It goes on taking part until turns clear it, but
  * from now on it is the holder of no scan.
@@ -83,11 +107,11 @@ uint8_t lots_bundle(uint8_t *record, size_t length, uint16_t limit,
 
 /* Goes from open to clearing if a lot is leaving, when every leaver sends GOING
  * to each of its links; and from clearing to open, when the leavers' seats become
- * free. Open and without leavers, nothing changes.
+ * free. Open and without leavers, nothing changes. Reserved lots stay as they are.
  * Refusals: 1 wrong size, 2 unsound, 11 messages left. */
 uint8_t lots_turn(uint8_t *record, size_t length);
 
-/* Looks up a scanned number from the lot on a seat of a settled record: phase
+/* Looks up a scanned number from the seated lot on a seat of a settled record: phase
  * open, nothing pending, and lots_check would say yes. `holder` is the seat of the
  * staying lot with the largest number not above the scanned one, or LOTS_NO_SEAT
  * if no staying lot has such a number. A lot marked as leaving does not make a scan
@@ -98,18 +122,18 @@ uint8_t lots_turn(uint8_t *record, size_t length);
 uint8_t lots_find(const uint8_t *record, size_t length, uint8_t seat,
                   uint64_t number, uint8_t *holder, uint64_t *hops);
 
-/* Whether the links of all lots, while clearing of the staying ones, are those of
- * the skip graph: `yes` is 1 or 0.
+/* Whether the links of all seated lots, while clearing of the staying ones, are
+ * those of the skip graph: `yes` is 1 or 0.
  * Refusals: 1 wrong size, 2 unsound. */
 uint8_t lots_check(const uint8_t *record, size_t length, uint8_t *yes);
 
-/* Reads the lot on a seat; `state` is 1 staying or 2 leaving.
+/* Reads the lot on a seat; `state` is 1 staying, 2 leaving or 3 reserved.
  * Refusals: 1 wrong size, 2 unsound, 3 no such seat, 8 empty seat. */
 uint8_t lots_read_lot(const uint8_t *record, size_t length, uint8_t seat,
                       uint8_t *state, uint64_t *number, uint8_t *vector);
 
-/* Reads a link of the lot on a seat, at level 0 to 8, on side 0 left or 1 right:
- * the neighbour's seat, or LOTS_NO_SEAT.
+/* Reads a link of the seated lot on a seat, at level 0 to 8, on side 0 left or 1
+ * right: the neighbour's seat, or LOTS_NO_SEAT.
  * Refusals: 1 wrong size, 2 unsound, 3 no such seat, 12 no such level, 8 empty
  * seat. */
 uint8_t lots_read_link(const uint8_t *record, size_t length, uint8_t seat,
@@ -134,8 +158,8 @@ uint8_t lots_next_message(const uint8_t *record, size_t length, uint8_t kind,
                           uint8_t *next_about, uint8_t *next_level,
                           uint8_t *next_side);
 
-/* Reads the count of seated lots, the phase (0 open, 1 clearing) and the count of
- * pending messages.
+/* Reads the count of seated lots, which leaves reserved ones out, the phase (0 open,
+ * 1 clearing) and the count of pending messages.
  * Refusals: 1 wrong size, 2 unsound. */
 uint8_t lots_read_counts(const uint8_t *record, size_t length, uint8_t *lots,
                          uint8_t *phase, uint32_t *pending);

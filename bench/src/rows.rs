@@ -33,7 +33,9 @@ pub fn all() -> Vec<Row> {
 
 type Rows = fn(&mut Vec<Row>, [&[u8]; 3]);
 
-const CHANGES: [Rows; 6] = [open, join, leave, deliver, bundle, turn];
+const CHANGES: [Rows; 9] = [
+    open, join, reserve, confirm, give_back, leave, deliver, bundle, turn,
+];
 const READS: [Rows; 7] = [
     find,
     check,
@@ -74,17 +76,66 @@ fn open(rows: &mut Vec<Row>, [empty, _, _]: [&[u8]; 3]) {
     rows.push(row("any", empty, Call::Open));
 }
 
-fn join(rows: &mut Vec<Row>, [empty, half, _]: [&[u8]; 3]) {
-    let join = |seat, contact| Call::Join {
+/// The number and the vector of a lot that is new to the records.
+const NEW: (u64, u8) = (u64::MAX / 3, 0b1010_0101);
+
+fn join(rows: &mut Vec<Row>, records: [&[u8]; 3]) {
+    let (number, vector) = NEW;
+    for (what, record, seat, contact) in with_a_seat_left(records) {
+        let join = Call::Join {
+            seat,
+            number,
+            vector,
+            contact,
+        };
+        rows.push(row(what, &record, join));
+    }
+}
+
+fn reserve(rows: &mut Vec<Row>, records: [&[u8]; 3]) {
+    for (what, record, seat, _) in with_a_seat_left(records) {
+        rows.push(row(what, &record, reservation(seat)));
+    }
+}
+
+fn confirm(rows: &mut Vec<Row>, records: [&[u8]; 3]) {
+    for (what, record, seat, contact) in with_a_seat_reserved(records) {
+        rows.push(row(&what, &record, Call::Confirm { seat, contact }));
+    }
+}
+
+fn give_back(rows: &mut Vec<Row>, records: [&[u8]; 3]) {
+    for (what, record, seat, _) in with_a_seat_reserved(records) {
+        rows.push(row(&what, &record, Call::GiveBack { seat }));
+    }
+}
+
+fn reservation(seat: u8) -> Call {
+    let (number, vector) = NEW;
+    Call::Reserve {
         seat,
-        number: u64::MAX / 3,
-        vector: 0b1010_0101,
-        contact,
-    };
-    rows.push(row("empty", empty, join(0, NO_CONTACT)));
-    rows.push(row("32 lots", half, join(HALF as u8, 0)));
-    let nearly_full = settled(SEATS - 1);
-    rows.push(row("63 lots", &nearly_full, join(SEATS as u8 - 1, 0)));
+        number,
+        vector,
+    }
+}
+
+/// An empty record, a half full one and a full one but for a seat: the first free seat
+/// of each, and the contact of who takes it.
+fn with_a_seat_left([empty, half, _]: [&[u8]; 3]) -> [(&'static str, Vec<u8>, u8, u8); 3] {
+    let last = SEATS as u8 - 1;
+    [
+        ("empty", empty.to_vec(), 0, NO_CONTACT),
+        ("32 lots", half.to_vec(), HALF as u8, 0),
+        ("63 lots", settled(SEATS - 1), last, 0),
+    ]
+}
+
+/// The same when that seat is reserved.
+fn with_a_seat_reserved(records: [&[u8]; 3]) -> [(String, Vec<u8>, u8, u8); 3] {
+    with_a_seat_left(records).map(|(what, mut record, seat, contact)| {
+        reservation(seat).on_bytes(&mut record);
+        (format!("{what}, one reserved"), record, seat, contact)
+    })
 }
 
 fn leave(rows: &mut Vec<Row>, records: [&[u8]; 3]) {
@@ -104,7 +155,8 @@ fn deliver(rows: &mut Vec<Row>, [empty, _, _]: [&[u8]; 3]) {
 /// So many lots, and the message by which the last of them joins at a contact.
 fn on_one_message(lots: usize, contact: u8, call: Call) -> Row {
     let (mut start, seat) = (settled(lots - 1), lots as u8 - 1);
-    lent::join(&mut start, seat, u64::MAX / 3, 0b1010_0101, contact).expect("the seat is free");
+    let (number, vector) = NEW;
+    lent::join(&mut start, seat, number, vector, contact).expect("the seat is free");
     row(&format!("{lots} lots, one message"), &start, call)
 }
 
@@ -206,9 +258,15 @@ fn read_message(rows: &mut Vec<Row>, records: [&[u8]; 3]) {
     on_each(rows, records, Call::ReadMessage(Message::meet(7, 3, 1)));
 }
 
+/// Validation also where half of the seats are reserved.
 fn read_whole(rows: &mut Vec<Row>, records: [&[u8]; 3]) {
     on_each(rows, records, Call::ReadCounts);
     on_each(rows, records, Call::Validate);
+    let mut reserved = records[1].to_vec();
+    for lot in &lots(SEATS)[HALF..] {
+        lent::reserve(&mut reserved, lot.seat, lot.number, lot.vector).expect("the seat is free");
+    }
+    rows.push(row("32 lots, 32 reserved", &reserved, Call::Validate));
 }
 
 /// The smallest of what is pending: nothing, and a message with seats of the

@@ -14,6 +14,18 @@ pub enum Call {
         vector: u8,
         contact: u8,
     },
+    Reserve {
+        seat: u8,
+        number: u64,
+        vector: u8,
+    },
+    Confirm {
+        seat: u8,
+        contact: u8,
+    },
+    GiveBack {
+        seat: u8,
+    },
     Leave {
         seat: u8,
     },
@@ -60,9 +72,12 @@ pub const NO_VALUES: Values = [0; 5];
 const NO_SEAT: u8 = 255;
 
 /// The names of the calls, in the order of [`Call::index`].
-pub const NAMES: [&str; 14] = [
+pub const NAMES: [&str; 17] = [
     "open",
     "join",
+    "reserve",
+    "confirm",
+    "give_back",
     "leave",
     "deliver",
     "bundle",
@@ -81,6 +96,9 @@ pub const NAMES: [&str; 14] = [
 pub const REFUSALS: [&[u8]; NAMES.len()] = [
     &[1],
     &[1, 2, 3, 7, 4, 5, 6],
+    &[1, 2, 3, 7, 4, 5],
+    &[1, 2, 3, 7, 14, 6],
+    &[1, 2, 3, 14],
     &[1, 2, 3, 7, 8, 9],
     &[1, 2, 10],
     &[1, 2],
@@ -100,18 +118,21 @@ impl Call {
         match self {
             Call::Open => 0,
             Call::Join { .. } => 1,
-            Call::Leave { .. } => 2,
-            Call::Deliver(_) => 3,
-            Call::Bundle { .. } => 4,
-            Call::Turn => 5,
-            Call::Find { .. } => 6,
-            Call::Check => 7,
-            Call::ReadLot { .. } => 8,
-            Call::ReadLink { .. } => 9,
-            Call::ReadMessage(_) => 10,
-            Call::ReadCounts => 11,
-            Call::Validate => 12,
-            Call::NextMessage(_) => 13,
+            Call::Reserve { .. } => 2,
+            Call::Confirm { .. } => 3,
+            Call::GiveBack { .. } => 4,
+            Call::Leave { .. } => 5,
+            Call::Deliver(_) => 6,
+            Call::Bundle { .. } => 7,
+            Call::Turn => 8,
+            Call::Find { .. } => 9,
+            Call::Check => 10,
+            Call::ReadLot { .. } => 11,
+            Call::ReadLink { .. } => 12,
+            Call::ReadMessage(_) => 13,
+            Call::ReadCounts => 14,
+            Call::Validate => 15,
+            Call::NextMessage(_) => 16,
         }
     }
 
@@ -129,6 +150,13 @@ impl Call {
                 vector,
                 contact,
             } => done(lent::join(bytes, seat, number, vector, contact)),
+            Call::Reserve {
+                seat,
+                number,
+                vector,
+            } => done(lent::reserve(bytes, seat, number, vector)),
+            Call::Confirm { seat, contact } => done(lent::confirm(bytes, seat, contact)),
+            Call::GiveBack { seat } => done(lent::give_back(bytes, seat)),
             Call::Leave { seat } => done(lent::leave(bytes, seat)),
             Call::Deliver(message) => done(lent::deliver(bytes, message)),
             Call::Bundle { limit } => one(lent::bundle(bytes, limit)),
@@ -146,6 +174,10 @@ impl Call {
 
     /// Makes the call on a model: a sound record of the right size.
     pub fn on_model(self, model: &mut Model) -> Answer {
+        #[cfg(test)]
+        if let Some(answer) = model.wrong_call(self) {
+            return answer;
+        }
         match self {
             Call::Open => {
                 *model = Model::open();
@@ -157,6 +189,13 @@ impl Call {
                 vector,
                 contact,
             } => done(model.join(seat, number, vector, contact)),
+            Call::Reserve {
+                seat,
+                number,
+                vector,
+            } => done(model.reserve(seat, number, vector)),
+            Call::Confirm { seat, contact } => done(model.confirm(seat, contact)),
+            Call::GiveBack { seat } => done(model.give_back(seat)),
             Call::Leave { seat } => done(model.leave(seat)),
             Call::Deliver(message) => done(model.deliver(message)),
             Call::Bundle { limit } => one(Ok(model.bundle(limit))),
@@ -198,6 +237,11 @@ impl Answer {
         Answer { refusal, values }
     }
 
+    pub fn found(found: Found) -> Answer {
+        let holder = found.holder.unwrap_or(NO_SEAT);
+        Answer::accepted([holder.into(), found.hops.into(), 0, 0, 0])
+    }
+
     fn of<T>(result: Result<T, Refusal>, values: impl Fn(T) -> Values) -> Answer {
         match result {
             Ok(answer) => Answer::accepted(values(answer)),
@@ -215,10 +259,7 @@ fn one<T: Into<u64>>(result: Result<T, Refusal>) -> Answer {
 }
 
 fn found(result: Result<Found, Refusal>) -> Answer {
-    Answer::of(result, |found| {
-        let holder = found.holder.unwrap_or(NO_SEAT);
-        [holder.into(), found.hops.into(), 0, 0, 0]
-    })
+    Answer::of(result, |found| Answer::found(found).values)
 }
 
 fn lot(result: Result<LotRead, Refusal>) -> Answer {

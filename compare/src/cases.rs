@@ -1,6 +1,8 @@
 //! The example and the cases (a) to (l) of document 01, and a few more that its
 //! words and those of document 02 settle.
 
+mod reservations;
+
 use crate::call::{Answer, Call, NO_VALUES};
 use crate::graph::{first_bits, NO_LINKS, SEATS};
 use crate::lent;

@@ -1,8 +1,10 @@
 //! Each fault of document 01's "Faults that pass a first trial", each bundle that
-//! is not #101's, each search that is not #102's or #104's and each meeting that
-//! writes a link wrongly, #103, put into the model, is caught by a self check on some
-//! script; or, where scripts cannot show it, by the calls on lent bytes on records
-//! that no calls lead to.
+//! is not #101's, each search that is not #102's or #104's, each meeting that
+//! writes a link wrongly, #103, and each reservation that is not #105's, put into the
+//! model, is caught by a self check on some script or list of calls; or, where these
+//! cannot show it, by the calls on lent bytes on records that no calls lead to.
+
+mod reservations;
 
 use crate::graph::SEATS;
 use crate::inputs;

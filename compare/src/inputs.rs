@@ -6,6 +6,7 @@ mod damage;
 mod sound;
 
 use crate::lent::place::{ENTRIES_AT, ENTRY, STATE_AT};
+use crate::model::State;
 use crate::random::Random;
 use crate::script::{Numbers, Pools, Vectors};
 
@@ -40,4 +41,12 @@ fn entry_at(seat: usize) -> usize {
 
 fn state(bytes: &[u8], seat: usize) -> u8 {
     bytes[entry_at(seat) + STATE_AT]
+}
+
+fn is_seated(state: u8) -> bool {
+    state == State::Staying as u8 || state == State::Leaving as u8
+}
+
+fn is_reserved(state: u8) -> bool {
+    state == State::Reserved as u8
 }

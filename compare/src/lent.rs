@@ -11,6 +11,7 @@
 mod bundle;
 mod bytes;
 mod check;
+mod joining;
 mod layout;
 mod next;
 mod pending;
@@ -18,8 +19,8 @@ mod record;
 mod sound;
 
 use crate::graph::{Side, LEVELS, SEATS};
-use crate::model::{Message, Phase, Refusal, State, NO_CONTACT};
-use crate::rules::Rules;
+use crate::model::{Message, Phase, Refusal, State};
+use crate::rules::{Entries, Rules};
 use crate::search::{Found, Search};
 use bundle::Bundle;
 use layout::*;
@@ -28,6 +29,7 @@ use record::{entries_mut, entry_mut, number_of, parts_mut, send, take_away, Reco
 use sound::{seats, Sound};
 
 pub use bytes::{from_bytes, messages, to_bytes};
+pub use joining::{confirm, give_back, join, reserve};
 pub use layout::{message_at, place_of, SIZE};
 
 /// Places of the fields, for those who make records that are no call's.
@@ -62,59 +64,14 @@ pub fn open(bytes: &mut [u8]) -> Result<(), Refusal> {
     Ok(())
 }
 
-/// Seats a lot and tells its contact of it. Refusals: 1, 2, 3, 7, 4, 5, 6.
-pub fn join(
-    bytes: &mut [u8],
-    seat: u8,
-    number: u64,
-    vector: u8,
-    contact: u8,
-) -> Result<(), Refusal> {
-    may_join(&sound::test(bytes)?, seat, number, contact)?;
-    let bytes = of_size(bytes)?;
-    let entry = entry_mut(bytes, seat);
-    entry[STATE_AT] = State::Staying as u8;
-    entry[NUMBER_AT..VECTOR_AT].copy_from_slice(&number.to_be_bytes());
-    entry[VECTOR_AT] = vector;
-    if contact != NO_CONTACT {
-        send(bytes, Message::meet(contact, seat, 0));
-    }
-    Ok(())
-}
-
-fn may_join(sound: &Sound, seat: u8, number: u64, contact: u8) -> Result<(), Refusal> {
-    if !is_seat(seat) || !(is_seat(contact) || contact == NO_CONTACT) {
-        return Err(Refusal::NoSuchSeat);
-    }
-    must_be_open(sound.record)?;
-    if !sound.record.is_free(seat) {
-        return Err(Refusal::SeatTaken);
-    }
-    let has_it = |entry: &Entry| entry[STATE_AT] != 0 && number_of(entry) == number;
-    if sound.record.entries().iter().any(has_it) {
-        return Err(Refusal::NumberInUse);
-    }
-    let no_contact = match contact {
-        NO_CONTACT => sound.seated != 0,
-        seat => sound.record.is_free(seat),
-    };
-    if no_contact {
-        return Err(Refusal::NoContact);
-    }
-    Ok(())
-}
-
 /// Marks a staying lot as leaving. Refusals: 1, 2, 3, 7, 8, 9.
 pub fn leave(bytes: &mut [u8], seat: u8) -> Result<(), Refusal> {
     let Sound { record, .. } = sound::test(bytes)?;
-    if !is_seat(seat) {
-        return Err(Refusal::NoSuchSeat);
-    }
+    must_be_seat(seat)?;
     must_be_open(record)?;
-    match record.entry(seat)[STATE_AT] {
-        0 => return Err(Refusal::EmptySeat),
-        2 => return Err(Refusal::AlreadyLeaving),
-        _ => {}
+    must_be_seated(record, seat)?;
+    if record.is_leaving(seat) {
+        return Err(Refusal::AlreadyLeaving);
     }
     entry_mut(of_size(bytes)?, seat)[STATE_AT] = State::Leaving as u8;
     Ok(())
@@ -204,6 +161,7 @@ fn end_clearing(bytes: &mut Bytes, leaving: u64) {
 /// settled record. Refusals: 1, 2, 3, 8, 13.
 pub fn find(bytes: &[u8], start: u8, scanned: u64) -> Result<Found, Refusal> {
     let sound = sound::test(bytes)?;
+    must_be_seat(start)?;
     must_be_seated(sound.record, start)?;
     must_be_settled(&sound)?;
     Ok(sound.record.search(start, scanned))
@@ -220,10 +178,13 @@ pub fn check(bytes: &[u8]) -> Result<bool, Refusal> {
     Ok(check::is_graph(sound.record, members))
 }
 
-/// Reads a lot. Refusals: 1, 2, 3, 8.
+/// Reads a lot, a reserved one too. Refusals: 1, 2, 3, 8.
 pub fn read_lot(bytes: &[u8], seat: u8) -> Result<LotRead, Refusal> {
     let Sound { record, .. } = sound::test(bytes)?;
-    must_be_seated(record, seat)?;
+    must_be_seat(seat)?;
+    if record.is_free(seat) {
+        return Err(Refusal::EmptySeat);
+    }
     let entry = record.entry(seat);
     Ok(LotRead {
         state: entry[STATE_AT],
@@ -235,9 +196,7 @@ pub fn read_lot(bytes: &[u8], seat: u8) -> Result<LotRead, Refusal> {
 /// Reads a link: a seat, or 255. Refusals: 1, 2, 3, 12, 8.
 pub fn read_link(bytes: &[u8], seat: u8, level: u8, side: u8) -> Result<u8, Refusal> {
     let Sound { record, .. } = sound::test(bytes)?;
-    if !is_seat(seat) {
-        return Err(Refusal::NoSuchSeat);
-    }
+    must_be_seat(seat)?;
     if usize::from(level) >= LEVELS || side > 1 {
         return Err(Refusal::NoSuchLevel);
     }
@@ -284,6 +243,13 @@ fn is_seat(seat: u8) -> bool {
     usize::from(seat) < SEATS
 }
 
+fn must_be_seat(seat: u8) -> Result<(), Refusal> {
+    match is_seat(seat) {
+        true => Ok(()),
+        false => Err(Refusal::NoSuchSeat),
+    }
+}
+
 fn must_be_open(record: Record) -> Result<(), Refusal> {
     match record.is_clearing() {
         false => Ok(()),
@@ -291,13 +257,11 @@ fn must_be_open(record: Record) -> Result<(), Refusal> {
     }
 }
 
+/// A seat with a reserved lot counts as empty.
 fn must_be_seated(record: Record, seat: u8) -> Result<(), Refusal> {
-    if !is_seat(seat) {
-        return Err(Refusal::NoSuchSeat);
-    }
-    match record.is_free(seat) {
-        false => Ok(()),
-        true => Err(Refusal::EmptySeat),
+    match record.is_seated(seat) {
+        true => Ok(()),
+        false => Err(Refusal::EmptySeat),
     }
 }
 

@@ -1,12 +1,14 @@
 //! The calls on lent bytes agree with the model: answers, values and every
-//! byte, on the records of scripts and on records that no calls lead to.
+//! byte, on the records of scripts and lists and on records that no calls lead to.
 
 use crate::call::{Answer, Call, NAMES};
 use crate::graph::SEATS;
 use crate::inputs::{self, Style};
 use crate::lent::{self, from_bytes, to_bytes};
+use crate::list;
 use crate::model::{Model, Refusal, NO_CONTACT};
 use crate::random::Random;
+use crate::reserved::Unsound;
 use crate::scan::Scan;
 use crate::script::{self, Numbers, Pools, Vectors};
 use crate::text::{self, Command};
@@ -28,24 +30,6 @@ fn both(call: Call, model: &mut Model, bytes: &mut [u8]) -> Answer {
 /// The calls that a line of a script makes.
 fn calls(command: Command, model: &Model) -> Vec<Call> {
     match command {
-        Command::Join {
-            seat,
-            number,
-            vector,
-            contact,
-        } => vec![Call::Join {
-            seat,
-            number,
-            vector,
-            contact,
-        }],
-        Command::Leave { seat } => vec![Call::Leave { seat }],
-        Command::Deliver(message) => vec![Call::Deliver(message)],
-        Command::Turn => vec![Call::Turn],
-        Command::Find { start, number } => vec![Call::Find {
-            seat: start,
-            number,
-        }],
         Command::Print => vec![Call::Check, Call::ReadCounts],
         Command::Settle => {
             let mut settling = model.clone();
@@ -56,6 +40,7 @@ fn calls(command: Command, model: &Model) -> Vec<Call> {
             }
             calls
         }
+        _ => Vec::from_iter(command.call()),
     }
 }
 
@@ -88,6 +73,21 @@ fn on_scripts() {
     }
 }
 
+/// With reservations, which no script has.
+#[test]
+fn on_lists() {
+    let mut accepted = [0; NAMES.len()];
+    for index in 0..60 {
+        let mut model = Model::open();
+        let mut bytes = to_bytes(&model);
+        for call in list::generate(4, index, 100) {
+            let answer = both(call, &mut model, &mut bytes);
+            accepted[call.index()] += usize::from(answer.refusal == 0);
+        }
+    }
+    assert!(accepted.iter().all(|&count| count > 5), "{accepted:?}");
+}
+
 #[test]
 fn on_records_that_no_calls_lead_to() {
     let mut random = Random::new(2);
@@ -107,7 +107,7 @@ fn on_records_that_no_calls_lead_to() {
             accepted[call.index()] += usize::from(answer.refusal == 0);
             if let Call::Find { seat, .. } = call {
                 let unsettled = way.map(|_| Refusal::Unsettled);
-                let refusal = model.lot(seat).err().or(unsettled);
+                let refusal = model.link(seat, 0, 0).err().or(unsettled);
                 assert_eq!(answer.refusal, refusal.map_or(0, Refusal::number));
                 *ways.entry((answer.refusal, way)).or_insert(0) += 1;
             }
@@ -194,7 +194,7 @@ fn settle_by_any_bundles(model: &mut Model, bytes: &mut [u8], random: &mut Rando
 #[test]
 fn soundness_of_damaged_bytes() {
     let mut random = Random::new(3);
-    let mut sound = [0; 2];
+    let (mut sound, mut ways) = ([0; 2], BTreeMap::new());
     for _ in 0..6_000 {
         let pools = inputs::pools(&mut random);
         let mut bytes = inputs::sound_record(&pools, &mut random);
@@ -207,8 +207,25 @@ fn soundness_of_damaged_bytes() {
         };
         assert_eq!(refusal, expected);
         sound[usize::from(expected.is_none())] += 1;
+        if expected == Some(Refusal::Unsound) {
+            *ways.entry(Unsound::of_bytes(&bytes)).or_insert(0) += 1;
+        }
     }
     assert!(sound.iter().all(|&count| count > 500), "{sound:?}");
+    for way in Unsound::ALL.map(Some) {
+        assert!(ways.get(&way) > Some(&10), "{ways:?}");
+    }
+}
+
+/// A sound record in which so many lots are reserved.
+fn record_with_reserved(reserved: usize, pools: &Pools, random: &mut Random) -> Vec<u8> {
+    loop {
+        let bytes = inputs::sound_record(pools, random);
+        let model = from_bytes(&bytes).expect("the record is sound");
+        if model.taken().count() == model.seated().count() + reserved {
+            return bytes;
+        }
+    }
 }
 
 /// Every bit of a small record is changed in turn.
@@ -216,8 +233,8 @@ fn soundness_of_damaged_bytes() {
 fn soundness_of_each_bit() {
     let mut random = Random::new(4);
     let pools = Pools::new(5, Numbers::Close, Vectors::Few, &mut random);
-    for _ in 0..2 {
-        let mut bytes = inputs::sound_record(&pools, &mut random);
+    for reserved in 0..3 {
+        let mut bytes = record_with_reserved(reserved, &pools, &mut random);
         for place in (0..bytes.len() * 8).filter(|place| place % 37 == 0 || *place < 15_000) {
             bytes[place / 8] ^= 1 << (place % 8);
             let sound = lent::validate(&bytes).is_ok();

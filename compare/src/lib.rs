@@ -6,15 +6,15 @@
 //!   Constraints 1 to 6 of document 000.
 //! - [`lent`] is the calls on lent bytes; [`call`] is a call with its answer, and
 //!   [`inputs`] makes records and calls from a seed; [`unsettled`] tells apart
-//!   why a search is refused.
+//!   why a search is refused, [`reserved`] what calls meet of reserved lots.
 //! - [`text`] is the command language of the program `lots`.
 //! - [`roster`] is document 01's roster with its table of refusals; [`scan`] is
 //!   what a search has to answer, by numbers and states.
-//! - [`selfcheck`] runs a script on the model and holds every answer against
-//!   the roster and the graph.
+//! - [`selfcheck`] runs a script or a list of calls on the model and holds every
+//!   answer against the roster and the graph.
 //! - [`script`] makes scripts, fixed ones and from a seed; [`reach`] says what
 //!   they reach, [`shrink`] makes a failing one small, [`child`] runs another
-//!   program on one.
+//!   program on one. [`mod@list`] makes lists of calls in the same two ways.
 //!
 //! ```
 //! use compare::model::Model;
@@ -32,9 +32,11 @@ pub mod child;
 pub mod graph;
 pub mod inputs;
 pub mod lent;
+pub mod list;
 pub mod model;
 pub mod random;
 pub mod reach;
+pub mod reserved;
 pub mod roster;
 mod rules;
 pub mod scan;

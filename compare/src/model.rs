@@ -6,6 +6,7 @@
 //! a model has no size, and [`Model::from_parts`] is where it could be unsound.
 
 mod fault;
+mod joining;
 mod message;
 mod refusal;
 mod sound;
@@ -17,8 +18,12 @@ mod wrong_find;
 mod wrong_holder;
 #[cfg(test)]
 mod wrong_meet;
+#[cfg(test)]
+mod wrong_reserved;
+#[cfg(test)]
+mod wrong_reserving;
 
-use crate::graph::{Held, Links, Member, Side, LEVELS, NO_LINKS, SEATS, SIDES};
+use crate::graph::{Held, Links, Member, Side, LEVELS, SEATS, SIDES};
 use crate::rules::{Entries, Rules};
 use crate::search::Search;
 use std::collections::BTreeSet;
@@ -37,6 +42,10 @@ pub(crate) use wrong_find::WrongFind;
 pub(crate) use wrong_holder::WrongHolder;
 #[cfg(test)]
 pub(crate) use wrong_meet::WrongMeet;
+#[cfg(test)]
+pub(crate) use wrong_reserved::WrongReserved;
+#[cfg(test)]
+pub(crate) use wrong_reserving::WrongReserving;
 
 /// The contact of the first lot.
 pub const NO_CONTACT: u8 = 255;
@@ -47,11 +56,12 @@ pub enum Phase {
     Clearing = 1,
 }
 
-/// The state of a seated lot; a free seat has none.
+/// The state of a lot; a free seat has none. A reserved lot is not seated.
 #[derive(Clone, Copy, PartialEq, Eq, Debug)]
 pub enum State {
     Staying = 1,
     Leaving = 2,
+    Reserved = 3,
 }
 
 #[derive(Clone, PartialEq, Eq, Debug)]
@@ -60,6 +70,12 @@ pub struct Lot {
     pub vector: u8,
     pub state: State,
     pub links: Links,
+}
+
+impl Lot {
+    fn is_seated(&self) -> bool {
+        self.state != State::Reserved
+    }
 }
 
 #[derive(Clone, Copy, PartialEq, Eq, Debug)]
@@ -112,52 +128,12 @@ impl Model {
         }
     }
 
-    /// Seats a lot and tells its contact of it. Refusals: 3, 7, 4, 5, 6.
-    pub fn join(&mut self, seat: u8, number: u64, vector: u8, contact: u8) -> Result<(), Refusal> {
-        self.may_join(seat, number, contact)?;
-        self.lots[usize::from(seat)] = Some(Lot {
-            number,
-            vector,
-            state: State::Staying,
-            links: NO_LINKS,
-        });
-        if contact != NO_CONTACT {
-            self.pending.insert(Message::meet(contact, seat, 0));
-        }
-        Ok(())
-    }
-
-    fn may_join(&self, seat: u8, number: u64, contact: u8) -> Result<(), Refusal> {
-        let no_contact = contact == NO_CONTACT;
-        if !is_seat(seat) || !(is_seat(contact) || no_contact) {
-            return Err(Refusal::NoSuchSeat);
-        }
-        self.must_be_open()?;
-        if self.lot_at(seat).is_some() {
-            return Err(Refusal::SeatTaken);
-        }
-        if self.seated().any(|(_, lot)| lot.number == number) {
-            return Err(Refusal::NumberInUse);
-        }
-        let contact_is_right = if no_contact {
-            self.seated().next().is_none()
-        } else {
-            self.lot_at(contact).is_some()
-        };
-        if contact_is_right {
-            Ok(())
-        } else {
-            Err(Refusal::NoContact)
-        }
-    }
-
     /// Marks a staying lot as leaving. Refusals: 3, 7, 8, 9.
     pub fn leave(&mut self, seat: u8) -> Result<(), Refusal> {
-        if !is_seat(seat) {
-            return Err(Refusal::NoSuchSeat);
-        }
+        must_be_seat(seat)?;
         self.must_be_open()?;
         let lot = self.lots[usize::from(seat)].as_mut();
+        let lot = lot.filter(|lot| lot.is_seated());
         let lot = lot.ok_or(Refusal::EmptySeat)?;
         if lot.state == State::Leaving {
             return Err(Refusal::AlreadyLeaving);
@@ -286,7 +262,7 @@ impl Model {
         if let Some(Fault::Find(wrong)) = self.fault {
             return self.may_find_with(wrong, start);
         }
-        self.lot(start)?;
+        self.seated_lot(start)?;
         match self.is_settled() {
             true => Ok(()),
             false => Err(Refusal::Unsettled),
@@ -304,23 +280,25 @@ impl Model {
         Held::new(&self.members(), &links).is_skip_graph()
     }
 
-    /// Reads a lot. Refusals: 3, 8.
+    /// Reads a lot, a reserved one too. Refusals: 3, 8.
     pub fn lot(&self, seat: u8) -> Result<&Lot, Refusal> {
-        if !is_seat(seat) {
-            return Err(Refusal::NoSuchSeat);
-        }
+        must_be_seat(seat)?;
         self.lot_at(seat).ok_or(Refusal::EmptySeat)
+    }
+
+    /// A seat with a reserved lot counts as empty. Refusals: 3, 8.
+    fn seated_lot(&self, seat: u8) -> Result<&Lot, Refusal> {
+        must_be_seat(seat)?;
+        self.seated_at(seat).ok_or(Refusal::EmptySeat)
     }
 
     /// Reads a link: a seat, or none for document 01's 255. Refusals: 3, 12, 8.
     pub fn link(&self, seat: u8, level: u8, side: u8) -> Result<Option<u8>, Refusal> {
-        if !is_seat(seat) {
-            return Err(Refusal::NoSuchSeat);
-        }
+        must_be_seat(seat)?;
         let level = usize::from(level);
         let side = Side::from_number(side).filter(|_| level < LEVELS);
         let side = side.ok_or(Refusal::NoSuchLevel)?;
-        Ok(self.lot(seat)?.links[level][side as usize])
+        Ok(self.seated_lot(seat)?.links[level][side as usize])
     }
 
     pub fn is_pending(&self, message: Message) -> bool {
@@ -352,6 +330,12 @@ impl Model {
 
     /// The seated lots, ascending by seat.
     pub fn seated(&self) -> impl Iterator<Item = (u8, &Lot)> {
+        self.taken().filter(|(_, lot)| lot.is_seated())
+    }
+
+    /// The lots of all seats that are not free, the reserved ones too; ascending by
+    /// seat.
+    pub fn taken(&self) -> impl Iterator<Item = (u8, &Lot)> {
         let seats = 0u8..;
         let lots = seats.zip(&self.lots);
         lots.filter_map(|(seat, lot)| lot.as_ref().map(|lot| (seat, lot)))
@@ -364,27 +348,33 @@ impl Model {
             number: lot.number,
             vector: lot.vector,
         };
-        self.seated_members().map(member).collect()
+        self.member_lots().map(member).collect()
     }
 
     /// The links of the members, in their order.
     pub fn member_links(&self) -> Vec<Links> {
-        self.seated_members().map(|(_, lot)| lot.links).collect()
+        self.member_lots().map(|(_, lot)| lot.links).collect()
     }
 
-    fn seated_members(&self) -> impl Iterator<Item = (u8, &Lot)> {
-        let open = self.phase == Phase::Open;
-        self.seated()
-            .filter(move |(_, lot)| open || lot.state == State::Staying)
+    fn member_lots(&self) -> impl Iterator<Item = (u8, &Lot)> {
+        self.taken().filter(|(_, lot)| match lot.state {
+            State::Staying => true,
+            State::Leaving => self.phase == Phase::Open,
+            State::Reserved => self.has_fault(Fault::ReservedIsMember),
+        })
     }
 
     fn lot_at(&self, seat: u8) -> Option<&Lot> {
         self.lots.get(usize::from(seat))?.as_ref()
     }
 
+    fn seated_at(&self, seat: u8) -> Option<&Lot> {
+        self.lot_at(seat).filter(|lot| lot.is_seated())
+    }
+
     /// The lot that a link or a pending message names.
     fn named(&self, seat: u8) -> &Lot {
-        let lot = self.lot_at(seat);
+        let lot = self.seated_at(seat);
         lot.expect("links and pending messages name seated lots")
     }
 }
@@ -423,6 +413,9 @@ fn goings(links: &Links) -> Vec<Message> {
     sends
 }
 
-fn is_seat(seat: u8) -> bool {
-    usize::from(seat) < SEATS
+fn must_be_seat(seat: u8) -> Result<(), Refusal> {
+    match usize::from(seat) < SEATS {
+        true => Ok(()),
+        false => Err(Refusal::NoSuchSeat),
+    }
 }

@@ -1,9 +1,10 @@
 //! Document 01's roster, kept from each call's arguments and whether it was
-//! refused, and from nothing else; and the table of refusals read on it.
+//! refused, and from nothing else; and the table of refusals read on it. Since
+//! document 02, #105, it keeps reservations too.
 
-use crate::graph::{Member, SEATS};
+use crate::call::{Answer, Call};
+use crate::graph::{Member, LEVELS, SEATS};
 use crate::model::{Message, Model, Phase, Refusal, State, NO_CONTACT};
-use crate::text::Command;
 use std::collections::{BTreeMap, BTreeSet};
 
 struct Lot {
@@ -32,84 +33,106 @@ impl Roster {
     }
 
     /// The first row of the table, in its order, that applies to a call.
-    pub fn refusal(&self, call: Command, pending: &BTreeSet<Message>) -> Option<Refusal> {
+    pub fn refusal(&self, call: Call, pending: &BTreeSet<Message>) -> Option<Refusal> {
         let applies = |row: &Refusal| self.applies(*row, call, pending);
         Refusal::ORDER.into_iter().find(applies)
     }
 
-    fn applies(&self, row: Refusal, call: Command, pending: &BTreeSet<Message>) -> bool {
+    fn applies(&self, row: Refusal, call: Call, pending: &BTreeSet<Message>) -> bool {
+        let clearing = self.phase == Phase::Clearing;
         match (row, call) {
-            (Refusal::NoSuchSeat, Command::Join { seat, contact, .. }) => {
-                above_63(seat) || (above_63(contact) && contact != NO_CONTACT)
+            (Refusal::NoSuchSeat, call) => names_no_seat(call),
+            (Refusal::NoSuchLevel, Call::ReadLink { level, side, .. }) => {
+                usize::from(level) >= LEVELS || side > 1
             }
-            (Refusal::NoSuchSeat, Command::Leave { seat }) => above_63(seat),
-            (Refusal::NoSuchSeat, Command::Find { start, .. }) => above_63(start),
-            (Refusal::SeatTaken, Command::Join { seat, .. }) => !self.is_free(seat),
-            (Refusal::NumberInUse, Command::Join { number, .. }) => {
+            (Refusal::InClearing, Call::Join { .. } | Call::Leave { .. }) => clearing,
+            (Refusal::InClearing, Call::Reserve { .. } | Call::Confirm { .. }) => clearing,
+            (Refusal::SeatTaken, Call::Join { seat, .. } | Call::Reserve { seat, .. }) => {
+                !self.is_free(seat)
+            }
+            (Refusal::NotReserved, Call::Confirm { seat, .. } | Call::GiveBack { seat }) => {
+                self.state(seat) != Some(State::Reserved)
+            }
+            (Refusal::EmptySeat, Call::Leave { seat } | Call::Find { seat, .. }) => {
+                !self.is_seated(seat)
+            }
+            (Refusal::EmptySeat, Call::ReadLink { seat, .. }) => !self.is_seated(seat),
+            (Refusal::EmptySeat, Call::ReadLot { seat }) => self.is_free(seat),
+            // With nothing pending in phase open, the check of calls' records says yes.
+            (Refusal::Unsettled, Call::Find { .. }) => clearing || !pending.is_empty(),
+            (Refusal::NumberInUse, Call::Join { number, .. } | Call::Reserve { number, .. }) => {
                 self.lots.values().any(|lot| lot.number == number)
             }
-            (Refusal::NoContact, Command::Join { contact, .. }) => match contact {
-                NO_CONTACT => !self.lots.is_empty(),
-                seat => self.is_free(seat),
-            },
-            (Refusal::InClearing, Command::Join { .. } | Command::Leave { .. }) => {
-                self.phase == Phase::Clearing
+            (Refusal::NoContact, Call::Join { contact, .. } | Call::Confirm { contact, .. }) => {
+                match contact {
+                    NO_CONTACT => !self.seated().is_empty(),
+                    seat => !self.is_seated(seat),
+                }
             }
-            (Refusal::EmptySeat, Command::Leave { seat }) => self.is_free(seat),
-            (Refusal::EmptySeat, Command::Find { start, .. }) => self.is_free(start),
-            // With nothing pending in phase open, the check of calls' records says yes.
-            (Refusal::Unsettled, Command::Find { .. }) => {
-                self.phase == Phase::Clearing || !pending.is_empty()
+            (Refusal::AlreadyLeaving, Call::Leave { seat }) => {
+                self.state(seat) == Some(State::Leaving)
             }
-            (Refusal::AlreadyLeaving, Command::Leave { seat }) => self.is_leaving(seat),
-            (Refusal::NoSuchMessage, Command::Deliver(message)) => !pending.contains(&message),
-            (Refusal::MessagesLeft, Command::Turn) => !pending.is_empty(),
+            (Refusal::NoSuchMessage, Call::Deliver(message)) => !pending.contains(&message),
+            (Refusal::MessagesLeft, Call::Turn) => !pending.is_empty(),
             _ => false,
         }
     }
 
     /// Takes an accepted call in.
-    pub fn accept(&mut self, call: Command) {
+    pub fn accept(&mut self, call: Call) {
         match call {
-            Command::Join {
+            Call::Open => *self = Roster::new(),
+            Call::Join {
                 seat,
                 number,
                 vector,
                 ..
-            } => {
-                let state = State::Staying;
-                let lot = Lot {
-                    number,
-                    vector,
-                    state,
-                };
-                self.lots.insert(seat, lot);
+            } => self.add(seat, number, vector, State::Staying),
+            Call::Reserve {
+                seat,
+                number,
+                vector,
+            } => self.add(seat, number, vector, State::Reserved),
+            Call::Confirm { seat, .. } => self.mark(seat, State::Staying),
+            Call::GiveBack { seat } => {
+                self.lots.remove(&seat);
             }
-            Command::Leave { seat } => {
-                let lot = self.lots.get_mut(&seat);
-                lot.expect("an accepted leave names a lot").state = State::Leaving;
-            }
-            Command::Turn => self.turn(),
-            Command::Deliver(_) | Command::Settle | Command::Find { .. } | Command::Print => {}
+            Call::Leave { seat } => self.mark(seat, State::Leaving),
+            Call::Turn => self.turn(),
+            _ => {}
         }
+    }
+
+    fn add(&mut self, seat: u8, number: u64, vector: u8, state: State) {
+        let lot = Lot {
+            number,
+            vector,
+            state,
+        };
+        self.lots.insert(seat, lot);
+    }
+
+    fn mark(&mut self, seat: u8, state: State) {
+        let lot = self.lots.get_mut(&seat);
+        lot.expect("the call names a lot").state = state;
     }
 
     fn turn(&mut self) {
         match self.phase {
             Phase::Open => {
-                if self.lots.keys().any(|&seat| self.is_leaving(seat)) {
+                if self.lots.values().any(|lot| lot.state == State::Leaving) {
                     self.phase = Phase::Clearing;
                 }
             }
             Phase::Clearing => {
-                self.lots.retain(|_, lot| lot.state == State::Staying);
+                self.lots.retain(|_, lot| lot.state != State::Leaving);
                 self.phase = Phase::Open;
             }
         }
     }
 
-    /// All lots with their states, by seat.
-    pub fn lots(&self) -> Vec<(Member, State)> {
+    /// The seated lots with their states, by seat.
+    pub fn seated(&self) -> Vec<(Member, State)> {
         let lot = |(&seat, lot): (&u8, &Lot)| {
             let member = Member {
                 seat,
@@ -118,46 +141,65 @@ impl Roster {
             };
             (member, lot.state)
         };
-        self.lots.iter().map(lot).collect()
+        let is_seated = |(_, state): &(Member, State)| *state != State::Reserved;
+        self.lots.iter().map(lot).filter(is_seated).collect()
     }
 
-    /// All lots in phase open, the staying ones in clearing; by seat.
+    /// All seated lots in phase open, the staying ones in clearing; by seat.
     pub fn members(&self) -> Vec<Member> {
         let open = self.phase == Phase::Open;
         let is_member = |(_, state): &(Member, State)| open || *state == State::Staying;
-        let members = self.lots().into_iter().filter(is_member);
+        let members = self.seated().into_iter().filter(is_member);
         members.map(|(member, _)| member).collect()
     }
 
     /// Whether the readings of a model give this phase and these lots.
-    pub fn agrees_with(&self, model: &Model) -> bool {
-        let counts = model.counts();
-        let seats = 0..SEATS as u8;
-        counts.phase == self.phase
-            && counts.lots == self.lots.len()
-            && seats.into_iter().all(|seat| self.lot_agrees(seat, model))
+    pub fn agrees_with(&self, model: &mut Model) -> bool {
+        let seated = self.seated().len() as u64;
+        let [lots, phase, ..] = Call::ReadCounts.on_model(model).values;
+        let mut seats = 0..SEATS as u8;
+        (lots, phase) == (seated, self.phase as u64)
+            && seats.all(|seat| self.seat_agrees(seat, model))
     }
 
-    fn lot_agrees(&self, seat: u8, model: &Model) -> bool {
-        match (self.lots.get(&seat), model.lot(seat)) {
-            (Some(lot), Ok(read)) => {
-                (lot.number, lot.vector, lot.state) == (read.number, read.vector, read.state)
-            }
-            (None, Err(refusal)) => refusal == Refusal::EmptySeat,
-            _ => false,
-        }
+    /// Reading the lot shows reserved ones; reading a link meets 8 there.
+    fn seat_agrees(&self, seat: u8, model: &mut Model) -> bool {
+        let empty = Answer::refused(Refusal::EmptySeat.number());
+        let lot = self.lots.get(&seat).map_or(empty, |lot| {
+            Answer::accepted([lot.state as u64, lot.number, lot.vector.into(), 0, 0])
+        });
+        let (level, side) = (0, 0);
+        let link = Call::ReadLink { seat, level, side };
+        Call::ReadLot { seat }.on_model(model) == lot
+            && (link.on_model(model) != empty) == self.is_seated(seat)
+    }
+
+    fn state(&self, seat: u8) -> Option<State> {
+        self.lots.get(&seat).map(|lot| lot.state)
     }
 
     fn is_free(&self, seat: u8) -> bool {
-        !self.lots.contains_key(&seat)
+        self.state(seat).is_none()
     }
 
-    fn is_leaving(&self, seat: u8) -> bool {
-        let lot = self.lots.get(&seat);
-        lot.is_some_and(|lot| lot.state == State::Leaving)
+    fn is_seated(&self, seat: u8) -> bool {
+        matches!(self.state(seat), Some(State::Staying | State::Leaving))
     }
 }
 
-fn above_63(seat: u8) -> bool {
-    usize::from(seat) >= SEATS
+/// Row 3: a seat above 63, or a contact that is neither a seat nor 255.
+fn names_no_seat(call: Call) -> bool {
+    let above_63 = |seat| usize::from(seat) >= SEATS;
+    match call {
+        Call::Join { seat, contact, .. } | Call::Confirm { seat, contact } => {
+            above_63(seat) || (above_63(contact) && contact != NO_CONTACT)
+        }
+        Call::Reserve { seat, .. } | Call::GiveBack { seat } | Call::Leave { seat } => {
+            above_63(seat)
+        }
+        Call::Find { seat, .. } | Call::ReadLot { seat } | Call::ReadLink { seat, .. } => {
+            above_63(seat)
+        }
+        _ => false,
+    }
 }

@@ -1,5 +1,5 @@
 //! What a search of a settled record has to answer, by the numbers, vectors and
-//! states of its lots alone. No link is read: the lots of a level with the same
+//! states of its seated lots alone. No link is read: the lots of a level with the same
 //! first bits are one list, and a walk along it passes those between.
 
 use crate::graph::{first_bits, Member, LEVELS};

@@ -1,16 +1,19 @@
-//! Runs a script on the model and checks the model as it goes: against the
-//! roster and the table after every line, and against the graph of the members;
-//! and bundles against single deliveries.
+//! Runs a script, or a list of calls, on the model and checks the model as it
+//! goes: against the roster and the table after every line or call, and against
+//! the graph of the members; bundles against single deliveries, and joins against
+//! reservations.
 
 mod bundles;
+mod joining;
 mod searches;
 
+use crate::call::{Answer, Call};
 use crate::graph::{self, Links, Member};
-use crate::model::{Found, Message, Model};
+use crate::model::{Message, Model, Refusal};
 use crate::reach::{Mark, Reach};
 use crate::roster::Roster;
 use crate::scan::Scan;
-use crate::text::{self, Answer, Command};
+use crate::text::{self, Command};
 use std::collections::BTreeSet;
 
 pub use searches::Searches;
@@ -22,7 +25,7 @@ pub const MOST_DELIVERIES: u64 = 1_000_000;
 /// A check that failed.
 #[derive(Clone, PartialEq, Eq, Debug)]
 pub struct Failure {
-    /// Counted from 1.
+    /// Of a script, or the call of a list; counted from 1.
     pub line: usize,
     pub what: &'static str,
 }
@@ -45,8 +48,7 @@ pub fn run(input: &[u8]) -> Result<Run, Failure> {
 
 /// Runs an input on a given empty model.
 pub(crate) fn run_on(model: Model, input: &[u8]) -> Result<Run, Failure> {
-    let roster = Roster::new();
-    let mut checked = Checked { model, roster };
+    let mut checked = Checked::new(model);
     let mut run = Run::default();
     let mut reach = Reach::of_input(input);
     for line in text::lines(input) {
@@ -75,6 +77,22 @@ pub(crate) fn run_on(model: Model, input: &[u8]) -> Result<Run, Failure> {
     Ok(run)
 }
 
+/// Runs a list of calls on a fresh model.
+pub fn run_list(list: &[Call]) -> Result<(), Failure> {
+    run_list_on(Model::open(), list)
+}
+
+/// Runs a list of calls on a given empty model.
+pub(crate) fn run_list_on(model: Model, list: &[Call]) -> Result<(), Failure> {
+    let mut checked = Checked::new(model);
+    (1..).zip(list).try_for_each(|(line, &call)| {
+        let before = checked.model.clone();
+        let answer = call.on_model(&mut checked.model);
+        let checked = checked.call(call, answer, &before);
+        checked.map_err(|what| Failure { line, what })
+    })
+}
+
 struct Checked {
     model: Model,
     roster: Roster,
@@ -91,6 +109,11 @@ fn holds(condition: bool, what: &'static str) -> Check {
 }
 
 impl Checked {
+    fn new(model: Model) -> Checked {
+        let roster = Roster::new();
+        Checked { model, roster }
+    }
+
     /// The deliveries that a line will make; fails when they do not end, or when
     /// bundles make others.
     fn count_deliveries(&self, command: Option<Command>) -> Result<u64, &'static str> {
@@ -107,34 +130,41 @@ impl Checked {
         }
     }
 
-    fn line(&mut self, command: Option<Command>, before: &Model) -> Result<Answer, &'static str> {
+    fn line(
+        &mut self,
+        command: Option<Command>,
+        before: &Model,
+    ) -> Result<text::Answer, &'static str> {
         let answer = text::answer(&mut self.model, command);
         match command {
             None => holds(self.model == *before, "a bad line changed the record")?,
-            Some(call) => self.call(call, &answer, before)?,
+            Some(Command::Print) => holds(self.model == *before, "printing changed the record")?,
+            Some(command) => match command.call() {
+                Some(call) => self.call(call, answer.numbers(), before)?,
+                None => self.changed_record()?,
+            },
         }
         Ok(answer)
     }
 
-    fn call(&mut self, call: Command, answer: &Answer, before: &Model) -> Check {
-        let refusal = match answer {
-            Answer::No(refusal) => Some(*refusal),
-            _ => None,
-        };
+    fn call(&mut self, call: Call, answer: Answer, before: &Model) -> Check {
         let expected = self.roster.refusal(call, before.pending());
-        holds(refusal == expected, "not the table's refusal")?;
-        if refusal.is_some() {
+        let expected = expected.map_or(0, Refusal::number);
+        holds(answer.refusal == expected, "not the table's refusal")?;
+        if expected != 0 {
             return holds(self.model == *before, "a refused call changed the record");
         }
         self.roster.accept(call);
+        if call.changes_bytes() {
+            self.changed_record()?;
+        } else {
+            holds(self.model == *before, "a reading call changed the record")?;
+        }
         match call {
-            Command::Find { start, number } => self.search(start, number, answer, before),
-            Command::Print => holds(self.model == *before, "printing changed the record"),
-            Command::Deliver(message) => {
-                self.delivery(message, before)?;
-                self.changed_record()
-            }
-            _ => self.changed_record(),
+            Call::Deliver(message) => self.delivery(message, before),
+            Call::Bundle { limit } => bundles::check_call(before, limit, answer, &self.model),
+            Call::Find { seat, number } => self.search(seat, number, answer),
+            _ => joining::check(call, before, &self.model),
         }
     }
 
@@ -143,7 +173,7 @@ impl Checked {
     fn delivery(&self, message: Message, before: &Model) -> Check {
         let others = |model: &Model| -> Vec<_> {
             let other = |(seat, _): &(u8, &_)| *seat != message.to;
-            let lots = model.seated().filter(other);
+            let lots = model.taken().filter(other);
             lots.map(|(seat, lot)| (seat, lot.clone())).collect()
         };
         holds(
@@ -157,13 +187,17 @@ impl Checked {
         )
     }
 
-    fn changed_record(&self) -> Check {
+    fn changed_record(&mut self) -> Check {
         holds(self.model.is_sound(), "the record is not sound")?;
         holds(
-            self.roster.agrees_with(&self.model),
+            self.roster.agrees_with(&mut self.model),
             "readings are not the roster's",
         )?;
         let members = self.roster.members();
+        holds(
+            self.model.members() == members,
+            "the members are not the roster's",
+        )?;
         let right = self.reads_as_graph(&members);
         if self.model.pending().is_empty() {
             holds(right, "settled links are not the graph of the members")?;
@@ -186,19 +220,19 @@ impl Checked {
         members.iter().zip(graph::links(members)).all(reads)
     }
 
-    fn search(&self, start: u8, scanned: u64, answer: &Answer, before: &Model) -> Check {
-        holds(self.model == *before, "a search changed the record")?;
-        let Answer::Found(Found { holder, hops }) = *answer else {
-            return Err("a search gave no answer");
-        };
-        let lots = self.roster.lots();
+    fn search(&self, start: u8, scanned: u64, answer: Answer) -> Check {
+        let lots = self.roster.seated();
         let scan = Scan::of(&lots, start, scanned).ok_or("a search started from no lot")?;
-        let right = scan.found();
+        let right = Answer::found(scan.found());
+        let [holder, hops, ..] = right.values;
         holds(
-            holder == right.holder,
+            answer.values[0] == holder,
             "an accepted search gave another lot",
         )?;
-        holds(hops == right.hops, "an accepted search counted other hops")?;
+        holds(
+            answer.values[1] == hops,
+            "an accepted search counted other hops",
+        )?;
         let most = lots.len() as u32 - 1;
         holds(
             scan.moves <= most && scan.steps() <= most,

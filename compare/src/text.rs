@@ -1,6 +1,8 @@
 //! The command language of the program `lots`: what a line means, and every
 //! byte of the answer.
 
+mod calls;
+
 use crate::graph::{self, List};
 use crate::model::{Counts, Found, Message, Model, Phase, Refusal};
 use std::io::Write;

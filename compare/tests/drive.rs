@@ -18,10 +18,10 @@ fn last_line(output: &Output) -> String {
     text.lines().last().unwrap_or_default().to_string()
 }
 
-/// The last line of a run of that many generated scripts.
+/// The last line of a run of that many generated scripts, and as many lists.
 fn all_passed(generated: usize) -> String {
-    let fixed = compare::script::fixed::scripts().len();
-    format!("{} passed, 0 failed", fixed + generated)
+    let fixed = compare::script::fixed::scripts().len() + compare::list::fixed::lists().len();
+    format!("{} passed, 0 failed", fixed + 2 * generated)
 }
 
 /// A shell script as program.

@@ -2,10 +2,10 @@
 
 use crate::NO_SEAT;
 
-/// A seated lot.
+/// A lot, seated or reserved.
 #[derive(Clone, Copy, PartialEq, Eq, Hash, Debug)]
 pub struct Lot {
-    /// Whether it stays.
+    /// Whether it stays, leaves or is reserved.
     pub state: State,
     /// Its number; any value is allowed.
     pub number: u64,
@@ -13,14 +13,16 @@ pub struct Lot {
     pub vector: u8,
 }
 
-/// The state of a seated lot. A free seat, document 01's state 0, has no lot to
-/// read.
+/// The state of a lot. A free seat, document 01's state 0, has no lot to read.
 #[derive(Clone, Copy, PartialEq, Eq, Hash, Debug)]
 pub enum State {
-    /// It stays.
+    /// It is seated and stays.
     Staying = 1,
-    /// It is marked as leaving and goes on taking part.
+    /// It is seated, marked as leaving, and goes on taking part.
     Leaving = 2,
+    /// It is not seated: its seat and its number are kept for it, until it is
+    /// [confirmed](crate::Record::confirm) or [given back](crate::Record::give_back).
+    Reserved = 3,
 }
 
 impl State {
@@ -28,6 +30,7 @@ impl State {
         match number {
             1 => State::Staying,
             2 => State::Leaving,
+            3 => State::Reserved,
             _ => panic!("the library answered with state {number}"),
         }
     }
@@ -36,7 +39,7 @@ impl State {
 /// The phase of a record.
 #[derive(Clone, Copy, PartialEq, Eq, Hash, Debug)]
 pub enum Phase {
-    /// Lots may join and leave.
+    /// Lots may be reserved, join and leave.
     Open = 0,
     /// The leaving lots are being taken out of the lists.
     Clearing = 1,
@@ -55,7 +58,7 @@ impl Phase {
 /// A record in three numbers.
 #[derive(Clone, Copy, PartialEq, Eq, Hash, Debug)]
 pub struct Counts {
-    /// The seated lots, staying and leaving.
+    /// The seated lots, staying and leaving; reserved ones are left out.
     pub lots: u8,
     /// The phase.
     pub phase: Phase,

@@ -1,9 +1,11 @@
 //! The record and its calls.
 
+mod joining;
+
 use crate::pending::{next_in, PendingMessages};
 use crate::reading::{seat_or_none, Counts, Found, Lot, Message, Phase, State};
 use crate::refusal::Refusal;
-use crate::{sys, NO_SEAT, SIZE};
+use crate::{sys, SIZE};
 use core::fmt;
 
 /// A record of lots in the bytes of `B`, owned or borrowed.
@@ -91,39 +93,6 @@ impl<B: AsMut<[u8]>> Record<B> {
         let bytes = self.bytes.as_mut();
         // SAFETY: the slice is ours to write for its length.
         accepted(unsafe { sys::lots_open(bytes.as_mut_ptr(), bytes.len()) })
-    }
-
-    /// Seats a lot, staying and without links, and sends its contact a MEET about
-    /// it at level 0. The first lot has no contact, and nothing is sent.
-    ///
-    /// `Some(255)` is the same as `None`.
-    ///
-    /// Refusals: 1 wrong size, 2 unsound, 3 no such seat (also of the contact),
-    /// 7 clearing, 4 seat taken, 5 number in use, 6 no contact.
-    ///
-    /// ```
-    /// use lots_record::{Message, Record, Refusal};
-    ///
-    /// let mut record = Record::new();
-    /// record.join(0, 100, 0, None)?;
-    /// record.join(1, 200, 128, Some(0))?;
-    /// assert!(record.is_pending(Message::new(1, 0, 1, 0, 0))?);
-    /// assert_eq!(record.join(1, 300, 64, Some(0)), Err(Refusal::SeatTaken));
-    /// # Ok::<(), Refusal>(())
-    /// ```
-    #[doc(alias = "lots_join")]
-    pub fn join(
-        &mut self,
-        seat: u8,
-        number: u64,
-        vector: u8,
-        contact: Option<u8>,
-    ) -> Result<(), Refusal> {
-        let bytes = self.bytes.as_mut();
-        let (record, length) = (bytes.as_mut_ptr(), bytes.len());
-        let contact = contact.unwrap_or(NO_SEAT);
-        // SAFETY: the slice is ours to write for its length.
-        accepted(unsafe { sys::lots_join(record, length, seat, number, vector, contact) })
     }
 
     /// Marks a staying lot as leaving. It goes on taking part until the turns
@@ -214,7 +183,8 @@ impl<B: AsMut<[u8]>> Record<B> {
     /// when the leavers' seats become free. Open and without leavers, nothing
     /// changes.
     ///
-    /// On the way to clearing every leaver sends GOING to each of its links.
+    /// On the way to clearing every leaver sends GOING to each of its links. Reserved
+    /// lots stay as they are.
     ///
     /// Refusals: 1 wrong size, 2 unsound, 11 messages left.
     ///
@@ -253,9 +223,9 @@ impl<B: AsRef<[u8]>> Record<B> {
         self.bytes.as_ref()
     }
 
-    /// Looks up a scanned number from the lot on a seat: the holder is the staying
-    /// lot with the largest number not above it, none if no staying lot has such a
-    /// number.
+    /// Looks up a scanned number from the seated lot on a seat: the holder is the
+    /// staying lot with the largest number not above it, none if no staying lot has
+    /// such a number.
     ///
     /// Every accepted scan gives the right holder. It waits for a settled record:
     /// phase open, nothing pending, and [`check`](Record::check) would say yes.
@@ -296,7 +266,7 @@ impl<B: AsRef<[u8]>> Record<B> {
         Ok(Found { holder, hops })
     }
 
-    /// Whether the links of all lots, while clearing of the staying ones, are
+    /// Whether the links of all seated lots, while clearing of the staying ones, are
     /// those of the skip graph: Constraints 1 to 6 hold, in one level-0 list.
     ///
     /// Refusals: 1 wrong size, 2 unsound.
@@ -320,7 +290,7 @@ impl<B: AsRef<[u8]>> Record<B> {
         Ok(yes == 1)
     }
 
-    /// Reads the lot on a seat.
+    /// Reads the lot on a seat, seated or reserved.
     ///
     /// Refusals: 1 wrong size, 2 unsound, 3 no such seat, 8 empty seat.
     ///
@@ -350,8 +320,8 @@ impl<B: AsRef<[u8]>> Record<B> {
         })
     }
 
-    /// Reads a link of the lot on a seat: the neighbour's seat, or none. The side
-    /// is [`LEFT`](crate::LEFT) or [`RIGHT`](crate::RIGHT).
+    /// Reads a link of the seated lot on a seat: the neighbour's seat, or none. The
+    /// side is [`LEFT`](crate::LEFT) or [`RIGHT`](crate::RIGHT).
     ///
     /// Refusals: 1 wrong size, 2 unsound, 3 no such seat, 12 no such level (or
     /// side), 8 empty seat.
@@ -448,8 +418,8 @@ impl<B: AsRef<[u8]>> Record<B> {
         PendingMessages::over(self.as_bytes())
     }
 
-    /// Reads the count of seated lots, the phase and the count of pending
-    /// messages.
+    /// Reads the count of seated lots, which leaves reserved ones out, the phase and
+    /// the count of pending messages.
     ///
     /// Refusals: 1 wrong size, 2 unsound.
     ///
@@ -522,8 +492,8 @@ mod tests {
     use super::*;
 
     #[test]
-    #[should_panic = "refusal 14"]
-    fn there_are_thirteen_refusals() {
-        let _ = accepted(14);
+    #[should_panic = "refusal 15"]
+    fn there_are_fourteen_refusals() {
+        let _ = accepted(15);
     }
 }

@@ -6,8 +6,8 @@ use core::fmt;
 /// Why a call was refused, by the number and term of the table.
 ///
 /// A refused call changes no byte of the record. Of several refusals that
-/// apply, the first in this order is given: 1, 2, 3, 12, 7, 4, 8, 13, 5, 6, 9,
-/// 10, 11.
+/// apply, the first in this order is given: 1, 2, 3, 12, 7, 4, 14, 8, 13, 5, 6,
+/// 9, 10, 11.
 ///
 /// ```
 /// use lots_record::{Record, Refusal};
@@ -26,15 +26,16 @@ pub enum Refusal {
     Unsound = 2,
     /// 3: a seat above 63.
     NoSuchSeat = 3,
-    /// 4: a lot joins at a seat that is not free.
+    /// 4: the seat to take is not free: a lot is seated or reserved there.
     SeatTaken = 4,
-    /// 5: a seated lot has the number of the lot that joins.
+    /// 5: a seated or reserved lot has the number.
     NumberInUse = 5,
-    /// 6: the contact's seat is free, or there is no contact while lots are seated.
+    /// 6: no lot is seated on the contact's seat, or there is no contact while lots
+    /// are seated.
     NoContact = 6,
-    /// 7: no lot joins or leaves in phase clearing.
+    /// 7: no lot joins, is reserved, is confirmed or leaves in phase clearing.
     InClearing = 7,
-    /// 8: no lot has this seat.
+    /// 8: no lot is seated there; to read a lot, none is reserved there either.
     EmptySeat = 8,
     /// 9: the lot is leaving.
     AlreadyLeaving = 9,
@@ -47,10 +48,12 @@ pub enum Refusal {
     /// 13: no scan while messages are pending, in phase clearing, or if the check
     /// says no.
     Unsettled = 13,
+    /// 14: no lot is reserved on the seat to confirm or to give back.
+    NotReserved = 14,
 }
 
 /// The table, ascending by number from 1.
-const TABLE: [(Refusal, &str); 13] = [
+const TABLE: [(Refusal, &str); 14] = [
     (Refusal::WrongSize, "wrong size"),
     (Refusal::Unsound, "unsound"),
     (Refusal::NoSuchSeat, "no such seat"),
@@ -64,29 +67,30 @@ const TABLE: [(Refusal, &str); 13] = [
     (Refusal::MessagesLeft, "messages left"),
     (Refusal::NoSuchLevel, "no such level"),
     (Refusal::Unsettled, "unsettled"),
+    (Refusal::NotReserved, "not reserved"),
 ];
 
 impl Refusal {
-    /// The number of the table, 1 to 13.
+    /// The number of the table, 1 to 14.
     ///
     /// ```
     /// use lots_record::Refusal;
     ///
     /// assert_eq!(Refusal::WrongSize.number(), 1);
-    /// assert_eq!(Refusal::Unsettled.number(), 13);
+    /// assert_eq!(Refusal::NotReserved.number(), 14);
     /// ```
     pub fn number(self) -> u8 {
         self as u8
     }
 
-    /// The refusal of that number, or none outside 1 to 13.
+    /// The refusal of that number, or none outside 1 to 14.
     ///
     /// ```
     /// use lots_record::Refusal;
     ///
     /// assert_eq!(Refusal::from_number(5), Some(Refusal::NumberInUse));
     /// assert_eq!(Refusal::from_number(0), None);
-    /// assert_eq!(Refusal::from_number(14), None);
+    /// assert_eq!(Refusal::from_number(15), None);
     /// ```
     pub fn from_number(number: u8) -> Option<Refusal> {
         let row = usize::from(number).checked_sub(1)?;

@@ -16,6 +16,12 @@ extern "C" {
         contact: u8,
     ) -> u8;
 
+    pub fn lots_reserve(record: *mut u8, length: usize, seat: u8, number: u64, vector: u8) -> u8;
+
+    pub fn lots_confirm(record: *mut u8, length: usize, seat: u8, contact: u8) -> u8;
+
+    pub fn lots_give_back(record: *mut u8, length: usize, seat: u8) -> u8;
+
     pub fn lots_leave(record: *mut u8, length: usize, seat: u8) -> u8;
 
     pub fn lots_deliver(

@@ -6,6 +6,7 @@ mod blind;
 mod bundles;
 mod holders;
 mod meetings;
+mod reservations;
 mod searches;
 
 use crate::judge::{Difference, Judge, Memory};

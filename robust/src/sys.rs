@@ -82,6 +82,15 @@ pub fn make(memory: &mut [u8], record: Range<usize>, call: Call, fill: u64) -> O
                 let refusal = lots_join(start, length, seat, number, vector, contact);
                 (refusal, NO_OUTPUT)
             }
+            Call::Reserve {
+                seat,
+                number,
+                vector,
+            } => (lots_reserve(start, length, seat, number, vector), NO_OUTPUT),
+            Call::Confirm { seat, contact } => {
+                (lots_confirm(start, length, seat, contact), NO_OUTPUT)
+            }
+            Call::GiveBack { seat } => (lots_give_back(start, length, seat), NO_OUTPUT),
             Call::Leave { seat } => (lots_leave(start, length, seat), NO_OUTPUT),
             Call::Deliver(m) => (deliver(start, length, m), NO_OUTPUT),
             Call::Bundle { limit } => {

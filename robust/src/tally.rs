@@ -1,11 +1,13 @@
 //! How often each call met each answer.
 
 pub(crate) mod leavers;
+mod reserved;
 mod searches;
 
 use compare::call::{Answer, Call, NAMES, REFUSALS};
 use compare::model::Refusal;
 use leavers::Leavers;
+use reserved::Reserved;
 use searches::Searches;
 use std::fmt;
 
@@ -47,6 +49,7 @@ pub struct Tally {
     cases: [u64; CASES.len()],
     searches: Searches,
     leavers: Leavers,
+    reserved: Reserved,
     /// Calls that were made on the model too.
     pub on_model: u64,
 }
@@ -55,6 +58,7 @@ impl Tally {
     /// Takes in a call of a record.
     pub fn count(&mut self, call: Call, answer: Answer, record: &[u8], source: Source) {
         self.calls[call.index()][usize::from(answer.refusal)] += 1;
+        self.reserved.count(call, answer, record, source);
         if let Call::Find { seat, number } = call {
             match answer.refusal {
                 0 => self.leavers.count(seat, number, record, source),
@@ -102,6 +106,7 @@ impl Tally {
         gaps.extend(never.map(|(case, _)| format!("{case} never met")));
         gaps.extend(self.searches.gaps());
         gaps.extend(self.leavers.gaps());
+        gaps.extend(self.reserved.gaps());
         gaps
     }
 }
@@ -133,7 +138,7 @@ impl fmt::Display for Tally {
             write!(f, "  {case}: {count}")?;
         }
         writeln!(f)?;
-        write!(f, "{}{}", self.searches, self.leavers)
+        write!(f, "{}{}{}", self.searches, self.leavers, self.reserved)
     }
 }
 
@@ -151,8 +156,9 @@ mod tests {
             tally.gaps()
         };
         let searches = Searches::default().gaps().len() + Leavers::default().gaps().len();
+        let reserved = Reserved::default().gaps().len();
         let allowed: usize = REFUSALS.iter().map(|rows| rows.len() + 1).sum();
-        let all = allowed + CASES.len() + searches;
+        let all = allowed + CASES.len() + searches + reserved;
         assert_eq!(count(Call::Turn, Answer::refused(11)).len(), all - 1);
         let yes = Answer::accepted([1, 0, 0, 0, 0]);
         assert_eq!(count(Call::Check, yes).len(), all - 3);

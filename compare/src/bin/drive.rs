@@ -1,12 +1,17 @@
 //! Runs scripts, fixed ones and generated from a seed, on the model and on a
-//! program, and compares every byte of their outputs.
+//! program, and compares every byte of their outputs; and lists of calls on the
+//! model alone.
 
+use compare::call::Call;
 use compare::child::{self, End, Output, Running};
+use compare::list;
 use compare::reach::{self, Mark};
+use compare::reserved::{self, Met};
 use compare::script::{self, fixed, Script};
 use compare::selfcheck::{self, Failure, Run, Searches};
 use compare::{shrink, text};
 use std::collections::BTreeSet;
+use std::fmt;
 use std::io::{self, Write};
 use std::path::{Path, PathBuf};
 use std::process::ExitCode;
@@ -15,7 +20,7 @@ use std::time::{Duration, Instant};
 const USAGE: &str = "usage:
   drive --program PATH [--scripts N] [--seed S] [--lines L]
       compare the program's output with the model's on the fixed scripts and on
-      N others of about L lines
+      N others of about L lines, and check the model on as many lists of L / 2 calls
   drive --self N [--seed S] [--lines L]
       only check the model itself
   drive --script I [--seed S] [--lines L]
@@ -128,47 +133,96 @@ impl Totals {
     }
 }
 
+/// What the lists of calls so far gave together.
+#[derive(Default)]
+struct Lists {
+    lists: usize,
+    calls: usize,
+    met: BTreeSet<Met>,
+}
+
+impl Lists {
+    /// Checks the model on a list; whether it passed. If not, says so under its
+    /// name, with the calls that show it.
+    fn pass(&mut self, list: &[Call], name: &str) -> bool {
+        let Err(failure) = selfcheck::run_list(list) else {
+            self.lists += 1;
+            self.calls += list.len();
+            self.met.extend(list::met(list));
+            return true;
+        };
+        println!(
+            "list {name}: the model failed its own check: {}",
+            failure.what
+        );
+        let mut same = |calls: &[Call]| {
+            selfcheck::run_list(calls).is_err_and(|other| other.what == failure.what)
+        };
+        for call in shrink::shrink(list, &mut same) {
+            println!("{call:?}");
+        }
+        false
+    }
+}
+
 fn drive(options: &Options) -> io::Result<ExitCode> {
     let start = Instant::now();
     let (mut fixed, mut generated) = (Totals::default(), Totals::default());
+    let (mut fixed_lists, mut lists) = (Lists::default(), Lists::default());
     let mut passed = true;
     for (name, script) in fixed::scripts() {
         passed = passed && fixed.pass(options, &script, &name)?;
     }
+    for (name, list) in list::fixed::lists() {
+        passed = passed && fixed_lists.pass(&list::fixed::calls(&list), name);
+    }
     for index in (0..options.scripts).take_while(|_| passed) {
         let script = script::generate(options.seed, index, options.lines);
+        let list = list::generate(options.seed, index, options.lines / 2);
         let name = format!("{index} of seed {}", options.seed);
-        if !generated.pass(options, &script, &name)? {
+        if !generated.pass(options, &script, &name)? || !lists.pass(&list, &name) {
             passed = false;
             break;
         }
     }
     let scripts = fixed.scripts + generated.scripts;
+    let all = scripts + fixed_lists.lists + lists.lists;
     if !passed {
-        println!("{scripts} passed, 1 failed");
+        println!("{all} passed, 1 failed");
         return Ok(ExitCode::FAILURE);
     }
     let seconds = start.elapsed().as_secs_f64();
     let lines = fixed.lines + generated.lines;
     let deliveries = fixed.deliveries + generated.deliveries;
-    print_marks(&fixed.marks, &generated.marks);
+    let (of_fixed, of_generated) = (&fixed.marks, &generated.marks);
+    print_reached(("marks", "scripts"), &reach::all(), of_fixed, of_generated);
     println!("searches of fixed scripts: {}", fixed.searches);
     println!("searches of generated scripts: {}", generated.searches);
-    println!("{lines} lines, {deliveries} deliveries, {seconds:.1} seconds");
-    println!("{scripts} passed, 0 failed");
+    let (of_fixed, of_generated) = (&fixed_lists.met, &lists.met);
+    let what = ("cases of reserved lots", "lists");
+    print_reached(what, &reserved::all(), of_fixed, of_generated);
+    let calls = fixed_lists.calls + lists.calls;
+    println!(
+        "{lines} lines, {deliveries} deliveries, {calls} calls of lists, {seconds:.1} seconds"
+    );
+    println!("{all} passed, 0 failed");
     Ok(ExitCode::SUCCESS)
 }
 
-/// How many of the marks the scripts reach, and which the generated ones leave
-/// to the fixed ones.
-fn print_marks(fixed: &BTreeSet<Mark>, generated: &BTreeSet<Mark>) {
-    let all = reach::all();
-    let reached = |marks: &BTreeSet<Mark>| all.intersection(marks).count();
+/// How much of all there is to reach the fixed ones and the generated ones reach, and
+/// what the generated ones leave to the fixed ones.
+fn print_reached<T: Ord + fmt::Debug>(
+    (what, by): (&str, &str),
+    all: &BTreeSet<T>,
+    fixed: &BTreeSet<T>,
+    generated: &BTreeSet<T>,
+) {
+    let reached = |some: &BTreeSet<T>| all.intersection(some).count();
     let (by_fixed, by_generated) = (reached(fixed), reached(generated));
     let of = all.len();
-    println!("{of} marks: fixed scripts reach {by_fixed}, generated ones {by_generated}");
+    println!("{of} {what}: fixed {by} reach {by_fixed}, generated ones {by_generated}");
     let left: Vec<_> = all.difference(generated).collect();
-    println!("left to the fixed scripts: {left:?}");
+    println!("left to the fixed {by}: {left:?}");
 }
 
 enum Trouble<'a> {

@@ -1,11 +1,13 @@
 //! Calls with arguments that mostly mean something in a given record.
 
-use super::{entry_at, state};
+mod joining;
+
+use super::{entry_at, is_reserved, is_seated, state};
 use crate::call::Call;
 use crate::graph::SEATS;
 use crate::lent::place::{NUMBER_AT, PENDING, PENDING_AT, PLACES, VECTOR_AT};
 use crate::lent::{message_at, SIZE};
-use crate::model::{Message, NO_CONTACT};
+use crate::model::Message;
 use crate::random::Random;
 use crate::script::Pools;
 
@@ -24,12 +26,17 @@ pub enum Style {
     Scanning,
     /// The same while lots leave and turns are rare.
     Closing,
+    /// Reservations, confirmed or given back, while all else goes on.
+    Reserving,
 }
 
 #[derive(Clone, Copy)]
 enum Name {
     Open,
     Join,
+    Reserve,
+    Confirm,
+    GiveBack,
     Leave,
     Deliver,
     Bundle,
@@ -42,38 +49,46 @@ enum Name {
 }
 
 impl Style {
-    pub const ALL: [Style; 6] = [
+    pub const ALL: [Style; 7] = [
         Style::Busy,
         Style::Draining,
         Style::Turning,
         Style::Asking,
         Style::Scanning,
         Style::Closing,
+        Style::Reserving,
     ];
 
-    fn weights(self) -> [(Name, usize); 10] {
-        let [open, join, leave, deliver, bundle, settle, turn, find, check, read] = match self {
-            Style::Busy => [1, 120, 40, 150, 15, 0, 10, 20, 10, 30],
-            Style::Draining => [0, 4, 2, 400, 20, 0, 10, 10, 10, 20],
-            Style::Turning => [1, 20, 40, 200, 40, 0, 90, 10, 20, 20],
-            Style::Asking => [1, 10, 5, 50, 5, 0, 10, 100, 80, 150],
-            Style::Scanning => [0, 15, 1, 5, 0, 60, 20, 400, 10, 10],
-            Style::Closing => [0, 15, 60, 5, 0, 60, 10, 400, 10, 10],
+    fn weights(self) -> [(Name, usize); NAMES.len()] {
+        let weights = match self {
+            Style::Busy => [1, 120, 15, 12, 4, 40, 150, 15, 0, 10, 20, 10, 30],
+            Style::Draining => [0, 4, 2, 2, 1, 2, 400, 20, 0, 10, 10, 10, 20],
+            Style::Turning => [1, 20, 6, 6, 4, 40, 200, 40, 0, 90, 10, 20, 20],
+            Style::Asking => [1, 10, 4, 2, 2, 5, 50, 5, 0, 10, 100, 80, 150],
+            Style::Scanning => [0, 15, 4, 3, 2, 1, 5, 0, 60, 20, 400, 10, 10],
+            Style::Closing => [0, 15, 4, 3, 2, 60, 5, 0, 60, 10, 400, 10, 10],
+            Style::Reserving => [1, 20, 90, 60, 40, 20, 60, 10, 20, 30, 20, 10, 30],
         };
-        [
-            (Name::Open, open),
-            (Name::Join, join),
-            (Name::Leave, leave),
-            (Name::Deliver, deliver),
-            (Name::Bundle, bundle),
-            (Name::Settle, settle),
-            (Name::Turn, turn),
-            (Name::Find, find),
-            (Name::Check, check),
-            (Name::Read, read),
-        ]
+        std::array::from_fn(|index| (NAMES[index], weights[index]))
     }
 }
+
+/// In the order of the weights.
+const NAMES: [Name; 13] = [
+    Name::Open,
+    Name::Join,
+    Name::Reserve,
+    Name::Confirm,
+    Name::GiveBack,
+    Name::Leave,
+    Name::Deliver,
+    Name::Bundle,
+    Name::Settle,
+    Name::Turn,
+    Name::Find,
+    Name::Check,
+    Name::Read,
+];
 
 /// A call for a record of the right size, sound or not.
 pub fn call(bytes: &[u8], style: Style, pools: &Pools, random: &mut Random) -> Call {
@@ -86,6 +101,11 @@ pub fn call(bytes: &[u8], style: Style, pools: &Pools, random: &mut Random) -> C
     match chooser.random.pick_weighted(&style.weights()) {
         Name::Open => Call::Open,
         Name::Join => chooser.join(),
+        Name::Reserve => chooser.reserve(),
+        Name::Confirm => chooser.confirm(),
+        Name::GiveBack => Call::GiveBack {
+            seat: chooser.mostly_reserved(),
+        },
         Name::Leave => Call::Leave {
             seat: chooser.seat(),
         },
@@ -111,32 +131,6 @@ struct Chooser<'a> {
 }
 
 impl Chooser<'_> {
-    /// Mostly a join that is accepted, if there is one.
-    fn join(&mut self) -> Call {
-        let free = self.some_seat(|state| state == 0);
-        let contact = self.some_seat(|state| state != 0);
-        let unlikely = self.random.below(8);
-        let seat = match (unlikely, free) {
-            (0, _) | (_, None) => self.seat(),
-            (_, Some(seat)) => seat,
-        };
-        let contact = match (unlikely, contact) {
-            (1, _) => self.seat(),
-            (2, _) | (_, None) => NO_CONTACT,
-            (_, Some(seat)) => seat,
-        };
-        let number = match unlikely {
-            3 => self.number(),
-            _ => self.random.pick(&self.pools.numbers),
-        };
-        Call::Join {
-            seat,
-            number,
-            vector: self.random.pick(&self.pools.vectors),
-            contact,
-        }
-    }
-
     fn reading(&mut self) -> Call {
         let seat = self.seat();
         match self.random.below(6) {
@@ -153,17 +147,16 @@ impl Chooser<'_> {
         }
     }
 
-    /// Mostly the seat of a lot, sometimes any or an edge.
+    /// Mostly the seat of a seated lot, sometimes of a reserved one, any or an
+    /// edge.
     fn seat(&mut self) -> u8 {
-        let edges = [0, 62, 63, 64, 65, 127, 128, 191, 254, 255];
-        match self.random.below(10) {
-            0 => self.random.pick(&edges),
-            1 => self.random.below(SEATS) as u8,
-            _ => {
-                let seated = self.some_seat(|state| state != 0);
-                seated.unwrap_or(self.random.pick(&self.pools.seats))
-            }
-        }
+        let seat = match self.random.below(12) {
+            0 => return self.random.pick(&EDGES),
+            1 => return self.random.below(SEATS) as u8,
+            2 | 3 => self.some_seat(|state| state != 0),
+            _ => self.some_seat(is_seated),
+        };
+        seat.unwrap_or(self.random.pick(&self.pools.seats))
     }
 
     /// A seat of the pool, or after it, whose state is wanted.
@@ -282,6 +275,9 @@ impl Chooser<'_> {
         self.random.pick(&[0, 0, 0, 0, 1, 1, 1, 1, 2, 255])
     }
 }
+
+/// The first and the last seats, and numbers that are none.
+const EDGES: [u8; 10] = [0, 62, 63, 64, 65, 127, 128, 191, 254, 255];
 
 /// The first set bit, bytes taken eight at a time.
 fn first_set(bytes: &[u8]) -> Option<usize> {

@@ -1,5 +1,7 @@
 //! Damage to the bytes of a record. Some of it leaves the record sound.
 
+mod reserved;
+
 use super::{entry_at, state};
 use crate::graph::{LEVELS, SEATS};
 use crate::lent::place::{
@@ -10,7 +12,7 @@ use crate::random::Random;
 
 type Damage = fn(&mut [u8], &mut Random);
 
-const DAMAGES: [(Damage, usize); 16] = [
+const DAMAGES: [(Damage, usize); 17] = [
     (bit_flipped, 4),
     (entry_bit_flipped, 6),
     (byte_replaced, 3),
@@ -26,6 +28,7 @@ const DAMAGES: [(Damage, usize); 16] = [
     (state_changed, 8),
     (number_copied, 4),
     (vector_bit_flipped, 5),
+    (reserved::damaged, 12),
     (all_replaced, 2),
 ];
 

@@ -7,25 +7,26 @@ use crate::lent::place::{
     link_at, ENTRY, LINKS_AT, NO_LINK, NUMBER_AT, PENDING_AT, PHASE_AT, STATE_AT, VECTOR_AT,
 };
 use crate::lent::{place_of, SIZE};
-use crate::model::{shared_bits, Message};
+use crate::model::{shared_bits, Message, State};
 use crate::random::Random;
 use crate::script::Pools;
 
+/// A seated lot.
 struct Lot {
     member: Member,
     leaving: bool,
     links: Links,
 }
 
-/// Seats all lots of the pool, or some of them.
+/// Seats or reserves all lots of the pool, or some of them.
 pub fn sound_record(pools: &Pools, random: &mut Random) -> Vec<u8> {
     if random.one_in(8) {
         return settled_record(pools, random);
     }
     let clearing = random.one_in(2);
-    let mut lots = some_lots(pools, random);
+    let (mut lots, reserved) = some_lots(pools, random);
     link(&mut lots, clearing, random);
-    let mut bytes = written(&lots, clearing);
+    let mut bytes = written(&lots, &reserved, clearing);
     let some = random.below(100);
     for _ in 0..random.pick(&[0, 0, 0, 1, 2, 5, 20, some]) {
         if let Some(message) = some_message(&lots, clearing, random) {
@@ -40,27 +41,37 @@ pub fn sound_record(pools: &Pools, random: &mut Random) -> Vec<u8> {
 /// pending; some lots may be leaving, or all.
 pub fn settled_record(pools: &Pools, random: &mut Random) -> Vec<u8> {
     let clearing = false;
-    let mut lots = some_lots(pools, random);
+    let (mut lots, reserved) = some_lots(pools, random);
     link_members(&mut lots, clearing);
-    written(&lots, clearing)
+    written(&lots, &reserved, clearing)
 }
 
-fn some_lots(pools: &Pools, random: &mut Random) -> Vec<Lot> {
+/// Seated lots, without links, and reserved ones.
+fn some_lots(pools: &Pools, random: &mut Random) -> (Vec<Lot>, Vec<Member>) {
     let most = pools.seats.len().min(pools.numbers.len());
     let some = random.below(most + 1);
     let count = random.pick(&[some, most]);
     let leaving_of_8 = random.pick(&[0, 1, 4, 8]);
+    let reserved_of_8 = random.pick(&[0, 0, 1, 2, 4, 8]);
     let mut numbers = pools.numbers.clone();
-    let lot = |&seat: &u8| Lot {
-        member: Member {
+    let (mut lots, mut reserved) = (Vec::new(), Vec::new());
+    for &seat in &pools.seats[..count] {
+        let member = Member {
             seat,
             number: numbers.swap_remove(random.below(numbers.len())),
             vector: random.pick(&pools.vectors),
-        },
-        leaving: random.below(8) < leaving_of_8,
-        links: NO_LINKS,
-    };
-    pools.seats[..count].iter().map(lot).collect()
+        };
+        if random.below(8) < reserved_of_8 {
+            reserved.push(member);
+            continue;
+        }
+        lots.push(Lot {
+            member,
+            leaving: random.below(8) < leaving_of_8,
+            links: NO_LINKS,
+        });
+    }
+    (lots, reserved)
 }
 
 /// Links that are the graph of the members, two graphs of a part of them each,
@@ -122,18 +133,22 @@ fn some_fitting(
     fits.then_some(y.seat)
 }
 
-fn written(lots: &[Lot], clearing: bool) -> Vec<u8> {
+fn written(lots: &[Lot], reserved: &[Member], clearing: bool) -> Vec<u8> {
     let mut bytes = vec![0; SIZE];
     bytes[PHASE_AT] = clearing.into();
     for seat in 0..graph::SEATS {
         bytes[entry_at(seat) + LINKS_AT..entry_at(seat) + ENTRY].fill(NO_LINK);
     }
+    for member in reserved {
+        write(&mut bytes, member, State::Reserved);
+    }
     for lot in lots {
-        let at = entry_at(lot.member.seat.into());
-        let entry = &mut bytes[at..at + ENTRY];
-        entry[STATE_AT] = 1 + u8::from(lot.leaving);
-        entry[NUMBER_AT..VECTOR_AT].copy_from_slice(&lot.member.number.to_be_bytes());
-        entry[VECTOR_AT] = lot.member.vector;
+        let state = if lot.leaving {
+            State::Leaving
+        } else {
+            State::Staying
+        };
+        let entry = write(&mut bytes, &lot.member, state);
         for (level, pair) in lot.links.iter().enumerate() {
             for side in SIDES {
                 let link = pair[side as usize].unwrap_or(NO_LINK);
@@ -142,6 +157,16 @@ fn written(lots: &[Lot], clearing: bool) -> Vec<u8> {
         }
     }
     bytes
+}
+
+/// Its entry, with the links to write.
+fn write<'a>(bytes: &'a mut [u8], lot: &Member, state: State) -> &'a mut [u8] {
+    let at = entry_at(lot.seat.into());
+    let entry = &mut bytes[at..at + ENTRY];
+    entry[STATE_AT] = state as u8;
+    entry[NUMBER_AT..VECTOR_AT].copy_from_slice(&lot.number.to_be_bytes());
+    entry[VECTOR_AT] = lot.vector;
+    entry
 }
 
 /// A message that fits its kind and the phase; none if the lots drawn do not.

@@ -100,6 +100,7 @@ fn read_entry(entry: &[u8]) -> Option<Option<Lot>> {
         0 => return Some(None),
         1 => State::Staying,
         2 => State::Leaving,
+        3 => State::Reserved,
         _ => return None,
     };
     let number = entry[NUMBER_AT..VECTOR_AT].iter();

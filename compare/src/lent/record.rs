@@ -32,6 +32,17 @@ impl<'a> Record<'a> {
         self.entry(seat)[STATE_AT] == 0
     }
 
+    /// Whether the seat's lot is staying or leaving.
+    #[inline]
+    pub fn is_seated(self, seat: u8) -> bool {
+        !self.is_free(seat) && !self.is_reserved(seat)
+    }
+
+    #[inline]
+    pub fn is_reserved(self, seat: u8) -> bool {
+        self.entry(seat)[STATE_AT] == State::Reserved as u8
+    }
+
     #[inline]
     pub fn is_pending(self, place: usize) -> bool {
         self.0[PENDING_AT + place / 8] >> (place % 8) & 1 == 1

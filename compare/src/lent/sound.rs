@@ -70,36 +70,42 @@ fn sound<'a>(record: Record<'a>, see: &mut impl FnMut(usize)) -> Option<Sound<'a
 struct Lots {
     seated: u64,
     leaving: u64,
+    reserved: u64,
     numbers: [u64; SEATS],
     vectors: [u8; SEATS],
 }
 
 impl Lots {
-    /// None if a state is not 0 to 2 or a free seat's entry is not as opened.
+    /// None if a state is not 0 to 3, a free seat's entry is not as opened or a
+    /// reserved lot has a link.
     fn read(record: Record) -> Option<Lots> {
         let mut lots = Lots {
             seated: 0,
             leaving: 0,
+            reserved: 0,
             numbers: [0; SEATS],
             vectors: [0; SEATS],
         };
         for (seat, entry) in record.entries().iter().enumerate() {
             match entry[STATE_AT] {
                 0 if *entry == FREE => continue,
-                1 => {}
-                2 => lots.leaving |= 1 << seat,
+                1 => lots.seated |= 1 << seat,
+                2 => {
+                    lots.seated |= 1 << seat;
+                    lots.leaving |= 1 << seat;
+                }
+                3 if entry[LINKS_AT..] == FREE[LINKS_AT..] => lots.reserved |= 1 << seat,
                 _ => return None,
             }
-            lots.seated |= 1 << seat;
             lots.numbers[seat] = number_of(entry);
             lots.vectors[seat] = entry[VECTOR_AT];
         }
         Some(lots)
     }
 
-    /// None if two lots have the same number.
+    /// None if two lots have the same number, seated or reserved.
     fn sort_into(&self, order: &mut Order) -> Option<()> {
-        for seat in seats(self.seated) {
+        for seat in seats(self.seated | self.reserved) {
             order.seats[order.count] = seat;
             order.count += 1;
         }
@@ -113,7 +119,7 @@ impl Lots {
     fn links_are_sound(&self, record: Record, order: &Order) -> bool {
         let mut below = 0;
         for &seat in &order.seats[..order.count] {
-            let me = 1 << seat;
+            let me = self.seated & 1 << seat;
             let above = self.seated & !below & !me;
             if !self.entry_is_sound(record.entry(seat), below, above) {
                 return false;
@@ -123,7 +129,7 @@ impl Lots {
         true
     }
 
-    /// Every link names a lot of its side that shares the level's bits.
+    /// Every link names a seated lot of its side that shares the level's bits.
     fn entry_is_sound(&self, entry: &Entry, below: u64, above: u64) -> bool {
         let vector = entry[VECTOR_AT];
         (0..LEVELS).all(|level| {

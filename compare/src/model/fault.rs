@@ -1,7 +1,8 @@
 //! The faults of document 01's "Faults that pass a first trial", bundles that
 //! are not #101's, searches that are refused otherwise than #102 says, meetings
-//! that write a link wrongly, #103, and searches that meet leaving lots otherwise
-//! than #104 says. Only a test can switch one on, to see that it is caught.
+//! that write a link wrongly, #103, searches that meet leaving lots otherwise
+//! than #104 says, and reservations that are not #105's. Only a test can switch one
+//! on, to see that it is caught.
 
 #[cfg(test)]
 use super::wrong_bundle::WrongBundle;
@@ -11,7 +12,13 @@ use super::wrong_find::WrongFind;
 use super::wrong_holder::WrongHolder;
 #[cfg(test)]
 use super::wrong_meet::WrongMeet;
+#[cfg(test)]
+use super::wrong_reserved::WrongReserved;
+#[cfg(test)]
+use super::wrong_reserving::WrongReserving;
 use super::Model;
+#[cfg(test)]
+use crate::call::{Answer, Call};
 
 #[derive(Clone, Copy, PartialEq, Eq, Debug)]
 pub(crate) enum Fault {
@@ -20,6 +27,7 @@ pub(crate) enum Fault {
     LeaverAltersItsLinks,
     BitsFromTheLowEnd,
     ProbeAtLevel8,
+    ReservedIsMember,
     #[cfg(test)]
     Bundle(WrongBundle),
     #[cfg(test)]
@@ -28,6 +36,10 @@ pub(crate) enum Fault {
     Meet(WrongMeet),
     #[cfg(test)]
     Holder(WrongHolder),
+    #[cfg(test)]
+    Reserved(WrongReserved),
+    #[cfg(test)]
+    Reserving(WrongReserving),
 }
 
 impl Model {
@@ -40,6 +52,25 @@ impl Model {
     pub(crate) fn and_fault(self, fault: Fault) -> Model {
         let fault = Some(fault);
         Model { fault, ..self }
+    }
+
+    /// What a model with a fault of #105 makes of a call; none without one.
+    #[cfg(test)]
+    pub(crate) fn wrong_call(&mut self, call: Call) -> Option<Answer> {
+        let mut fault = self.fault;
+        let answer = match &mut fault {
+            Some(Fault::Reserved(wrong)) => {
+                self.fault = None;
+                self.with_reserved(*wrong, call)
+            }
+            Some(Fault::Reserving(wrong)) => {
+                self.fault = None;
+                self.with_reserving(wrong, call)
+            }
+            _ => return None,
+        };
+        self.fault = fault;
+        Some(answer)
     }
 
     #[cfg(test)]

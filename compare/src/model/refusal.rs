@@ -15,17 +15,19 @@ pub enum Refusal {
     MessagesLeft = 11,
     NoSuchLevel = 12,
     Unsettled = 13,
+    NotReserved = 14,
 }
 
 impl Refusal {
     /// The order in which the first row that applies is given.
-    pub const ORDER: [Refusal; 13] = [
+    pub const ORDER: [Refusal; 14] = [
         Refusal::WrongSize,
         Refusal::Unsound,
         Refusal::NoSuchSeat,
         Refusal::NoSuchLevel,
         Refusal::InClearing,
         Refusal::SeatTaken,
+        Refusal::NotReserved,
         Refusal::EmptySeat,
         Refusal::Unsettled,
         Refusal::NumberInUse,

@@ -1,21 +1,29 @@
 //! The paragraph "Sound" of document 01, for what a model can hold.
 
-use super::{Kind, Message, Model, Phase, State};
-use crate::graph::{first_bits, Side, LEVELS, SIDES};
+use super::{Kind, Lot, Message, Model, Phase, State};
+use crate::graph::{first_bits, Side, LEVELS, NO_LINKS, SIDES};
 use crate::rules::Entries;
 use std::collections::BTreeSet;
 
 impl Model {
-    /// Numbers differ, and links and pending messages are as their kind asks.
+    /// Numbers differ, a reserved lot has no links, and links and pending messages
+    /// are as their kind asks.
     pub fn is_sound(&self) -> bool {
         self.numbers_differ()
+            && self.reserved_are_unlinked()
             && self.seated().all(|(seat, _)| self.links_are_sound(seat))
             && self.pending.iter().all(|&m| self.message_is_sound(m))
     }
 
+    /// Those of seated and reserved lots together.
     fn numbers_differ(&self) -> bool {
-        let numbers: BTreeSet<u64> = self.seated().map(|(_, lot)| lot.number).collect();
-        numbers.len() == self.seated().count()
+        let numbers: BTreeSet<u64> = self.taken().map(|(_, lot)| lot.number).collect();
+        numbers.len() == self.taken().count()
+    }
+
+    fn reserved_are_unlinked(&self) -> bool {
+        let is_sound = |lot: &Lot| lot.state != State::Reserved || lot.links == NO_LINKS;
+        self.taken().all(|(_, lot)| is_sound(lot))
     }
 
     fn links_are_sound(&self, seat: u8) -> bool {
@@ -35,7 +43,7 @@ impl Model {
 
     /// Two different seated lots that share at least `level` bits.
     fn may_meet(&self, one: u8, other: u8, level: usize) -> bool {
-        match (self.lot_at(one), self.lot_at(other)) {
+        match (self.seated_at(one), self.seated_at(other)) {
             (Some(x), Some(y)) => {
                 one != other
                     && level < LEVELS
@@ -57,7 +65,7 @@ impl Model {
         let level = usize::from(m.level);
         let is_side = Side::from_number(m.side).is_some();
         let names_two_lots = m.side == 0 && self.may_meet(m.to, m.about, level);
-        let seated = self.lot_at(m.to).is_some();
+        let seated = self.seated_at(m.to).is_some();
         let fits = match kind {
             Kind::Meet => names_two_lots,
             Kind::Probe => names_two_lots && level < LEVELS - 1,

@@ -21,7 +21,7 @@ impl Model {
             true => Ok(()),
             false => Err(Refusal::Unsettled),
         };
-        match (self.lot(start), wrong) {
+        match (self.seated_lot(start), wrong) {
             (Err(Refusal::EmptySeat), WrongFind::UnsettledBeforeEmptySeat) => {
                 settled.and(Err(Refusal::EmptySeat))
             }

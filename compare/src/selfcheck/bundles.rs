@@ -2,6 +2,7 @@
 //! deliveries.
 
 use super::{holds, Check};
+use crate::call::Answer;
 use crate::model::Model;
 
 /// Limits of two bundles, one after the other, for a line of a script.
@@ -30,6 +31,17 @@ pub fn check(model: &Model, (first, second): (u16, u16)) -> Check {
     holds(
         both == one + other && whole == bundled,
         "a bundle is not one of a part of its limit and then one of the rest",
+    )
+}
+
+/// A bundle of a list of calls: its deliveries and its count.
+pub fn check_call(before: &Model, limit: u16, answer: Answer, after: &Model) -> Check {
+    let mut bundled = before.clone();
+    let delivered = is_its_deliveries(&mut bundled, limit)?;
+    let [counted, ..] = answer.values;
+    holds(
+        counted == u64::from(delivered) && *after == bundled,
+        "a bundle is not the same again",
     )
 }
 

@@ -6,3 +6,4 @@ mod common;
 mod limits;
 mod pending;
 mod refusals;
+mod reservations;

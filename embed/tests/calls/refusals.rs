@@ -7,10 +7,13 @@ const NO_MESSAGE: Message = Message::new(1, 0, 63, 8, 0);
 
 type Call = fn(&mut Record<&mut [u8]>) -> Result<(), Refusal>;
 
-/// Every call but open, with arguments that Q accepts, or else refuses with 8 or
-/// 10: a later row than 1 and 2.
-const CALLS: [Call; 14] = [
+/// Every call but open, with arguments that Q accepts, or else refuses with 8, 10 or
+/// 14: a later row than 1 and 2.
+const CALLS: [Call; 17] = [
     |record| record.join(3, 400, 0, Some(0)),
+    |record| record.reserve(3, 400, 0),
+    |record| record.confirm(3, Some(0)),
+    |record| record.give_back(3),
     |record| record.leave(9),
     |record| record.deliver(NO_MESSAGE),
     |record| record.bundle(1).map(drop),
@@ -82,7 +85,7 @@ fn unsound() -> Vec<Vec<u8>> {
         // The phase.
         changed(0, 2),
         // A state, and a free seat's number, vector and link.
-        changed(SEAT_0, 3),
+        changed(SEAT_0, 4),
         changed(SEAT_3 + 8, 1),
         changed(SEAT_3 + 9, 1),
         changed(SEAT_3 + 10, 0),
@@ -107,6 +110,9 @@ fn no_such_seat() {
         let bytes = record.as_bytes();
         for seat in [64, 255] {
             refused(bytes, 3, |record| record.join(seat, 200, 0, Some(9)));
+            refused(bytes, 3, |record| record.reserve(seat, 200, 0));
+            refused(bytes, 3, |record| record.confirm(seat, Some(9)));
+            refused(bytes, 3, |record| record.give_back(seat));
             refused(bytes, 3, |record| record.leave(seat));
             refused(bytes, 3, |record| record.find(seat, 250).map(drop));
             refused(bytes, 3, |record| record.lot(seat).map(drop));
@@ -114,6 +120,7 @@ fn no_such_seat() {
         }
         for contact in [64, 254] {
             refused(bytes, 3, |record| record.join(3, 400, 0, Some(contact)));
+            refused(bytes, 3, |record| record.confirm(9, Some(contact)));
         }
     }
 }
@@ -260,6 +267,7 @@ fn a_refusal_is_an_error_with_the_tables_term() {
         "messages left",
         "no such level",
         "unsettled",
+        "not reserved",
     ];
     for (number, term) in (1..).zip(terms) {
         let refusal = Refusal::from_number(number).unwrap();

@@ -9,6 +9,7 @@ use compare::graph::{LEVELS, SEATS};
 use compare::lent::place::*;
 use compare::lent::{self, message_at};
 use compare::model::{shared_bits, Message};
+use compare::reserved::Unsound;
 use compare::script::REMAINDERS;
 use std::ops::Range;
 
@@ -48,7 +49,11 @@ fn assert_is_caught(name: &str, make: Make) {
 
 blind_to! {
     high_bits_of_the_phase: |bytes| bytes[PHASE_AT] &= 1;
-    states_above_2: |bytes| entries(bytes, |entry| entry[STATE_AT] = entry[STATE_AT].min(2));
+    states_above_3: |bytes| entries(bytes, |entry| {
+        if entry[STATE_AT] > 3 {
+            entry[STATE_AT] = 2;
+        }
+    });
     numbers_of_free_seats: |bytes| free(bytes, |entry| entry[NUMBER_AT..VECTOR_AT].fill(0));
     vectors_of_free_seats: |bytes| free(bytes, |entry| entry[VECTOR_AT] = 0);
     links_of_free_seats: |bytes| free(bytes, |entry| entry[LINKS_AT..].fill(NO_LINK));
@@ -98,8 +103,19 @@ blind_to! {
     found_about_a_leaver: |bytes| take(bytes, |bytes, m| m.kind == 6 && lot(bytes, m.about).0 == 2);
     found_to_a_leaver: |bytes| take(bytes, |bytes, m| m.kind == 6 && lot(bytes, m.to).0 == 2);
     none_to_a_leaver: |bytes| take(bytes, |bytes, m| m.kind == 7 && lot(bytes, m.to).0 == 2);
+    state_4: |bytes| put_right(bytes, Unsound::StateAbove);
+    links_of_reserved_lots: |bytes| put_right(bytes, Unsound::HasLink);
+    a_reserved_number_that_a_seated_lot_has: |bytes| put_right(bytes, Unsound::NumberOfSeated);
+    a_reserved_number_twice: |bytes| put_right(bytes, Unsound::NumberOfReserved);
+    links_to_reserved_lots: |bytes| put_right(bytes, Unsound::LinkTo);
+    messages_to_reserved_lots: |bytes| put_right(bytes, Unsound::MessageTo);
+    messages_about_reserved_lots: |bytes| put_right(bytes, Unsound::MessageAbout);
     the_last_byte: |bytes| bytes[lent::SIZE - 1] = 0;
     the_last_entry: |bytes| entry(bytes, SEATS - 1)[LINKS_AT..].fill(NO_LINK);
+}
+
+fn put_right(bytes: &mut [u8], way: Unsound) {
+    way.put_right(bytes);
 }
 
 fn entry(bytes: &mut [u8], seat: usize) -> &mut [u8] {

@@ -109,7 +109,9 @@ fn all_staying(record: &[u8]) -> Vec<u8> {
     let mut other = record.to_vec();
     for seat in 0..SEATS {
         let state = &mut other[ENTRIES_AT + ENTRY * seat + STATE_AT];
-        *state = (*state).min(State::Staying as u8);
+        if *state == State::Leaving as u8 {
+            *state = State::Staying as u8;
+        }
     }
     other
 }

@@ -16,7 +16,7 @@ pub enum Source {
     Damage,
 }
 
-const SOURCES: [&str; 2] = ["a record of calls", "a damaged record"];
+pub(super) const SOURCES: [&str; 2] = ["a record of calls", "a damaged record"];
 
 /// What is to be met with records of each source.
 const CASES: [&str; 7] = [

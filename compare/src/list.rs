@@ -1,0 +1,42 @@
+//! Lists of calls that start on an opened record, fixed ones and from a seed. They
+//! hold what no line of a script says: reservations, single bundles, readings.
+
+pub mod fixed;
+
+use crate::call::Call;
+use crate::inputs::{self, Style};
+use crate::lent;
+use crate::model::Model;
+use crate::random::Random;
+use crate::reserved::{self, Met};
+use std::collections::BTreeSet;
+
+/// A style of calls lasts that many on average.
+const STYLE: usize = 30;
+
+/// The list `index` of the run of a seed, of that many calls.
+pub fn generate(seed: u64, index: u64, calls: usize) -> Vec<Call> {
+    let mut random = Random::of_script(seed, index);
+    let pools = inputs::pools(&mut random);
+    let mut style = Style::Reserving;
+    let mut record = lent::to_bytes(&Model::open());
+    let mut next = || {
+        if random.one_in(STYLE) {
+            style = random.pick(&Style::ALL);
+        }
+        let call = inputs::call(&record, style, &pools, &mut random);
+        call.on_bytes(&mut record);
+        call
+    };
+    (0..calls).map(|_| next()).collect()
+}
+
+/// What the calls of a list meet of reserved lots.
+pub fn met(list: &[Call]) -> BTreeSet<Met> {
+    let mut record = lent::to_bytes(&Model::open());
+    let calls = list.iter().flat_map(|&call| {
+        let before = record.clone();
+        reserved::met(call, call.on_bytes(&mut record), &before)
+    });
+    calls.collect()
+}

@@ -1,0 +1,76 @@
+//! Reservations that are wrong on the bytes: reserved lots taken for something else,
+//! and calls that send, leave or refuse otherwise.
+
+use super::right;
+use crate::sys::Outcome;
+use compare::call::{Answer, Call};
+use compare::graph::SEATS;
+use compare::lent::place::*;
+use compare::lent::{self, place_of};
+use compare::model::{Message, State};
+use std::ops::Range;
+
+const FREE: u8 = 0;
+const STAYING: u8 = State::Staying as u8;
+const RESERVED: u8 = State::Reserved as u8;
+
+/// What a call of a sound record answers in place of what it should, given the record
+/// before and after.
+type Wrong = fn(&[u8], &mut [u8], Call, Answer) -> Answer;
+
+fn outcome(wrong: Wrong, memory: &mut [u8], record: Range<usize>, call: Call) -> Outcome {
+    let before = memory[record.clone()].to_vec();
+    let mut outcome = right(memory, record.clone(), call, 0);
+    if lent::validate(&before).is_ok() {
+        outcome.answer = wrong(&before, &mut memory[record], call, outcome.answer);
+    }
+    outcome
+}
+
+/// Each with the sort of difference where it is caught.
+macro_rules! wrong {
+    ($($name:ident shows $sort:pat => $wrong:expr;)*) => {
+        $(#[test]
+        fn $name() {
+            fn make(memory: &mut [u8], record: Range<usize>, call: Call, _: u64) -> Outcome {
+                outcome($wrong, memory, record, call)
+            }
+            let (difference, calls) = caught(make).expect("the fault is not caught");
+            println!("{}: {calls} calls", stringify!($name));
+            assert!(matches!(difference, $sort), "{difference:?}");
+        })*
+    };
+}
+
+mod calls;
+mod lots;
+
+/// Where the entry of a seat begins.
+fn at(seat: u8) -> usize {
+    ENTRIES_AT + ENTRY * usize::from(seat)
+}
+
+fn state(bytes: &[u8], seat: u8) -> u8 {
+    bytes[at(seat) + STATE_AT]
+}
+
+fn number(bytes: &[u8], seat: u8) -> u64 {
+    let number = bytes[at(seat) + NUMBER_AT..at(seat) + VECTOR_AT].try_into();
+    u64::from_be_bytes(number.expect("a number has eight bytes"))
+}
+
+/// The seats in a state, ascending.
+fn seats_in(bytes: &[u8], wanted: u8) -> impl Iterator<Item = u8> + '_ {
+    (0..SEATS as u8).filter(move |&seat| state(bytes, seat) == wanted)
+}
+
+fn set(bytes: &mut [u8], message: Message) {
+    let place = place_of(message).expect("the message has a place");
+    bytes[PENDING_AT + place / 8] |= 1 << (place % 8);
+}
+
+/// The entry of a free seat.
+fn freed(entry: &mut [u8]) {
+    entry[..LINKS_AT].fill(0);
+    entry[LINKS_AT..].fill(NO_LINK);
+}
