@@ -14,9 +14,9 @@ pub mod newcomer;
 
 use newcomer::fill;
 use newcomer::greet;
-use newcomer::has_number;
 use newcomer::lacks_contact;
 use newcomer::lacks_seat;
+use newcomer::reserve_row;
 use record::Answer;
 use record::LEAVING;
 use record::SEATS;
@@ -24,14 +24,11 @@ use record::STAYING;
 use record::lots::is_clearing;
 use record::lots::is_leaving;
 use record::lots::is_seated;
-use record::lots::is_taken;
 use record::refusals::ALREADY_LEAVING;
 use record::refusals::EMPTY_SEAT;
 use record::refusals::IN_CLEARING;
 use record::refusals::NO_CONTACT;
 use record::refusals::NO_SUCH_SEAT;
-use record::refusals::NUMBER_IN_USE;
-use record::refusals::SEAT_TAKEN;
 use soundness::record_refusal;
 
 // The first row of the table that applies to a join, or 0. None asks for the vector.
@@ -43,14 +40,9 @@ fn join_row(rec: &[u8], seat: usize, number: u64, contact: usize) -> u8
     if lacks_seat(seat, contact) {
         return NO_SUCH_SEAT;
     }
-    if is_clearing(rec) {
-        return IN_CLEARING;
-    }
-    if is_taken(rec, seat) {
-        return SEAT_TAKEN;
-    }
-    if has_number(rec, number) {
-        return NUMBER_IN_USE;
+    let n = reserve_row(rec, seat, number);
+    if n != 0 {
+        return n;
     }
     if lacks_contact(rec, contact) {
         return NO_CONTACT;

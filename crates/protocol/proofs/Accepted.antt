@@ -2,7 +2,7 @@
 use Prim.Native.Nat.{ℕ, _≤_, _<_}
 use mathlib.Core.Path.{_≡_, refl}
 use mathlib.Core.Logic.{_≢_}
-use mathlib.Core.Bool.{Bool, true, false, _&&_, _||_}
+use mathlib.Core.Bool.{Bool, true, false, cond, _&&_, _||_}
 use lib.Dec.{T, eqb, ltb}
 use borrow.Author.Tests.{ltb-true, lt-ltb, le-ltb, not-false, eq-eqb}
 use Rattle.base.proofs.Tests.{true-T, and-T}
@@ -95,6 +95,23 @@ module _ (N W : ℕ) (r : Seats) (p : Msg → Bool) where
       let free : taken r s ≡ false = no-row rs seatTaken tt e in
       let unused : inUse N r n ≡ false = no-row rs numberInUse tt e in
       rw (seat, opens, free, unused)
+
+  -- the refusal of a join, if its contact can be named: that of reserving, and then 6
+  pub join-after : (s n v c : ℕ) → (noSeat N s || noSuchContact N c) ≡ false
+      → refusal N W r p (join s n v c)
+      ≡ cond (eqb (refusal N W r p (reserve s n v)) 0) (cond (lacksContact N r c) noContact 0) (refusal N W r p (reserve s n v))
+  unfolding refusal rows first
+  join-after s n v c e =
+      let seat : noSeat N s ≡ false = or-false (noSeat N s) (noSuchContact N c) e in
+      rw (e, seat) (by (isClearing (r .phase)) (taken r s) (inUse N r n))
+    where
+      by : (a b d : Bool) → let m = cond a inClearing (cond b seatTaken (cond d numberInUse 0)) in
+          cond a inClearing (cond b seatTaken (cond d numberInUse (cond (lacksContact N r c) noContact 0)))
+          ≡ cond (eqb m 0) (cond (lacksContact N r c) noContact 0) m
+      by true b d = refl
+      by false true d = refl
+      by false false true = refl
+      by false false false = refl
 
   pub record GivesBack (s : ℕ) : Type 0 where
     pub seat : s < N

@@ -10,9 +10,9 @@ ghost use Rattle.record.specs.Call.{callRefusal, called};
 ghost use Rattle.record.specs.Answer.{outcome, Numbered};
 use joining::newcomer::fill;
 use joining::newcomer::greet;
-use joining::newcomer::has_number;
 use joining::newcomer::lacks_contact;
 use joining::newcomer::lacks_seat;
+use joining::newcomer::reserve_row;
 use record::Answer;
 use record::FREE;
 use record::RESERVED;
@@ -20,35 +20,11 @@ use record::SEATS;
 use record::STAYING;
 use record::lots::is_clearing;
 use record::lots::is_reserved;
-use record::lots::is_taken;
 use record::refusals::IN_CLEARING;
 use record::refusals::NO_CONTACT;
 use record::refusals::NO_SUCH_SEAT;
 use record::refusals::NOT_RESERVED;
-use record::refusals::NUMBER_IN_USE;
-use record::refusals::SEAT_TAKEN;
 use soundness::record_refusal;
-
-// The first row of the table that applies to reserving, or 0. None asks for the vector.
-fn reserve_row(rec: &[u8], seat: usize, number: u64) -> u8
-    requires { ⌜ length (now rec) ≡ size ⌝ }
-    ensures { λ r. ⌜ ((v : ℕ) → r ≡ refusal seats width (meaning (now (rec .entry)) .seats) (meaning (now (rec .entry)) .pending)
-        (reserving seat number v)) ⌝ }
-{
-    if seat >= SEATS {
-        return NO_SUCH_SEAT;
-    }
-    if is_clearing(rec) {
-        return IN_CLEARING;
-    }
-    if is_taken(rec, seat) {
-        return SEAT_TAKEN;
-    }
-    if has_number(rec, number) {
-        return NUMBER_IN_USE;
-    }
-    0
-}
 
 // The first row of the table that applies to confirming, or 0.
 fn confirm_row(rec: &[u8], seat: usize, contact: usize) -> u8

@@ -1,4 +1,4 @@
--- `reserving::reserve_row` meets its contract: its tests are the rows of the table, in order. Assumes nothing.
+-- `joining::newcomer::reserve_row` meets its contract: its tests are the rows of the table, in order. Assumes nothing.
 use mathlib.Core.Path.{refl, ap}
 use mathlib.Core.Bool.{not}
 use borrow.Author.Needs.{needs}
@@ -6,9 +6,9 @@ use borrow.Author.Tests.{lt-ltb, le-ltb}
 use Rattle.protocol.specs.Calls.{rows, refusal}
 use Rattle.protocol.specs.Refusals.{first}
 use Rattle.record.specs.Meaning.{meaning}
 use Rattle.joining.proofs.Rows.{row-here, row-next}
-use Rattle.reserving.proofs.reserve_row.Statement.{statement}
-use Rattle.reserving.proofs.reserve_row.Tie as tie
+use Rattle.joining.proofs.newcomer.reserve_row.Statement.{statement}
+use Rattle.joining.proofs.newcomer.reserve_row.Tie as tie
 
 returns : tie.Need-returns
 unfolding refusal rows first
