@@ -102,7 +102,7 @@ fn leave_refusal(rec: &[u8], seat: usize) -> u8
 }
 
 // Seats a lot with that number and vector on a free seat, staying and without links, and sends the contact MEET about it; in a record
-// without lots the contact is 255. Refused by 1, 2, 3, 7, 4, 5, 6, in this order.
+// without seated lots the contact is 255. Refused by 1, 2, 3, 7, 4, 5, 6, in this order.
 pub fn join(rec: &mut [u8], seat: u8, number: u64, vector: u8, contact: u8) -> Answer
     ensures { λ r. ⌜ (outcome r (now (rec .exit)) ≡ called (now (rec .entry)) (joining seat number vector contact)) × Numbered r ⌝ }
 {

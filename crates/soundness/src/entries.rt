@@ -1,6 +1,6 @@
-// Phase, states, entries of free seats, and numbers: the clauses of soundness that name no link of a taken lot and no message. That numbers
+// Phase, states, entries of free seats, and numbers: the clauses of soundness that name no link of a taken seat and no message. That numbers
 // differ is found out without comparing all pairs: lots whose numbers have one remainder stand in one bucket, and each new lot is compared
-// with those of its bucket, the last one first.
+// with those of its bucket, the last one first. Here reserved lots are among the lots.
 ghost use mathlib.Core.Path.{_≡_};
 ghost use mathlib.Core.Bool.{true, false, _&&_};
 ghost use Prim.Native.Nat.{ℕ, _+_, _%_, _≤_, _<_};
@@ -29,7 +29,7 @@ const STATES: u8 = 4;
 // How many buckets there are: a prime, so that numbers at equal distances, such as round ones, are spread.
 const BUCKETS: usize = 509;
 
-// What says that a seat does not pass, where else the seats up to the last lot are counted.
+// What says that a seat does not pass, where else the seats up to the last taken one are counted.
 const NOT_FIT: usize = SEATS + 1;
 
 pub fn phase_fits(rec: &[u8]) -> bool
@@ -146,7 +146,7 @@ fn seat_fits(
 }
 
 // The clauses of all seats, and that numbers differ. Leaves the numbers of the lots, and answers how many seats there are up to the last
-// lot, or NOT_FIT.
+// taken one, or NOT_FIT.
 pub fn seats_fit(rec: &[u8], numbers: &mut [u64; SEATS]) -> usize
     requires { ⌜ (length (now rec) ≡ size) × (length (now numbers) ≡ seats) ⌝ }
     ensures says { λ r. ⌜ leb r seats ≡ all seats (seatFits (now (rec .entry))) && numbersDiffer (now (rec .entry)) ⌝ }

@@ -1,6 +1,6 @@
 -- Join (document 01, "Calls"): names a free seat, number, vector and contact. The newcomer is staying, without links; the contact gets MEET
--- about it at level 0. In a record without lots the contact is 255 and nothing is sent. Reserving and confirming (document 02, #105) meet the
--- rows of a join that concern them. Assumes nothing.
+-- about it at level 0. In a record without seated lots the contact is 255 and nothing is sent. Reserving and confirming (document 02, #105) meet
+-- the rows of a join that concern them. Assumes nothing.
 use Prim.Native.Nat.{ℕ, _^_, _<_}
 use mathlib.Core.Option.{none}
 use mathlib.Core.Bool.{Bool, not, cond, _&&_, _||_}

@@ -1,4 +1,4 @@
--- Parts of the clauses of record's specs/Sound.antt that have no name there, and the numbers of all lots in an array. Assumes nothing.
+-- Parts of the clauses of record's specs/Sound.antt that have no name there, and the numbers of all taken seats in an array. Assumes nothing.
 use Prim.Native.Nat.{ℕ, _<_}
 use mathlib.Core.Path.{_≡_}
 use mathlib.Core.Bool.{Bool, true, not, _&&_, _||_}
