@@ -15,7 +15,8 @@ use Rattle.protocol.specs.Message.{Msg, going}
 use Rattle.protocol.specs.Numbering.{exists, place}
 use Rattle.protocol.specs.Rules.{toLink}
 use Rattle.protocol.specs.State.{Meaning, leaves}
-use Rattle.protocol.specs.pages.Turn.{each, farewell}
+use Rattle.protocol.specs.Page.{each}
+use Rattle.protocol.specs.pages.Turn.{farewell}
 use Rattle.record.specs.Layout.{seats, levels, pendingFrom}
 use Rattle.record.specs.Meaning.{linkOf, seatsIn, meaning, bytesOf}
 use Rattle.record.proofs.Values.{linkOf-linkByte}

@@ -16,8 +16,8 @@ use Rattle.protocol.specs.Rules.{Entry, Effect, staying, keep, set, toLi
 use Rattle.protocol.specs.State.{Meaning, nobody, opened, isPending}
 use Rattle.protocol.specs.Calls.{Call, join, leave, deliver, turn, rows, refusal, seatsAfter, sends, takes, linksAfter}
 use Rattle.protocol.specs.Refusals.{first}
-use Rattle.protocol.specs.Page.{at, isTaken, pendingAfter}
-use Rattle.protocol.specs.pages.Turn.{afterTurn, each, farewell, farewells, turnSends, turnLinks}
+use Rattle.protocol.specs.Page.{each, at, isTaken, pendingAfter}
+use Rattle.protocol.specs.pages.Turn.{afterTurn, farewell, farewells, turnSends, turnLinks}
 use Rattle.protocol.specs.pages.Deliver.{rule, deliverySends, applied, deliveryLinks}
 use Rattle.protocol.specs.Freeing.{unlinked}
 use Rattle.protocol.specs.Calls.{accept, unlessRefused, call}

@@ -16,8 +16,8 @@ use Rattle.base.specs.Loops.{any}
 use Rattle.protocol.specs.Rules.{SeatState, free, staying, leaving, isStaying}
 use Rattle.protocol.specs.State.{Phase, open-phase, clearing, Seats, Meaning, isSeated, isLeaving, seated, stays, leaves}
 use Rattle.protocol.specs.Calls.{turn, seatsAfter, sends, takes, linksAfter, accept}
-use Rattle.protocol.specs.pages.Turn.{afterTurn, each, farewell, farewells, turnSends, turnLinks}
-use Rattle.protocol.specs.Page.{pendingAfter}
+use Rattle.protocol.specs.pages.Turn.{afterTurn, farewell, farewells, turnSends, turnLinks}
+use Rattle.protocol.specs.Page.{each, pendingAfter}
 use Rattle.protocol.specs.Freeing.{unlinked}
 use Rattle.protocol.specs.Sound.{Sound}
 use Rattle.base.proofs.Any.{any-none}

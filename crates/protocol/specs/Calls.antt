@@ -61,6 +61,10 @@ module _ (N W : ℕ) where
   unfoldable pub seatsAfter : Seats → Call → Seats
   seatsAfter r c = pageOf c .seats r
 
+  -- for the roster: the component of each lot
+  unfoldable pub componentsAfter : Seats → (ℕ → ℕ) → Call → ℕ → ℕ
+  componentsAfter r k c = pageOf c .component r k
+
   unfoldable pub linksAfter : Meaning → Call → Links
   linksAfter M c = pageOf c .links M
 

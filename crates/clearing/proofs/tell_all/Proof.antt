@@ -4,7 +4,8 @@ use mathlib.Core.Path.{_≡_, refl, sym, ap, _∙_}
 use native.Mathlib.Omega.{arith}
 use lib.ListN.{length}
 use borrow.Author.Needs.{needs}
-use Rattle.protocol.specs.pages.Turn.{each, farewells}
+use Rattle.protocol.specs.Page.{each}
+use Rattle.protocol.specs.pages.Turn.{farewells}
 use Rattle.record.specs.Layout.{seats}
 use Rattle.record.specs.Meaning.{bytesOf}
 use Rattle.clearing.specs.inner.Steps.{Step, same, saying, farewellsFrom}
