@@ -6,3 +6,4 @@ pub mod Any
 pub mod Count
 pub mod Tabulate
 pub mod Stops
+pub mod Bits
