@@ -123,8 +123,8 @@ module _ {comp : ℕ → ℕ} {N W : ℕ} {M : Meaning} (g : Reached comp N W M)
     abbrev after : Meaning
     after = record { seats = r′; link = L′; pending = pendingAfter S none (M .pending) }
 
-    told : {x k y : ℕ} {d : Side} → L′ x (suc k) d ≡ some y → T (pendingAfter S none (M .pending) (meet x y 0))
-    told {x} {k} {y} {d} e =
+    told : (x k y : ℕ) (d : Side) → L′ x (suc k) d ≡ some y → T (pendingAfter S none (M .pending) (meet x y 0))
+    told x k y d e =
         let (mx, my, l) = left-link x (suc k) y d e in
         let i = introduction-in N W L′ x k y d (seated-below (g .sound) x (left-was x (member-seated x mx) .0)) (omega arith) e in
         after-sent S (M .pending) (meet x y 0) (rw sent i)
@@ -132,8 +132,8 @@ module _ {comp : ℕ → ℕ} {N W : ℕ} {M : Meaning} (g : Reached comp N W M)
     -- joined by links: connected at level 0, by links and by the MEETs just sent
     joined-conn : {x y : ℕ} → Joined W (byLinks N W (members comp r′) L′) L′ x y → Conn (stateOf after) 0 x y
     joined-conn same = crefl
-    joined-conn (linked {x} {y} {zero} {d} mx my l e) = clink e
-    joined-conn (linked {x} {y} {suc k} {d} mx my l e) = cmeet (told {x} {k} {y} {d} e)
+    joined-conn (linked {k = zero} mx my l e) = clink e
+    joined-conn (linked {x = x} {y = y} {k = suc k} {d = d} mx my l e) = cmeet (told x k y d e)
     joined-conn (turned j) = csym (joined-conn j)
     joined-conn (through i j) = ctrans (joined-conn i) (joined-conn j)
 
