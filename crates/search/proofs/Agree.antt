@@ -84,10 +84,10 @@ pub holder-agrees : {m n : ℕ → Bool} {f g : ℕ → ℕ} {x : ℕ} {o : Opti
     → ((z : ℕ) → m z ≡ n z) → ((z : ℕ) → T (m z) → f z ≡ g z)
     → RightHolder m f x o → RightHolder n g x o
 holder-agrees {m} {n} {f} {g} {x} e h (holds {h = y} r) = holds (record {
-  stays = subst (λ (t : Bool). T t) (e y) (r .stays);
-  below = rw (← h y (r .stays)) (r .below);
+  found = subst (λ (t : Bool). T t) (e y) (r .found);
+  below = rw (← h y (r .found)) (r .below);
   largest = λ z t l. let u : T (m z) = subst (λ (v : Bool). T v) (sym (e z)) t in
-      rw (← h y (r .stays), ← h z u) (r .largest z u (rw (h z u) l));
+      rw (← h y (r .found), ← h z u) (r .largest z u (rw (h z u) l));
 })
 holder-agrees {m} {n} {f} {g} {x} e h (nobody no-one) = nobody (λ z t l. let u : T (m z) = subst (λ (v : Bool). T v) (sym (e z)) t in
     no-one z u (rw (h z u) l))
