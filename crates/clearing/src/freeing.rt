@@ -16,7 +16,7 @@ use record::SEATS;
 use record::fields::Change;
 
 // Whether seat s is in the set.
-fn in_set(set: u64, s: usize) -> bool
+pub fn in_set(set: u64, s: usize) -> bool
     requires { ⌜ s < seats ⌝ }
     ensures { λ r. ⌜ r ≡ hasBit set s ⌝ }
 {
