@@ -22,9 +22,11 @@ pub mod Measure
 pub mod Ends
 pub mod ClearingEnds
 pub mod Turn
+pub mod Cut
 pub mod Reached
 pub mod ReachedCalls
 pub mod ReachedTurn
+pub mod ReachedCrash
 pub mod Falls
 pub mod Bundle
 pub mod Theorem
@@ -41,6 +43,8 @@ pub mod Accepted
 pub mod Reserving
 pub mod KeepDelivery
 pub mod KeepCalls
+pub mod KeepFreeing
 pub mod KeepTurn
+pub mod KeepCrash
 pub mod KeepSound
 pub mod Local

@@ -88,7 +88,7 @@ sane-deliver {c} {W} {M} (in-clearing L a i) m t =
 
 -- who the members are
 module _ (r : Seats) (x : ℕ) where
-  member-open : r .phase ≡ open-phase → member r x ≡ seated r x
+  pub member-open : r .phase ≡ open-phase → member r x ≡ seated r x
   unfolding member
   member-open e = rw e
 

@@ -30,7 +30,8 @@ use Rattle.protocol.proofs.Invariant.{invariant-quiet}
 use Rattle.protocol.proofs.Clearing.{Target, nobody, nearest, clearing-quiet}
 use Rattle.protocol.proofs.Turn.{exact-links, clearing-start, Shrinks, clearing-end}
 use Rattle.protocol.proofs.SoundFacts.{stays-seated, seated-below, two-level, link-linked}
-use Rattle.protocol.proofs.KeepTurn.{farewell-out, unlinked-some}
+use Rattle.protocol.proofs.KeepTurn.{farewell-out}
+use Rattle.protocol.proofs.KeepFreeing.{unlinked-some}
 use Rattle.protocol.proofs.Reached.{Laws, sound-laws, worldOf, Stayer, Sane, in-open, in-clearing}
 use Rattle.protocol.proofs.ReachedCalls.{after-only-sent, after-sent}
 

@@ -11,7 +11,7 @@ use Rattle.base.proofs.Tests.{false-T, not-T-false}
 use Rattle.protocol.specs.Message.{Msg, Name}
 use Rattle.protocol.specs.Numbering.{somePending}
 use Rattle.protocol.specs.State.{Seats, Meaning, members, nobody, opened}
-use Rattle.protocol.specs.Calls.{Call, join, reserve, confirm, giveBack, leave, deliver, turn, refusal, seatsAfter, sends, takes, accept, unlessRefused}
+use Rattle.protocol.specs.Calls.{Call, join, reserve, confirm, giveBack, leave, deliver, turn, crash, refusal, seatsAfter, sends, takes, accept, unlessRefused}
 use Rattle.protocol.specs.Calls.{call, componentsAfter, InRange}
 use Rattle.protocol.specs.pages.Join.{admitted}
 use Rattle.protocol.specs.Page.{pendingAfter}
@@ -23,16 +23,17 @@ use Rattle.protocol.proofs.Delivery.{stateOf, accept-deliver}
 use Rattle.protocol.proofs.World.{Quiet}
 use Rattle.protocol.proofs.Invariant.{invariant-first}
 use Rattle.protocol.proofs.SoundFacts.{pending-exists}
-use Rattle.protocol.proofs.Accepted.{reserve-rows, confirm-rows, join-reserve, give-back-rows, leave-rows, turn-row}
+use Rattle.protocol.proofs.Accepted.{reserve-rows, confirm-rows, join-reserve, give-back-rows, leave-rows, turn-row, crash-rows}
 use Rattle.protocol.proofs.Reserving.{join-confirm, join-in-two}
 use Rattle.protocol.proofs.KeepCalls.{reserve-sound}
-use Rattle.protocol.proofs.KeepSound.{opened-sound, accept-sound}
+use Rattle.protocol.proofs.KeepSound.{opened-sound, nothing-left, accept-sound}
 use Rattle.protocol.proofs.Measure.{bound}
 use Rattle.protocol.proofs.Falls.{deliver-taken, deliveries-end}
 use Rattle.protocol.proofs.Bundle.{deliveries-counted}
 use Rattle.protocol.proofs.Reached.{worldOf, Sane, in-open, Reached, sane-deliver, reached-graph}
 use Rattle.protocol.proofs.ReachedCalls.{sane-reserve, sane-confirm, sane-give-back, sane-leave}
 use Rattle.protocol.proofs.ReachedTurn.{sane-turn}
+use Rattle.protocol.proofs.ReachedCrash.{sane-crash}
 
 module _ (N W : ℕ) where
   reached-opened : Reached (λ x. x) N W opened
@@ -44,10 +45,7 @@ module _ (N W : ℕ) where
             (λ l. invariant-first (worldOf (λ x. x) W nobody l) (stateOf opened) (λ x y p q. absurd p) (λ x k d. refl) (λ m p. p));
       }
 
-  -- nothing pending, as the table tests it and as a fact
-  quiet-none : {M : Meaning} → Sound N W M → somePending N W (M .pending) ≡ false → Quiet (stateOf M)
-  quiet-none {M} h e m t = false-T (none-pending N W (M .pending) e m (pending-exists h m t)) t
-
+  -- nothing pending, as the table tests it
   none-quiet : (M : Meaning) → Quiet (stateOf M) → somePending N W (M .pending) ≡ false
   none-quiet M q = pending-none N W (M .pending) (λ m x. not-T-false (λ t. q m t))
 
@@ -71,7 +69,10 @@ module _ (N W : ℕ) where
         let t = deliver-taken N W M n e in
         subst (λ (K : Meaning). Sane k W K (K .seats .phase)) (sym (accept-deliver N W M n (t .message) (t .is)))
         (sane-deliver (g .sane) (t .message) (t .was))
-    sane-accept turn q e = sane-turn k (g .sound) (quiet-none (g .sound) (turn-row N W (M .seats) (M .pending) e)) (g .sane)
+    sane-accept turn q e = sane-turn k (g .sound) (nothing-left (g .sound) (turn-row N W (M .seats) (M .pending) e)) (g .sane)
+    sane-accept (crash set) q e =
+        let a = crash-rows N W (M .seats) (M .pending) set e in
+        sane-crash g (nothing-left (g .sound) (a .quiet)) (a .opens) set
 
     reached-accept : (c : Call) → InRange N W c → refusal N W (M .seats) (M .pending) c ≡ 0
         → Reached (componentsAfter N W (M .seats) k c) N W (accept N W M c)
@@ -135,7 +136,7 @@ module _ (N W : ℕ) where
     refusals = t .refusals;
     lots = t .lots;
     messages = λ m. ap (λ (p : Msg → Bool). p m) (t .pending);
-    none-left = ((λ e m. settled (quiet-none (t .reached .sound) e) m), λ q. none-quiet (s .now) (quiet q));
+    none-left = ((λ e m. settled (nothing-left (t .reached .sound) e) m), λ q. none-quiet (s .now) (quiet q));
     graph = λ q. subst (λ (r : Seats). IsGraph N W (members (rosterOf N W (logOf (s .history)) .component) r) (s .now .link)) (t .lots)
         (reached-graph (t .reached) (quiet q));
     ends = λ ns. deliveries-end N W ns (s .now) (t .reached .sound);
