@@ -1,6 +1,6 @@
 -- The steps together are what an accepted crash does. Assumes nothing.
 use Prim.Native.Nat.{ℕ}
-use mathlib.Core.Path.{_≡_, refl, sym, ap, _∙_}
+use mathlib.Core.Path.{_≡_, refl, sym, ap}
 use mathlib.Core.Logic.{_≢_}
 use mathlib.Core.Option.{Option, none, some}
 use mathlib.Core.Bool.{Bool, cond}
@@ -11,6 +11,7 @@ use Rattle.graph.specs.Vector.{width}
 use Rattle.protocol.specs.Message.{Msg}
 use Rattle.protocol.specs.Numbering.{messageAt}
 use Rattle.protocol.specs.State.{Meaning}
+use Rattle.protocol.specs.Calls.{crash, seatsAfter, linksAfter, sends, takes, accept}
 use Rattle.protocol.specs.Freeing.{unlinked}
 use Rattle.protocol.specs.pages.Crash.{introductions}
 use Rattle.protocol.proofs.Calls.{after-nothing}
@@ -18,7 +19,6 @@ use Rattle.record.specs.Layout.{seats}
 use Rattle.record.specs.Meaning.{bytesOf}
 use Rattle.record.proofs.Frame.{bytes-same}
 use Rattle.clearing.specs.inner.Steps.{saying, freed}
-use Rattle.crash.specs.inner.Steps.{crashed}
 
 -- the set 0 names no seat
 none-unlinked : (x : ℕ) (o : Option ℕ) → o ≡ cond (hasBit 0 x) none (unlinked (hasBit 0) o)
@@ -27,7 +27,8 @@ none-unlinked x none = rw (hasBit-none x)
 none-unlinked x (some y) = rw (hasBit-none x, hasBit-none y)
 
 module _ (M : Meaning) (set : ℕ) where
-  pub crash-nothing : set ≡ 0 → bytesOf M ≡ bytesOf (crashed set M)
+  pub crash-nothing : set ≡ 0 → bytesOf M ≡ bytesOf (accept seats width M (crash set))
+  unfolding accept seatsAfter linksAfter sends takes
   crash-nothing e = bytes-same (record {
     phase = refl;
     state = λ x p. rw (e, hasBit-none x);
@@ -37,5 +38,7 @@ module _ (M : Meaning) (set : ℕ) where
     pending = λ i p. rw (eq-eqb set 0 e) (ap (λ (q : Msg → Bool). q (messageAt seats width i)) (sym (after-nothing (M .pending))));
   })
 
-  pub crash-introduced : set ≢ 0 → bytesOf (saying (freed set M) (introductions seats width (freed set M .link))) ≡ bytesOf (crashed set M)
+  pub crash-introduced : set ≢ 0
+      → bytesOf (saying (freed set M) (introductions seats width (freed set M .link))) ≡ bytesOf (accept seats width M (crash set))
+  unfolding accept seatsAfter linksAfter sends takes
   crash-introduced e = rw (ne-eqb set 0 e)

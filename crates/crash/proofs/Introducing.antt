@@ -1,12 +1,11 @@
 -- MEET between the two ends of a link, and that links still name seats once some are freed. Assumes nothing.
 use Prim.Native.Nat.{ℕ, _≤_, _<_}
-use mathlib.Core.Path.{_≡_, refl, sym, ap, _∙_}
+use mathlib.Core.Path.{_≡_, sym, ap, _∙_}
 use mathlib.Core.List.{List, [], _∷_}
 use lib.Dec.{T}
 use borrow.Author.Tests.{lt-ltb}
 use Rattle.base.proofs.Tests.{true-T}
-use Rattle.memory.specs.Bits.{setBit, hasBit}
-use Rattle.memory.proofs.Bits.{hasBit-none}
+use Rattle.memory.specs.Bits.{setBit}
 use Rattle.graph.specs.Side.{sideOfNumber}
 use Rattle.graph.specs.Vector.{width}
 use Rattle.protocol.specs.Message.{meet}

@@ -8,20 +8,31 @@ ghost use Rattle.memory.specs.Bits.{hasBit};
 ghost use Rattle.graph.specs.Side.{sideOfNumber};
 ghost use Rattle.graph.specs.Vector.{width};
 ghost use Rattle.protocol.specs.State.{empty};
+ghost use Rattle.protocol.specs.Calls.{crash as crashing, refusal, accept};
 ghost use Rattle.protocol.specs.pages.Crash.{namesEmpty, introduced, introductions};
 ghost use Rattle.record.specs.Layout.{seats, levels, size};
-ghost use Rattle.record.specs.Meaning.{seatsIn};
+ghost use Rattle.record.specs.Meaning.{seatsIn, meaning};
+ghost use Rattle.record.specs.Call.{callRefusal, called};
+ghost use Rattle.record.specs.Answer.{outcome, Numbered};
+ghost use Rattle.messages.specs.inner.Numbers.{firstPending};
 ghost use Rattle.clearing.specs.inner.Steps.{Step, same, saying};
-ghost use Rattle.crash.specs.inner.Steps.{lotIntroductions, crashed};
+ghost use Rattle.crash.specs.inner.Steps.{lotIntroductions};
 use clearing::freeing::free_seats;
 use clearing::freeing::in_set;
 use graph::LEFT;
 use graph::RIGHT;
 use messages::meet_place;
+use record::Answer;
 use record::LEVELS;
+use record::MESSAGES;
 use record::SEATS;
+use record::lots::is_clearing;
 use record::lots::is_seated;
 use record::lots::link;
+use record::refusals::EMPTY_SEAT;
+use record::refusals::IN_CLEARING;
+use record::refusals::MESSAGES_LEFT;
+use soundness::look;
 
 // Whether seat s is in the set, and no lot sits on it: it is free or only reserved.
 fn is_empty_in(rec: &[u8], set: u64, s: usize) -> bool
@@ -80,11 +91,53 @@ fn introduce_all(rec: &mut [u8])
 // What an accepted crash does.
 fn carry_out(rec: &mut [u8], set: u64)
     requires { ⌜ length (now rec) ≡ size ⌝ }
-    ensures { λ _. ⌜ Step same (crashed set) (now (rec .entry)) (now (rec .exit)) ⌝ }
+    ensures { λ _. ⌜ Step same (λ M. accept seats width M (crashing set)) (now (rec .entry)) (now (rec .exit)) ⌝ }
 {
     if set == 0 {
         return;
     }
     free_seats(rec, set);
     introduce_all(rec);
+}
+
+// The first row of the table that applies to a crash, or 0, where the first pending message has the place `first`.
+fn crash_row(rec: &[u8], set: u64, first: usize) -> u8
+    requires { ⌜ (length (now rec) ≡ size) × (first ≡ firstPending (now rec) 0) ⌝ }
+    ensures { λ r. ⌜ r ≡ refusal seats width (meaning (now (rec .entry)) .seats) (meaning (now (rec .entry)) .pending) (crashing set) ⌝ }
+{
+    if is_clearing(rec) {
+        return IN_CLEARING;
+    }
+    if names_empty(rec, set) {
+        return EMPTY_SEAT;
+    }
+    if first < MESSAGES {
+        return MESSAGES_LEFT;
+    }
+    0
+}
+
+// The refusal number of a crash, 0 if it is accepted. The pending bytes are looked at once.
+fn crash_refusal(rec: &[u8], set: u64) -> u8
+    ensures { λ r. ⌜ r ≡ callRefusal (now (rec .entry)) (crashing set) ⌝ }
+{
+    let seen = look(rec);
+    if seen.refused != 0 {
+        return seen.refused;
+    }
+    crash_row(rec, set, seen.first)
+}
+
+// The lots on the seats of the set are gone: the seats become free as opened, links to them become none, and every link that remains above level 0,
+// in all of the record, sends MEET at level 0 to each of its ends about the other. The set 0 changes and sends nothing. Lots that leave may be in the
+// set. Refused by 1, 2, 7, 8, 11, in this order.
+pub fn crash(rec: &mut [u8], set: u64) -> Answer
+    ensures { λ r. ⌜ (outcome r (now (rec .exit)) ≡ called (now (rec .entry)) (crashing set)) × Numbered r ⌝ }
+{
+    let n = crash_refusal(rec, set);
+    if n != 0 {
+        return record::answer_of(n);
+    }
+    carry_out(rec, set);
+    Answer::Done
 }

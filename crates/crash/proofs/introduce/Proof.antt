@@ -1,14 +1,7 @@
 -- `crash::introduce` meets its contract. Assumes nothing.
-use Prim.Native.Nat.{ℕ}
-use mathlib.Core.Path.{ap, _∙_}
-use mathlib.Core.List.{List}
+use mathlib.Core.Path.{_∙_}
 use native.Mathlib.Omega.{arith}
 use borrow.Author.Needs.{needs}
-use Rattle.memory.specs.Bits.{setBit}
-use Rattle.graph.specs.Vector.{width}
-use Rattle.protocol.specs.Message.{meet}
-use Rattle.protocol.specs.Numbering.{place}
-use Rattle.record.specs.Layout.{seats, pendingFrom}
 use Rattle.crash.proofs.Introducing.{introduce-ends, introduce-none}
 use Rattle.crash.proofs.introduce.Statement.{statement}
 use Rattle.crash.proofs.introduce.Tie as tie
