@@ -102,13 +102,6 @@ module _ (hs : List Held) (ls : List LinkOf) (ms : List Msg) (fit : T (heldFit h
 abbrev Sound : List LinkOf → List Msg → Type 0
 Sound ls ms = AllHold (smallBytes open-phase three ls ms)
 
-abbrev yes : List LinkOf → List Msg → Type 0
-yes ls ms = checkIn (smallBytes open-phase three ls ms) .yes ≡ true
-
-no-links : Sound [] []
-unfolding heldFit linksWritten allExist allOk unusedOf numbersOf linksOf all fieldIn linkIn at applied linkOk pairOk
-no-links = clauses-small open-phase three [] [] tt tt tt
-
 pub components : Components
 unfolding heldFit linksWritten allExist allOk unusedOf numbersOf linksOf all fieldIn linkIn at applied linkOk pairOk messageOk exists readAs linkOf
     constraintsOk lotBacks lotAboves aboveOk ahead backsOk backOf sameLink member onSide bit equalBits shared
@@ -124,11 +117,9 @@ components = record {
 }
   where
     half : Sound halfLinked []
-    unfolding heldFit linksWritten allExist allOk unusedOf numbersOf linksOf all fieldIn linkIn at applied linkOk pairOk onSide bit equalBits shared
     half = clauses-small open-phase three halfLinked [] tt tt tt
 
     full : Sound wholeLinked []
-    unfolding heldFit linksWritten allExist allOk unusedOf numbersOf linksOf all fieldIn linkIn at applied linkOk pairOk onSide bit equalBits shared
     full = clauses-small open-phase three wholeLinked [] tt tt tt
 
 pub scans-unlinked : ScansUnlinked

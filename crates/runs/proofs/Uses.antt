@@ -2,7 +2,7 @@
 -- phase open the record is settled, and a search from any lot is not refused and names the right staying holder. While messages are pending or the
 -- phase is clearing it is refused with 13. Assumes only that its bytes are bytes.
 use Prim.Native.Nat.{ℕ, _≤_}
-use mathlib.Core.Path.{_≡_, sym, ap, _∙_, subst}
+use mathlib.Core.Path.{_≡_, refl, sym, ap, _∙_, subst}
 use mathlib.Core.Logic.{_↔_, _≢_, inl, inr, ⊎-elim}
 use mathlib.Core.Option.{Option}
 use mathlib.Core.Bool.{Bool, true, false}
