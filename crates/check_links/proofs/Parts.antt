@@ -1,5 +1,5 @@
 -- The parts of the check of the links (search's LinkCheck), by the bytes that the code reads. Assumes nothing.
-use Prim.Native.Nat.{ℕ, _-_, _%_, _≤_, _<_}
+use Prim.Native.Nat.{ℕ, _-_, _≤_, _<_}
 use mathlib.Core.Path.{_≡_, refl}
 use mathlib.Core.Logic.{⊎-elim}
 use mathlib.Core.Option.{none, some}
@@ -9,8 +9,7 @@ use native.Mathlib.Omega.{arith}
 use lib.Dec.{T, eqb, leb}
 use lib.ListN.{getD}
 use borrow.Author.Tests.{ne-eqb, lt-leb, le-leb}
-use Rattle.base.proofs.Cases.{lt-or-ge, eq-or-ne}
-use Rattle.base.specs.Loops.{oneIf}
+use Rattle.base.proofs.Cases.{lt-or-ge}
 use Rattle.graph.specs.Side.{sideOfNumber}
 use Rattle.base.proofs.Tests.{T-true}
 use Rattle.protocol.specs.State.{seated, member}

@@ -1,6 +1,6 @@
 -- Scans of every record, made by calls or not: on a settled one a search from any lot is accepted, on a sound one that is not settled it is
--- refused with 13, and every accepted search names the right holder, by left steps that meet each lot once. Assumes only that the elements of
--- the list are bytes.
+-- refused with 13, and every accepted search names the right holder among the staying lots of the start's component, by left steps that meet
+-- each lot once. Assumes only that the elements of the list are bytes.
 use Prim.Native.Nat.{ℕ, zero, suc, _≤_, _<_}
 use mathlib.Core.Path.{_≡_, refl, sym, ap, _∙_}
 use mathlib.Core.Logic.{_≢_, _↔_, inr}
@@ -92,7 +92,7 @@ module _ (l : List ℕ) (b : AreBytes l) (s x : ℕ) (e : findIn l s x .refused 
   o : Ordered seats width (seated (seatsIn l)) (seatsIn l .number) (meaning l .link)
   o = sound-fit l (A .passed .sized) b (A .passed .fine) .ordered
 
-  -- the holder is the staying lot of the start's component with the largest number that is not above the scanned one
+  -- the holder is of the staying lots of the start's component the one with the largest number that is not above the scanned one
   pub accepted-holder : RightHolder (soughtFrom l s) (seatsIn l .number) x (findIn l s x .holder)
   accepted-holder = rw (ap (λ (f : FindAnswer). f .holder) (find-says l s x no-row)) held
     where
@@ -106,17 +106,16 @@ module _ (l : List ℕ) (b : AreBytes l) (s x : ℕ) (e : findIn l s x .refused 
       held = checked-holder (lots-laws l (S .passed .sized) b (S .passed .fine)) width (meaning l .link) (S .right)
           (stays (seatsIn l)) (λ z t. rw all (stays-seated (seatsIn l) z t)) x s (rw all (A .lot))
 
-  -- none exactly if no staying lot of that component has a number that is not above it
+  -- none exactly if none of them has a number that is not above it
   pub accepted-none : (findIn l s x .holder ≡ none) ↔ ((z : ℕ) → T (soughtFrom l s z) → seatsIn l .number z ≤ x → ⊥)
   accepted-none = none-exactly accepted-holder
 
   -- a seat exactly if it is the holder's
   pub accepted-some : (h : ℕ) → (findIn l s x .holder ≡ some h) ↔ Holds (soughtFrom l s) (seatsIn l .number) x h
-  accepted-some = some-exactly
-      (λ y z t u. o .differ y z (lot y t) (lot z u)) accepted-holder
+  accepted-some = some-exactly (λ y z t u. o .differ y z (sought-seated y t) (sought-seated z u)) accepted-holder
     where
-      lot : (z : ℕ) → T (soughtFrom l s z) → T (seated (seatsIn l) z)
-      lot z t = stays-seated (seatsIn l) z (and-fst (stays (seatsIn l) z) (eqb (componentsIn l s) (componentsIn l z)) t)
+      sought-seated : (z : ℕ) → T (soughtFrom l s z) → T (seated (seatsIn l) z)
+      sought-seated z t = stays-seated (seatsIn l) z (and-fst (stays (seatsIn l) z) (eqb (componentsIn l s) (componentsIn l z)) t)
 
   -- the left steps visit each lot once and end, and there are at most the seated lots less one
   pub accepted-steps : LeftSteps l s x
