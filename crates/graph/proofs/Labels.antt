@@ -8,7 +8,7 @@ use mathlib.Core.Bool.{Bool, true, false, _&&_, _||_}
 use native.Mathlib.Omega.{arith}
 use native.Mathlib.Decide.{ℕ-discrete}
 use lib.Dec.{T, eqb, eqb→eq, eqb-refl}
-use Rattle.base.specs.Loops.{any, firstFrom}
+use Rattle.base.specs.Loops.{firstFrom}
 use Rattle.base.proofs.Tests.{T-true, true-T, and-T, and-fst, and-snd, or-cases, or-left, or-right, false-T}
 use Rattle.base.proofs.Cases.{same-test, lt-or-ge}
 use Rattle.base.proofs.Any.{any-in, any-out, any-same}

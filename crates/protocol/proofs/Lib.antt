@@ -1,5 +1,6 @@
 -- Why the protocol is right.
 pub mod Examples
+pub mod CrashExamples
 pub mod Message
 pub mod Calls
 pub mod Sent

@@ -18,11 +18,10 @@ use Rattle.protocol.specs.Page.{pendingAfter}
 use Rattle.protocol.specs.Sound.{Sound}
 use Rattle.protocol.specs.Run.{Logged, Past, Standing, logOf, step, steps, stepsFrom, AllAccepted, Roster, meaningRun, rosterAfter}
 use Rattle.protocol.specs.Run.{rosterOf, pendingOf, RefusedByTable, NothingPending, MeaningDemand3, AllInRange}
-use Rattle.protocol.proofs.Numbering.{none-pending, pending-none}
+use Rattle.protocol.proofs.Numbering.{pending-none}
 use Rattle.protocol.proofs.Delivery.{stateOf, accept-deliver}
 use Rattle.protocol.proofs.World.{Quiet}
 use Rattle.protocol.proofs.Invariant.{invariant-first}
-use Rattle.protocol.proofs.SoundFacts.{pending-exists}
 use Rattle.protocol.proofs.Accepted.{reserve-rows, confirm-rows, join-reserve, give-back-rows, leave-rows, turn-row, crash-rows}
 use Rattle.protocol.proofs.Reserving.{join-confirm, join-in-two}
 use Rattle.protocol.proofs.KeepCalls.{reserve-sound}
@@ -74,12 +73,12 @@ module _ (N W : ℕ) where
         let a = crash-rows N W (M .seats) (M .pending) set e in
         sane-crash g (nothing-left (g .sound) (a .quiet)) (a .opens) set
 
-    reached-accept : (c : Call) → InRange N W c → refusal N W (M .seats) (M .pending) c ≡ 0
+    pub reached-accept : (c : Call) → InRange N W c → refusal N W (M .seats) (M .pending) c ≡ 0
         → Reached (componentsAfter N W (M .seats) k c) N W (accept N W M c)
     reached-accept c q e = record { sound = accept-sound N W M (g .sound) c q e; sane = sane-accept c q e }
 
     -- and so with those of the roster, whether the call is accepted or not
-    pub reached-call : (o : Roster) → o ≡ record { seats = M .seats; component = k } → (c : Call) → InRange N W c
+    reached-call : (o : Roster) → o ≡ record { seats = M .seats; component = k } → (c : Call) → InRange N W c
         → let n = refusal N W (M .seats) (M .pending) c in
         Reached (unlessRefused n o (rosterAfter N W o c) .component) N W (unlessRefused n M (accept N W M c))
     unfolding unlessRefused rosterAfter
