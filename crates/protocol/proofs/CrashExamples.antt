@@ -12,10 +12,10 @@ use Rattle.graph.specs.Side.{right, onSide, sideOf}
 use Rattle.graph.specs.Vector.{bit, equalBits, shared}
 use Rattle.graph.specs.Graph.{inList, beside as besideIn, nearer, nearest, graph}
 use Rattle.graph.specs.Components.{names, linksTo, linkedWith, joinedBelow, componentOf}
-use Rattle.protocol.specs.Message.{meet, ifZero, ifBit, named, sameMsg, among}
+use Rattle.protocol.specs.Message.{Msg, meet, ifZero, ifBit, named, sameMsg, among}
 use Rattle.protocol.specs.Numbering.{pairAt, pullAt, sideAt, split, messageAt, somePending}
 use Rattle.protocol.specs.Rules.{toLink, setting, meeting, probing, pulling, parting, passing, seeking, effect}
-use Rattle.protocol.specs.State.{Meaning, member, members, nobody, opened, isPending}
+use Rattle.protocol.specs.State.{Seats, Meaning, member, members, nobody, opened, isPending}
 use Rattle.protocol.specs.Calls.{Call, join, leave, turn, crash, rows, refusal, seatsAfter, componentsAfter, sends, takes, linksAfter}
 use Rattle.protocol.specs.Calls.{accept, unlessRefused, call}
 use Rattle.protocol.specs.Refusals.{first}
@@ -29,139 +29,89 @@ use Rattle.protocol.specs.Bundle.{onward, bundleOf, leftBy}
 use Rattle.protocol.specs.Run.{stepsFrom, logOf, step, steps, meaningRun, rosterAfter, rosterOf}
 use Rattle.protocol.proofs.Examples.{all-among, count-of, same-messages, bundled, drained, joined-Q, links, after}
 
--- Q: lots 100, 200, 300 with vectors 00, 10, 01, linked as in their graph
+-- Q: lots 100, 200, 300 with vectors 00, 10, 01, linked as in their graph; lot 200 dead; marked as leaving, and the phase clearing
 settled : Meaning
 settled = record { seats = joined-Q .seats; link = graph 3 2 (members (λ x. 0) (joined-Q .seats)); pending = λ m. false }
 
--- in Q lot 200 dies: the link of level 1 between 100 and 300 is left, and its ends are to meet
 cut-Q : Meaning
 cut-Q = after settled (crash 2)
 
-Q-left : links cut-Q ≡ none ∷ none ∷ none ∷ none ∷ some 2 ∷ some 0 ∷ none ∷ none ∷ none ∷ []
-unfolding cut-Q links meaningRun stepsFrom step steps opened nobody call unlessRefused accept refusal rows first any isPending seatsAfter at sends takes isTaken
-    pendingAfter deliverySends linksAfter deliveryLinks applied rule effect setting meeting probing pulling parting passing seeking toLink
-    onSide sideOf bit equalBits shared named ifZero ifBit sameMsg among somePending messageAt split pairAt pullAt sideAt bundled bundleOf
-    drained leftBy onward smallestFrom smallestOf smaller before orNext joined-Q settled graph nearest nearer besideIn inList member after each introduced introductions unlinked bitOf
-Q-left = refl
+left-Q : Meaning
+left-Q = after settled (leave 1)
 
-Q-sends : same-messages (sends 3 2 settled (crash 2)) (meet 0 2 0 ∷ meet 2 0 0 ∷ meet 2 0 0 ∷ meet 0 2 0 ∷ []) ≡ true
-unfolding all-among count-of same-messages meaningRun stepsFrom step steps opened nobody call unlessRefused accept refusal rows first any isPending seatsAfter at sends takes isTaken
-    pendingAfter deliverySends linksAfter deliveryLinks applied rule effect setting meeting probing pulling parting passing seeking toLink
-    onSide sideOf bit equalBits shared named ifZero ifBit sameMsg among somePending messageAt split pairAt pullAt sideAt bundled bundleOf
-    drained leftBy onward smallestFrom smallestOf smaller before orNext joined-Q settled graph nearest nearer besideIn inList member after each introduced introductions unlinked bitOf
-Q-sends = refl
+cleared-Q : Meaning
+cleared-Q = after left-Q turn
 
--- drained, these are linked at level 0, too
-Q-mends : links (drained 9 cut-Q) ≡ some 2 ∷ none ∷ none ∷ some 0 ∷ some 2 ∷ some 0 ∷ none ∷ none ∷ none ∷ []
-unfolding cut-Q links meaningRun stepsFrom step steps opened nobody call unlessRefused accept refusal rows first any isPending seatsAfter at sends takes isTaken
-    pendingAfter deliverySends linksAfter deliveryLinks applied rule effect setting meeting probing pulling parting passing seeking toLink
-    onSide sideOf bit equalBits shared named ifZero ifBit sameMsg among somePending messageAt split pairAt pullAt sideAt bundled bundleOf
-    drained leftBy onward smallestFrom smallestOf smaller before orNext joined-Q settled graph nearest nearer besideIn inList member after each introduced introductions unlinked bitOf
-Q-mends = refl
-
--- a component that lost nobody sends, too: here 200 is one of its own; and of a link without its link back both ends hear
+-- the same lots, 200 a component of its own; and with one link alone, which has no link back
 apart : Meaning
 apart = record { seats = joined-Q .seats; link = graph 3 2 (members (λ x. cond (eqb x 1) 1 0) (joined-Q .seats)); pending = λ m. false }
-
-untouched-sends : same-messages (sends 3 2 apart (crash 2)) (meet 0 2 0 ∷ meet 2 0 0 ∷ meet 2 0 0 ∷ meet 0 2 0 ∷ []) ≡ true
-unfolding apart all-among count-of same-messages meaningRun stepsFrom step steps opened nobody call unlessRefused accept refusal rows first any isPending seatsAfter at sends takes isTaken
-    pendingAfter deliverySends linksAfter deliveryLinks applied rule effect setting meeting probing pulling parting passing seeking toLink
-    onSide sideOf bit equalBits shared named ifZero ifBit sameMsg among somePending messageAt split pairAt pullAt sideAt bundled bundleOf
-    drained leftBy onward smallestFrom smallestOf smaller before orNext joined-Q settled graph nearest nearer besideIn inList member after each introduced introductions unlinked bitOf
-untouched-sends = refl
 
 one-sided : Meaning
 one-sided = record { seats = joined-Q .seats; link = λ x k d. cond (eqb x 0 && (eqb k 1 && sameSide d right)) (some 2) none; pending = λ m. false }
 
-one-sided-sends : same-messages (sends 3 2 one-sided (crash 2)) (meet 0 2 0 ∷ meet 2 0 0 ∷ []) ≡ true
-unfolding one-sided all-among count-of same-messages meaningRun stepsFrom step steps opened nobody call unlessRefused accept refusal rows first any isPending seatsAfter at sends takes isTaken
-    pendingAfter deliverySends linksAfter deliveryLinks applied rule effect setting meeting probing pulling parting passing seeking toLink
-    onSide sideOf bit equalBits shared named ifZero ifBit sameMsg among somePending messageAt split pairAt pullAt sideAt bundled bundleOf
-    drained leftBy onward smallestFrom smallestOf smaller before orNext joined-Q settled graph nearest nearer besideIn inList member after each introduced introductions unlinked bitOf
-one-sided-sends = refl
+-- lots 100 and 200, just joined
+two-joined : Meaning
+two-joined = meaningRun 3 2 (join 0 100 0 255 ∷ join 1 200 2 0 ∷ []) .now
 
--- the set 0 sends nothing
-none-sent : sends 3 2 settled (crash 0) ≡ []
-unfolding meaningRun stepsFrom step steps opened nobody call unlessRefused accept refusal rows first any isPending seatsAfter at sends takes isTaken
-    pendingAfter deliverySends linksAfter deliveryLinks applied rule effect setting meeting probing pulling parting passing seeking toLink
-    onSide sideOf bit equalBits shared named ifZero ifBit sameMsg among somePending messageAt split pairAt pullAt sideAt bundled bundleOf
-    drained leftBy onward smallestFrom smallestOf smaller before orNext joined-Q settled graph nearest nearer besideIn inList member after each introduced introductions unlinked bitOf
-none-sent = refl
+-- lots 100, 200, 300 with vectors 00, 01, 10
+other-vectors : Seats
+other-vectors = record { phase = settled .seats .phase; state = settled .seats .state; number = settled .seats .number; vector = λ x. x }
 
--- the components: all three lots in one; in Q without 200 its neighbours are one by level 1; without the middle of 100, 200, 300 with vectors
--- 00, 01, 10 they are two; a newcomer is in its contact's
+-- the roster's components after a list
 components : List Call → List ℕ
 components cs = let c = rosterOf 3 2 (logOf (meaningRun 3 2 cs .history)) .component in c 0 ∷ c 1 ∷ c 2 ∷ []
 
-first-Q : components (join 0 100 0 255 ∷ join 1 200 2 0 ∷ join 2 300 1 0 ∷ []) ≡ 0 ∷ 0 ∷ 0 ∷ []
-unfolding components rosterOf rosterAfter componentsAfter logOf meaningRun stepsFrom step steps opened nobody call unlessRefused accept refusal rows first any isPending seatsAfter at sends takes isTaken
-    pendingAfter deliverySends linksAfter deliveryLinks applied rule effect setting meeting probing pulling parting passing seeking toLink
-    onSide sideOf bit equalBits shared named ifZero ifBit sameMsg among somePending messageAt split pairAt pullAt sideAt bundled bundleOf
-    drained leftBy onward smallestFrom smallestOf smaller before orNext joined-Q settled graph nearest nearer besideIn inList member after each introduced introductions unlinked bitOf
-first-Q = refl
+-- the refusal of a crash of a set
+refused : Meaning → (set : ℕ) → ℕ
+refused M set = refusal 3 2 (M .seats) (M .pending) (crash set)
 
-one-Q : componentsAfter 3 2 (settled .seats) (λ x. 0) (crash 2) 2 ≡ 0
-unfolding componentsAfter cut componentOf joinedBelow linkedWith linksTo names firstFrom meaningRun stepsFrom step steps opened nobody call unlessRefused accept refusal rows first any isPending seatsAfter at sends takes isTaken
-    pendingAfter deliverySends linksAfter deliveryLinks applied rule effect setting meeting probing pulling parting passing seeking toLink
-    onSide sideOf bit equalBits shared named ifZero ifBit sameMsg among somePending messageAt split pairAt pullAt sideAt bundled bundleOf
-    drained leftBy onward smallestFrom smallestOf smaller before orNext joined-Q settled graph nearest nearer besideIn inList member after each introduced introductions unlinked bitOf
-one-Q = refl
+-- the MEETs between 100 and 300, as many as are sent where each has a link to the other
+four : List Msg
+four = meet 0 2 0 ∷ meet 2 0 0 ∷ meet 2 0 0 ∷ meet 0 2 0 ∷ []
 
-two-Q : componentsAfter 3 2 (record { phase = settled .seats .phase; state = settled .seats .state; number = settled .seats .number; vector = λ x. x })
-    (λ x. 0) (crash 2) 2
-    ≡ 2
-unfolding componentsAfter cut componentOf joinedBelow linkedWith linksTo names firstFrom meaningRun stepsFrom step steps opened nobody call unlessRefused accept refusal rows first any isPending seatsAfter at sends takes isTaken
-    pendingAfter deliverySends linksAfter deliveryLinks applied rule effect setting meeting probing pulling parting passing seeking toLink
-    onSide sideOf bit equalBits shared named ifZero ifBit sameMsg among somePending messageAt split pairAt pullAt sideAt bundled bundleOf
-    drained leftBy onward smallestFrom smallestOf smaller before orNext joined-Q settled graph nearest nearer besideIn inList member after each introduced introductions unlinked bitOf
-two-Q = refl
+record Evaluated : Type 0 where
+  -- in Q without 200 the link of level 1 between 100 and 300 is left, and its ends are to meet; drained, these are linked at level 0, too
+  left : links cut-Q ≡ none ∷ none ∷ none ∷ none ∷ some 2 ∷ some 0 ∷ none ∷ none ∷ none ∷ []
+  sent : same-messages (sends 3 2 settled (crash 2)) four ≡ true
+  mends : links (drained 9 cut-Q) ≡ some 2 ∷ none ∷ none ∷ some 0 ∷ some 2 ∷ some 0 ∷ none ∷ none ∷ none ∷ []
+  -- a component that lost nobody sends, too; and of a link without its link back both ends hear
+  untouched : same-messages (sends 3 2 apart (crash 2)) four ≡ true
+  both-ends : same-messages (sends 3 2 one-sided (crash 2)) (meet 0 2 0 ∷ meet 2 0 0 ∷ []) ≡ true
+  -- the set 0 sends nothing
+  none-sent : sends 3 2 settled (crash 0) ≡ []
+  -- the components: a newcomer is in its contact's; without 200 its neighbours are one, by level 1; with the other vectors two; the set 0 keeps them
+  newcomers : components (join 0 100 0 255 ∷ join 1 200 2 0 ∷ join 2 300 1 0 ∷ []) ≡ 0 ∷ 0 ∷ 0 ∷ []
+  one-left : componentsAfter 3 2 (settled .seats) (λ x. 0) (crash 2) 2 ≡ 0
+  two-left : componentsAfter 3 2 other-vectors (λ x. 0) (crash 2) 2 ≡ 2
+  kept : componentsAfter 3 2 (settled .seats) (λ x. 7) (crash 0) 2 ≡ 7
+  -- refused while messages are pending, the set 0 too; for a free seat before that; in clearing before both. A leaver may be named
+  pending : (refused joined-Q 2 ≡ 11) × (refused two-joined 0 ≡ 11)
+  free-seat : refused two-joined 6 ≡ 8
+  in-clearing : (refused cleared-Q 0 ≡ 7) × (refused cleared-Q 6 ≡ 7)
+  leaver : refused left-Q 2 ≡ 0
 
-kept-Q : componentsAfter 3 2 (settled .seats) (λ x. 7) (crash 0) 2 ≡ 7
-unfolding componentsAfter meaningRun stepsFrom step steps opened nobody call unlessRefused accept refusal rows first any isPending seatsAfter at sends takes isTaken
-    pendingAfter deliverySends linksAfter deliveryLinks applied rule effect setting meeting probing pulling parting passing seeking toLink
-    onSide sideOf bit equalBits shared named ifZero ifBit sameMsg among somePending messageAt split pairAt pullAt sideAt bundled bundleOf
-    drained leftBy onward smallestFrom smallestOf smaller before orNext joined-Q settled graph nearest nearer besideIn inList member after each introduced introductions unlinked bitOf
-kept-Q = refl
-
--- refusals: messages pending, and a free seat before that; clearing before both
-pending-Q : refusal 3 2 (joined-Q .seats) (joined-Q .pending) (crash 2) ≡ 11
-unfolding meaningRun stepsFrom step steps opened nobody call unlessRefused accept refusal rows first any isPending seatsAfter at sends takes isTaken
-    pendingAfter deliverySends linksAfter deliveryLinks applied rule effect setting meeting probing pulling parting passing seeking toLink
-    onSide sideOf bit equalBits shared named ifZero ifBit sameMsg among somePending messageAt split pairAt pullAt sideAt bundled bundleOf
-    drained leftBy onward smallestFrom smallestOf smaller before orNext joined-Q settled graph nearest nearer besideIn inList member after each introduced introductions unlinked bitOf
-pending-Q = refl
-
-free-first : Meaning
-free-first = meaningRun 3 2 (join 0 100 0 255 ∷ join 1 200 2 0 ∷ []) .now
-
-free-Q : refusal 3 2 (free-first .seats) (free-first .pending) (crash 6) ≡ 8
-unfolding free-first meaningRun stepsFrom step steps opened nobody call unlessRefused accept refusal rows first any isPending seatsAfter at sends takes isTaken
-    pendingAfter deliverySends linksAfter deliveryLinks applied rule effect setting meeting probing pulling parting passing seeking toLink
-    onSide sideOf bit equalBits shared named ifZero ifBit sameMsg among somePending messageAt split pairAt pullAt sideAt bundled bundleOf
-    drained leftBy onward smallestFrom smallestOf smaller before orNext joined-Q settled graph nearest nearer besideIn inList member after each introduced introductions unlinked bitOf
-free-Q = refl
-
-none-Q : refusal 3 2 (free-first .seats) (free-first .pending) (crash 0) ≡ 11
-unfolding free-first meaningRun stepsFrom step steps opened nobody call unlessRefused accept refusal rows first any isPending seatsAfter at sends takes isTaken
-    pendingAfter deliverySends linksAfter deliveryLinks applied rule effect setting meeting probing pulling parting passing seeking toLink
-    onSide sideOf bit equalBits shared named ifZero ifBit sameMsg among somePending messageAt split pairAt pullAt sideAt bundled bundleOf
-    drained leftBy onward smallestFrom smallestOf smaller before orNext joined-Q settled graph nearest nearer besideIn inList member after each introduced introductions unlinked bitOf
-none-Q = refl
-
-cleared-Q : Meaning
-cleared-Q = after (after settled (leave 1)) turn
-
-clearing-Q : refusal 3 2 (cleared-Q .seats) (cleared-Q .pending) (crash 0) ≡ 7
-unfolding cleared-Q afterTurn farewell farewells turnSends turnLinks meaningRun stepsFrom step steps opened nobody call unlessRefused accept refusal rows first any isPending seatsAfter at sends takes isTaken
-    pendingAfter deliverySends linksAfter deliveryLinks applied rule effect setting meeting probing pulling parting passing seeking toLink
-    onSide sideOf bit equalBits shared named ifZero ifBit sameMsg among somePending messageAt split pairAt pullAt sideAt bundled bundleOf
-    drained leftBy onward smallestFrom smallestOf smaller before orNext joined-Q settled graph nearest nearer besideIn inList member after each introduced introductions unlinked bitOf
-clearing-Q = refl
-
--- a leaver may be named
-leaver-Q : refusal 3 2 (after settled (leave 1) .seats) (after settled (leave 1) .pending) (crash 2) ≡ 0
-unfolding meaningRun stepsFrom step steps opened nobody call unlessRefused accept refusal rows first any isPending seatsAfter at sends takes isTaken
-    pendingAfter deliverySends linksAfter deliveryLinks applied rule effect setting meeting probing pulling parting passing seeking toLink
-    onSide sideOf bit equalBits shared named ifZero ifBit sameMsg among somePending messageAt split pairAt pullAt sideAt bundled bundleOf
-    drained leftBy onward smallestFrom smallestOf smaller before orNext joined-Q settled graph nearest nearer besideIn inList member after each introduced introductions unlinked bitOf
-leaver-Q = refl
+evaluated : Evaluated
+unfolding settled cut-Q left-Q cleared-Q apart one-sided two-joined other-vectors components refused four
+    links all-among count-of same-messages joined-Q after bundled drained bundleOf leftBy onward smallestFrom smallestOf smaller
+    before orNext componentsAfter cut componentOf joinedBelow linkedWith linksTo names firstFrom rosterOf rosterAfter logOf
+    graph nearest nearer besideIn inList member introduced introductions unlinked bitOf afterTurn farewell farewells turnSends turnLinks
+    meaningRun stepsFrom step steps opened nobody call unlessRefused accept refusal rows first any isPending seatsAfter at each
+    sends takes isTaken pendingAfter deliverySends linksAfter deliveryLinks applied rule effect setting meeting probing pulling
+    parting passing seeking toLink onSide sideOf bit equalBits shared named ifZero ifBit sameMsg among somePending messageAt split
+    pairAt pullAt sideAt
+evaluated = record {
+  left = refl;
+  sent = refl;
+  mends = refl;
+  untouched = refl;
+  both-ends = refl;
+  none-sent = refl;
+  newcomers = refl;
+  one-left = refl;
+  two-left = refl;
+  kept = refl;
+  pending = (refl, refl);
+  free-seat = refl;
+  in-clearing = (refl, refl);
+  leaver = refl;
+}

@@ -147,6 +147,7 @@ module _ {G H : World} {Left : ℕ → Type 0} {S S′ : State} (z : Cuts G Left
       ground : {x k y : ℕ} → Pair H k x y → Pair H 0 x y
       ground p = record { fst = p .fst; snd = p .snd; same = p .same; bits = omega arith }
 
-      ok : {m : Msg} → (x : ℕ) × (k : ℕ) × (d : Side) × (y : ℕ) × (S′ .link x k d ≡ some y) × ((m ≡ meet x y 0) ⊎ (m ≡ meet y x 0)) → Ok H m
+      ok : {m : Msg} → (x : ℕ) × (k : ℕ) × (d : Side) × (y : ℕ) × (S′ .link x k d ≡ some y) × ((m ≡ meet x y 0) ⊎ (m ≡ meet y x 0))
+          → Ok H m
       ok (x, k, d, y, e, inl r) = subst (Ok H) (sym r) (ok-meet (ground (left-pair e)) (lt-ne (left-side e)))
       ok (x, k, d, y, e, inr r) = subst (Ok H) (sym r) (ok-meet (ground (pair-sym (left-pair e))) (lt-ne′ (left-side e)))

@@ -57,7 +57,8 @@ pub crash-nobody : (N W : ℕ) (M : Meaning) → accept N W M (crash 0) ≡ M
 unfolding accept seatsAfter linksAfter sends takes
 crash-nobody N W M = λ i. record { seats = none-freed (M .seats) i; link = links-left (M .link) i; pending = after-nothing (M .pending) i }
 
-module _ {comp : ℕ → ℕ} {N W : ℕ} {M : Meaning} (g : Reached comp N W M) (quiet : Quiet (stateOf M)) (opens : M .seats .phase ≡ open-phase) (set : ℕ) where
+module _ {comp : ℕ → ℕ} {N W : ℕ} {M : Meaning} (g : Reached comp N W M) (quiet : Quiet (stateOf M)) (opens : M .seats .phase ≡ open-phase)
+    (set : ℕ) where
   abbrev r : Seats
   r = M .seats
 

@@ -11,8 +11,8 @@ use Rattle.base.proofs.Tests.{false-T, not-T-false}
 use Rattle.protocol.specs.Message.{Msg, Name}
 use Rattle.protocol.specs.Numbering.{somePending}
 use Rattle.protocol.specs.State.{Seats, Meaning, members, nobody, opened}
-use Rattle.protocol.specs.Calls.{Call, join, reserve, confirm, giveBack, leave, deliver, turn, crash, refusal, seatsAfter, sends, takes, accept, unlessRefused}
-use Rattle.protocol.specs.Calls.{call, componentsAfter, InRange}
+use Rattle.protocol.specs.Calls.{Call, join, reserve, confirm, giveBack, leave, deliver, turn, crash, refusal, seatsAfter, componentsAfter}
+use Rattle.protocol.specs.Calls.{sends, takes, accept, unlessRefused, call, InRange}
 use Rattle.protocol.specs.pages.Join.{admitted}
 use Rattle.protocol.specs.Page.{pendingAfter}
 use Rattle.protocol.specs.Sound.{Sound}
