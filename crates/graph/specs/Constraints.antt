@@ -1,4 +1,4 @@
--- Constraints 1 to 6 of document 000 (sections 3.4 and 5.1), cut at W as document 01 cuts them, and one level-0 list.
+-- Constraints 1 to 6 of document 000 (sections 3.4 and 5.1), cut at W as document 01 cuts them, one level-0 list for each component, and connected components.
 -- A side stands for two constraints: 1, 3 and 5 are side right, 2, 4 and 6 side left. Assumes nothing.
 use Prim.Native.Nat.{ℕ, zero, suc, _≤_, _<_}
 use mathlib.Core.Path.{_≡_}
@@ -45,7 +45,7 @@ module _ (W : ℕ) (G : Lots) (L : Links) where
     -- 5 and 6, else: none
     pub last : (x k : ℕ) (d : Side) → Node G x → k < W → ((j : ℕ) → NoneBefore k x d j) → L x (suc k) d ≡ none
 
-  -- one level-0 list for each component; document 01 has a single component
+  -- one level-0 list for each component
   pub record OneList : Type 0 where
     pub joined : (x y : ℕ) → Node G x → Node G y → G .component x ≡ G .component y → (d : Side) × (j : ℕ) × (iterate L 0 d j x ≡ some y)
     pub apart : (x y j : ℕ) (d : Side) → Node G x → iterate L 0 d j x ≡ some y → G .component x ≡ G .component y

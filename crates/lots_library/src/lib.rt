@@ -132,8 +132,8 @@ pub extern "C" fn lots_crash(rec: &mut [u8], seats: u64) -> u8
     number_of(crash::crash(rec, seats))
 }
 
-// The staying lot that a scanned number belongs to, searched from the lot on a seat: its seat, or 255 for none, and the hops. Refused: 1, 2, 3,
-// 8, 13.
+// The staying lot that a scanned number belongs to, searched from the lot on a seat among those of its component: its seat, or 255 for none, and the
+// hops. Refused: 1, 2, 3, 8, 13.
 #[no_mangle]
 pub extern "C" fn lots_find(
     rec: &[u8],
@@ -164,7 +164,7 @@ pub extern "C" fn lots_find(
     }
 }
 
-// Whether the links form one skip graph: 1 yes, 0 no. Refused: 1, 2.
+// Whether every component of the links is the skip graph of its own lots: 1 yes, 0 no. Refused: 1, 2.
 #[no_mangle]
 pub extern "C" fn lots_check(rec: &[u8], yes: &mut u8) -> u8
     ensures { λ r. ⌜ record { refused = r; yes = now (yes .exit) } ≡ checkNumbers (checkIn (now (rec .entry))) ⌝ }
