@@ -265,7 +265,10 @@ mod tests {
             let several = components.iter().any(|&first| first != components[0]);
             met[usize::from(says)][usize::from(several)] += 1;
         }
-        assert!(met.as_flattened().iter().all(|&count| count > 3_000), "{met:?}");
+        assert!(
+            met.as_flattened().iter().all(|&count| count > 3_000),
+            "{met:?}"
+        );
     }
 
     #[test]

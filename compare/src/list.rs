@@ -21,7 +21,8 @@ pub fn generate(seed: u64, index: u64, calls: usize) -> Vec<Call> {
     let mut record = lent::to_bytes(&Model::open());
     let mut next = || {
         if random.one_in(STYLE) {
-            style = random.pick(&Style::ALL);
+            let any = random.pick(&Style::ALL);
+            style = random.pick(&[any, any, Style::Crashing]);
         }
         let call = inputs::call(&record, style, &pools, &mut random);
         call.on_bytes(&mut record);
@@ -31,10 +32,7 @@ pub fn generate(seed: u64, index: u64, calls: usize) -> Vec<Call> {
 }
 
 /// What the calls of a list meet, told apart by call, answer and record before.
-pub fn met<M: Ord>(
-    list: &[Call],
-    tell: impl Fn(Call, Answer, &[u8]) -> Vec<M>,
-) -> BTreeSet<M> {
+pub fn met<M: Ord>(list: &[Call], tell: impl Fn(Call, Answer, &[u8]) -> Vec<M>) -> BTreeSet<M> {
     let mut record = lent::to_bytes(&Model::open());
     let calls = list.iter().flat_map(|&call| {
         let before = record.clone();

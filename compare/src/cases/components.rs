@@ -55,7 +55,12 @@ fn the_check_says_no_where_one_component_is_no_graph() {
     for gone in [&LINKS[..4], &LINKS[1..]] {
         let mut bytes = q_without(gone);
         assert_eq!(lent::check(&bytes), Ok(false));
-        assert_eq!(Call::Check.on_model(&mut from_bytes(&bytes).unwrap()).values[0], 0);
+        assert_eq!(
+            Call::Check
+                .on_model(&mut from_bytes(&bytes).unwrap())
+                .values[0],
+            0
+        );
         assert_eq!(
             Unsettled::of_bytes(&bytes),
             Some(Unsettled::OneOfSeveral),

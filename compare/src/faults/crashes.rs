@@ -6,14 +6,13 @@ use crate::graph::{LEVELS, SIDES};
 use crate::list::{self, fixed};
 use crate::model::{Fault, Model, WrongCheck, WrongCrash};
 use crate::roster::Roster;
-use crate::selfcheck::{run_list_beside, Failure};
+use crate::selfcheck::{run_list_beside, run_list_on, Failure};
 use std::collections::BTreeSet;
 
 const LISTS: u64 = 200;
 const CALLS: u64 = 150;
 
 const REFUSAL: &str = "not the table's refusal";
-const REFUSED_CHANGED: &str = "a refused call changed the record";
 const UNSOUND: &str = "the record is not sound";
 const READINGS: &str = "readings are not the roster's";
 const GRAPH: &str = "settled links are not the graph of the members";
@@ -31,11 +30,11 @@ fn wrong() -> Vec<(Fault, Vec<&'static str>)> {
         (WrongCrash::Level0Sends, vec![SENDS]),
         (WrongCrash::Set0Sends, vec![NOBODY]),
         (WrongCrash::Set0Passes, vec![REFUSAL]),
-        (WrongCrash::NothingFreed, vec![READINGS, UNSOUND]),
+        (WrongCrash::NothingFreed, vec![READINGS]),
         (WrongCrash::LastKept, vec![READINGS]),
         (WrongCrash::MarkedAsLeaving, vec![READINGS]),
         (WrongCrash::FreeSeatNamed, vec![REFUSAL]),
-        (WrongCrash::ReservedFreed, vec![REFUSAL, REFUSED_CHANGED]),
+        (WrongCrash::ReservedFreed, vec![REFUSAL]),
         (WrongCrash::LeaverIsEmpty, vec![REFUSAL]),
         (WrongCrash::InClearing, vec![REFUSAL]),
         (WrongCrash::PendingTaken, vec![REFUSAL]),
@@ -80,7 +79,8 @@ fn ways(name: &str, roster: fn() -> Roster, model: Model) -> BTreeSet<&'static s
 /// The fixed lists that fail.
 fn fixed_failures(roster: fn() -> Roster, model: Model) -> usize {
     let lists = fixed::lists().into_iter();
-    let runs = lists.map(|(_, list)| run_list_beside(roster(), model.clone(), &fixed::calls(&list)));
+    let runs =
+        lists.map(|(_, list)| run_list_beside(roster(), model.clone(), &fixed::calls(&list)));
     runs.filter(Result::is_err).count()
 }
 
@@ -107,15 +107,22 @@ fn fixed_lists_show_wrong_crashes() {
     }
 }
 
-/// A pair of lots that know each other at one level knows each other at all levels
-/// below it, up to the first at which another lies between. So the MEETs of one level
-/// are sent by another, but where its links are the longest of their ends.
+/// The ends of a link mostly know each other at other levels too, which send the same
+/// MEETs. A fixed list has a link for each level that no other level has.
 #[test]
 fn a_crash_forgets_a_level() {
     for level in 1..LEVELS {
         let fault = Fault::Crash(WrongCrash::LevelForgotten(level));
-        let caught = ways(&format!("{fault:?}"), Roster::new, Model::with_fault(fault));
-        assert_eq!(caught, BTreeSet::from([SENDS]), "{fault:?}");
+        let lists = fixed::lists().into_iter();
+        let failures = lists.filter_map(|(_, list)| {
+            run_list_on(Model::with_fault(fault), &fixed::calls(&list)).err()
+        });
+        let caught: BTreeSet<&str> = failures.map(|failure| failure.what).collect();
+        assert!(caught.contains(GRAPH), "{fault:?}: {caught:?}");
+        assert!(
+            caught.is_subset(&BTreeSet::from([GRAPH, SENDS])),
+            "{fault:?}: {caught:?}"
+        );
     }
 }
 
@@ -134,4 +141,3 @@ fn a_roster_that_is_never_cut() {
     assert!(caught.is_subset(&BTreeSet::from(expected)), "{caught:?}");
     assert!(fixed_failures(never_cut, Model::open()) > 0);
 }
-

@@ -30,7 +30,9 @@ pub fn components(members: &[Member], links: &[Links]) -> Vec<u8> {
     }
     let component = |member: &Member| of(&smallest, member.seat);
     let components = members.iter().map(component);
-    components.map(|seat| seat.expect("each member has one")).collect()
+    components
+        .map(|seat| seat.expect("each member has one"))
+        .collect()
 }
 
 /// The graph of the members made within each component: at each level and on each
@@ -43,7 +45,8 @@ pub fn links_within<C: PartialEq>(members: &[Member], components: &[C]) -> Vec<L
         same.map(|(member, _)| *member).collect()
     };
     let both = members.iter().zip(components);
-    both.map(|(x, component)| links_of(x, &of(component))).collect()
+    both.map(|(x, component)| links_of(x, &of(component)))
+        .collect()
 }
 
 #[cfg(test)]

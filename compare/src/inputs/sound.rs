@@ -115,9 +115,13 @@ fn link_components(lots: &mut [Lot], components: usize, clearing: bool, random: 
 }
 
 fn link_as_graphs(lots: &mut [Lot], components: &[usize], is_member: fn(&Lot) -> bool) {
-    let both = lots.iter().zip(components).filter(|(lot, _)| is_member(lot));
-    let (members, components): (Vec<Member>, Vec<usize>) =
-        both.map(|(lot, component)| (lot.member, *component)).unzip();
+    let both = lots
+        .iter()
+        .zip(components)
+        .filter(|(lot, _)| is_member(lot));
+    let (members, components): (Vec<Member>, Vec<usize>) = both
+        .map(|(lot, component)| (lot.member, *component))
+        .unzip();
     let linked = lots.iter_mut().filter(|lot| is_member(lot));
     for (lot, links) in linked.zip(graph::links_within(&members, &components)) {
         lot.links = links;

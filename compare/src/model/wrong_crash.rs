@@ -83,7 +83,9 @@ impl Model {
             }
             LinkLeft(level, side) => {
                 for (seat, lot) in (0..).zip(&mut self.lots) {
-                    let link = before.lot_at(seat).map(|lot| lot.links[level][side as usize]);
+                    let link = before
+                        .lot_at(seat)
+                        .map(|lot| lot.links[level][side as usize]);
                     if let (Some(lot), Some(link)) = (lot, link) {
                         lot.links[level][side as usize] = link;
                     }
@@ -102,7 +104,10 @@ impl Model {
             }
             MarkedAsLeaving => {
                 self.lots = before.lots.clone();
-                for (_, lot) in (0..).zip(&mut self.lots).filter(|(seat, _)| is_in(seats, *seat)) {
+                for (_, lot) in (0..)
+                    .zip(&mut self.lots)
+                    .filter(|(seat, _)| is_in(seats, *seat))
+                {
                     lot.as_mut().expect("the seat is named").state = State::Leaving;
                 }
             }
@@ -113,7 +118,9 @@ impl Model {
     fn wrongly_refused(&mut self, wrong: WrongCrash, seats: u64, answer: Answer) -> Answer {
         let is_seated = |seat: &u8| self.seated_at(*seat).is_some();
         let all_seats = 0..u64::BITS as u8;
-        let seated = all_seats.filter(is_seated).fold(0, |set, seat| set | 1 << seat);
+        let seated = all_seats
+            .filter(is_seated)
+            .fold(0, |set, seat| set | 1 << seat);
         match (wrong, answer.refusal) {
             (FreeSeatNamed, 8) if seats & seated != 0 => {
                 let seats = seats & seated;
@@ -147,12 +154,7 @@ impl Model {
     /// Sends anew for each link above level 0: a MEET at the level given for the
     /// two ends and the link's level, if one is; only to the ends on that side of the
     /// other, if a side is named.
-    fn send(
-        &mut self,
-        at: impl Fn(u8, u8, usize) -> Option<u8>,
-        seats: u64,
-        to: Option<Side>,
-    ) {
+    fn send(&mut self, at: impl Fn(u8, u8, usize) -> Option<u8>, seats: u64, to: Option<Side>) {
         if seats == 0 {
             return;
         }
@@ -187,9 +189,8 @@ impl Model {
         let members = self.members();
         let components = components(&members, &self.member_links());
         let lots = || members.iter().map(|member| member.seat).zip(&components);
-        let lost = |component: &u8| {
-            lots().any(|(seat, other)| other == component && is_in(seats, seat))
-        };
+        let lost =
+            |component: &u8| lots().any(|(seat, other)| other == component && is_in(seats, seat));
         let touched = lots().filter(|(_, component)| lost(component));
         touched.map(|(seat, _)| seat).collect()
     }

@@ -72,9 +72,8 @@ impl Roster {
 
     /// The seated lots of a lot's component with their states, by seat.
     pub fn beside(&self, seat: u8) -> Vec<(Member, State)> {
-        let same = |(member, _): &(Member, State)| {
-            self.component(member.seat) == self.component(seat)
-        };
+        let same =
+            |(member, _): &(Member, State)| self.component(member.seat) == self.component(seat);
         self.seated().into_iter().filter(same).collect()
     }
 }

@@ -2,12 +2,14 @@
 
 use super::steps::Steps;
 use super::*;
+use crate::model::Message;
 
 pub(super) fn lists() -> Vec<(&'static str, Answered)> {
     vec![
         ("crashes refused", refused()),
         ("the middle of three crashes", middle_of_three()),
         ("a crash that cuts nothing", still_one()),
+        ("one link at each level", level_by_level()),
         ("everybody crashes", everybody()),
         ("two components", two_components()),
         ("crash after crash", crash_after_crash()),
@@ -121,14 +123,8 @@ fn still_one() -> Answered {
     steps.say_all(&[
         (crash([1]), OK),
         (Call::ReadCounts, gives([2, 0, 2])),
-        (
-            Call::ReadMessage(crate::model::Message::meet(0, 2, 0)),
-            gives([1]),
-        ),
-        (
-            Call::ReadMessage(crate::model::Message::meet(2, 0, 0)),
-            gives([1]),
-        ),
+        (Call::ReadMessage(Message::meet(0, 2, 0)), gives([1])),
+        (Call::ReadMessage(Message::meet(2, 0, 0)), gives([1])),
         (right_link(0, 0), gives([255])),
         (right_link(0, 1), gives([2])),
         (Call::Check, gives([0])),
@@ -140,6 +136,34 @@ fn still_one() -> Answered {
         (Call::Check, gives([1])),
         (find(0, 350), gives([2, 1])),
     ]);
+    steps.steps
+}
+
+/// At one level after the other 100 and 300 know each other at that level alone: at
+/// those below it 200 lies between, at those above they share too few bits.
+fn level_by_level() -> Answered {
+    let mut steps = Steps::new();
+    for level in 1..=8u8 {
+        let bit = |place: u8| 128u8.checked_shr(place.into()).unwrap_or(0);
+        steps.say_all(&[
+            (join(0, 100, 0, NO_CONTACT), OK),
+            (join(1, 200, bit(level - 1), 0), OK),
+            (join(2, 300, bit(level), 0), OK),
+        ]);
+        steps.drain();
+        steps.say_all(&[
+            (right_link(0, level - 1), gives([1])),
+            (right_link(0, level), gives([2])),
+            (crash([1]), OK),
+            (Call::ReadCounts, gives([2, 0, 2])),
+        ]);
+        steps.drain();
+        steps.say_all(&[
+            (right_link(0, 0), gives([2])),
+            (find(0, 350), gives([2, 1])),
+            (crash([0, 2]), OK),
+        ]);
+    }
     steps.steps
 }
 
@@ -247,7 +271,15 @@ fn crash_after_crash() -> Answered {
 
 /// Lots of each of two components leave; then all of one. Each heals by itself.
 fn cleared() -> Answered {
-    let lots = [(10, 0), (20, 0), (30, 0), (40, 0), (50, 0), (60, 0), (70, 0)];
+    let lots = [
+        (10, 0),
+        (20, 0),
+        (30, 0),
+        (40, 0),
+        (50, 0),
+        (60, 0),
+        (70, 0),
+    ];
     let mut steps = joined(&lots);
     steps.say(crash([3]), OK);
     steps.drain();
@@ -255,7 +287,7 @@ fn cleared() -> Answered {
         (leave(1), OK),
         (leave(4), OK),
         (find(2, 25), gives([0, 2])),
-        (find(6, 55), gives([255, 1])),
+        (find(6, 55), gives([255, 2])),
         (Call::Turn, OK),
         (Call::Check, gives([0])),
     ]);
@@ -297,10 +329,10 @@ fn leavers_crash() -> Answered {
     steps.drain();
     steps.say_all(&[
         (Call::Check, gives([1])),
-        (find(0, 55), gives([3, 3])),
+        (find(0, 55), gives([3, 2])),
         (find(0, 35), gives([0, 0])),
         (Call::Turn, OK),
-        (Call::ReadCounts, gives([4, 1, 19])),
+        (Call::ReadCounts, gives([4, 1, 10])),
     ]);
     steps.drain();
     steps.say_all(&[
