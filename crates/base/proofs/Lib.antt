@@ -3,6 +3,8 @@ pub mod Tests
 pub mod Cases
 pub mod All
 pub mod Any
+pub mod First
 pub mod Count
 pub mod Tabulate
 pub mod Stops
+pub mod Bits

@@ -1,2 +1,3 @@
 -- What loops over the numbers below a bound answer.
 pub mod Loops
+pub mod Bits

@@ -16,7 +16,7 @@ use Rattle.base.proofs.Tests.{T-true, true-false, not-T-false}
 use Rattle.memory.specs.Bits.{hasBit, bitSet, withBit}
 use Rattle.memory.specs.inner.Words.{wordSet}
 use Rattle.memory.proofs.Bits.{hasBit-none}
-use Rattle.memory.proofs.First.{IsFirst, first, first-is, first-any}
+use Rattle.base.proofs.First.{IsFirst, first, first-is, first-any}
 use Rattle.memory.proofs.Words.{bit-word, word-clear, clear-word-bits}
 use Rattle.graph.specs.Vector.{width}
 use Rattle.protocol.specs.Numbering.{messageAt}

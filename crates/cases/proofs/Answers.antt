@@ -14,7 +14,7 @@ use Rattle.protocol.specs.Message.{Msg, among}
 use Rattle.protocol.specs.Numbering.{somePending}
 use Rattle.protocol.specs.State.{open-phase, clearing, isClearing, Seats, Meaning, seated, stays}
 use Rattle.protocol.specs.Refusals.{noSuchSeat, emptySeat, unsettled}
-use Rattle.protocol.specs.Calls.{Call, join, reserve, confirm, giveBack, leave, deliver, turn, Outcome}
+use Rattle.protocol.specs.Calls.{Call, join, reserve, confirm, giveBack, leave, deliver, turn, crash, Outcome}
 use Rattle.protocol.specs.Sound.{Sound, numberBits}
 use Rattle.protocol.specs.Run.{logOf, AllInRange}
 use Rattle.protocol.proofs.SoundFacts.{seated-below, pending-exists}
@@ -29,6 +29,7 @@ use Rattle.record.proofs.Refused.{Passed}
 use Rattle.record.proofs.Round.{meaning-bytes, bytes-bytes}
 use Rattle.record.proofs.Sound.{bytes-sound}
 use Rattle.search.specs.Walk.{find}
+use Rattle.check_links.specs.Check.{checkIn}
 use Rattle.check_links.specs.Settled.{settled}
 use Rattle.check_links.proofs.Settled.{unsettled-exactly}
 use Rattle.find.specs.Find.{searched, findRefusal, findIn}
@@ -37,14 +38,14 @@ use Rattle.find.proofs.Scans.{settled-accepted}
 use Rattle.runs.specs.Run.{bytesRun, lotOf}
 use Rattle.runs.specs.Run as runs
 use Rattle.runs.proofs.Theorem.{in-range}
-use Rattle.runs.proofs.Uses.{count-settled}
+use Rattle.runs.proofs.Uses.{count-check, count-settled}
 use Rattle.runs.proofs.Right.{seats-bytes, find-bytes}
 use Rattle.runs.proofs.Readings.{countsOf, read-lot, read-link, read-message, read-counts, count-none}
 use Rattle.cases.proofs.View.{View, meant, someLeft, some-left, viewRefusal, viewCall, view-call}
 use Rattle.cases.specs.Lists.{accepted, Pending, LinksOf, Settles, Lot100}
 use Rattle.cases.proofs.Seen.{seen, seen-sound, seen-bytes, seen-log, seen-order}
 
--- the arguments of the calls fit their types, as a test: number and vector
+-- the arguments of the calls fit their types, as a test: number and vector, or a set of seats
 abbrev sizes : (n b : ℕ) → Bool
 sizes n b = ltb n (2 ^ numberBits) && ltb b (2 ^ width)
 
@@ -57,6 +58,7 @@ fits (giveBack s ∷ cs) = fits cs
 fits (leave s ∷ cs) = fits cs
 fits (deliver n ∷ cs) = fits cs
 fits (turn ∷ cs) = fits cs
+fits (crash set ∷ cs) = ltb set (2 ^ seats) && fits cs
 
 sizes-in : (n b : ℕ) → T (sizes n b) → (n < 2 ^ numberBits) × (b < 2 ^ width)
 sizes-in n b t = (ltb→lt n _ (and-fst (ltb n (2 ^ numberBits)) _ t), ltb→lt b _ (and-snd (ltb n (2 ^ numberBits)) _ t))
@@ -71,6 +73,7 @@ fits-in (giveBack s ∷ cs) t = (tt, fits-in cs t)
 fits-in (leave s ∷ cs) t = (tt, fits-in cs t)
 fits-in (deliver n ∷ cs) t = (tt, fits-in cs t)
 fits-in (turn ∷ cs) t = (tt, fits-in cs t)
+fits-in (crash set ∷ cs) t = (ltb→lt set _ (and-fst (ltb set (2 ^ seats)) _ t), fits-in cs (and-snd (ltb set (2 ^ seats)) _ t))
 
 module _ (l : List ℕ) (e : openRefusal l ≡ 0) (cs : List Call) (t : T (fits cs)) where
   abbrev v : View
@@ -148,6 +151,9 @@ module _ (l : List ℕ) (e : openRefusal l ≡ 0) (cs : List Call) (t : T (fits 
       order = seen-order l e cs (fits-in cs t) o;
       counts = counts-seen ∙ λ i. record { refused = 0; lots = c i; phase = 0; pending = 0 };
     }
+
+    pub check-seen : checkIn (bytesRun l cs .now) ≡ record { refused = 0; yes = true }
+    check-seen = count-check (in-range l e cs (fits-in cs t)) bytes-seen (ap (λ (a : CountAnswer). a .pending) counts-seen)
 
     settled-seen : settled (bytesRun l cs .now) ≡ true
     settled-seen = count-settled (in-range l e cs (fits-in cs t)) bytes-seen

@@ -13,8 +13,8 @@ use Rattle.protocol.specs.Rules.{toLink, setting, meeting, probing, pulling, ef
 use Rattle.protocol.specs.State.{open-phase, clearing, nobody, isPending}
 use Rattle.protocol.specs.Calls.{join, reserve, confirm, giveBack, turn, rows, refusal, seatsAfter, sends, takes, linksAfter, unlessRefused}
 use Rattle.protocol.specs.Refusals.{first}
-use Rattle.protocol.specs.Page.{at, isTaken}
-use Rattle.protocol.specs.pages.Turn.{afterTurn, each, farewell, farewells, turnSends, turnLinks}
+use Rattle.protocol.specs.Page.{each, at, isTaken}
+use Rattle.protocol.specs.pages.Turn.{afterTurn, farewell, farewells, turnSends, turnLinks}
 use Rattle.protocol.specs.pages.Deliver.{rule, deliverySends, applied, deliveryLinks}
 use Rattle.protocol.specs.Freeing.{unlinked}
 use Rattle.record.specs.Reading.{openRefusal}

@@ -18,8 +18,8 @@ use Rattle.protocol.specs.Sound.{pairOk, linkOk}
 use Rattle.protocol.specs.State.{open-phase, Seats, nobody, isPending, member, oneComponent, members}
 use Rattle.protocol.specs.Calls.{join, leave, turn, rows, refusal, seatsAfter, sends, takes, linksAfter, unlessRefused}
 use Rattle.protocol.specs.Refusals.{first, unsettled}
-use Rattle.protocol.specs.Page.{at, isTaken}
-use Rattle.protocol.specs.pages.Turn.{afterTurn, each, farewell, farewells, turnSends, turnLinks}
+use Rattle.protocol.specs.Page.{each, at, isTaken}
+use Rattle.protocol.specs.pages.Turn.{afterTurn, farewell, farewells, turnSends, turnLinks}
 use Rattle.protocol.specs.pages.Deliver.{rule, deliverySends, applied, deliveryLinks}
 use Rattle.protocol.specs.Freeing.{unlinked}
 use Rattle.record.specs.Layout.{seats, levels}

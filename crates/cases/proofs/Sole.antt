@@ -11,8 +11,8 @@ use Rattle.protocol.specs.Rules.{SeatState, free, staying, leaving, toLink}
 use Rattle.protocol.specs.State.{open-phase, nobody, opened, isLeaving, leaves}
 use Rattle.protocol.specs.Calls.{join, leave, turn, rows, refusal, seatsAfter, sends, takes, linksAfter, unlessRefused}
 use Rattle.protocol.specs.Refusals.{first}
-use Rattle.protocol.specs.Page.{at, isTaken}
-use Rattle.protocol.specs.pages.Turn.{afterTurn, each, farewell, farewells, turnSends, turnLinks}
+use Rattle.protocol.specs.Page.{each, at, isTaken}
+use Rattle.protocol.specs.pages.Turn.{afterTurn, farewell, farewells, turnSends, turnLinks}
 use Rattle.protocol.specs.Freeing.{unlinked}
 use Rattle.cases.specs.Lists.{lCalls}
 use Rattle.cases.proofs.View.{meant, without, viewRefusal, viewAfter, viewCall}

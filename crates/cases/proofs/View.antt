@@ -11,11 +11,12 @@ use Rattle.graph.specs.Vector.{width}
 use Rattle.base.proofs.Tests.{T-true, true-T, or-left, dec-T, not-T-false, false-T}
 use Rattle.protocol.specs.Message.{Msg, sameMsg, among}
 use Rattle.protocol.specs.Numbering.{exists, somePending}
-use Rattle.protocol.specs.State.{Seats, Meaning}
-use Rattle.protocol.specs.Calls.{Call, join, reserve, confirm, giveBack, leave, deliver, turn, rows, refusal, seatsAfter, linksAfter, sends, takes}
+use Rattle.protocol.specs.State.{isClearing, Seats, Meaning}
+use Rattle.protocol.specs.Calls.{Call, join, reserve, confirm, giveBack, leave, deliver, turn, crash, rows, refusal, seatsAfter, linksAfter, sends, takes}
 use Rattle.protocol.specs.Calls.{unlessRefused, accept, call}
 use Rattle.protocol.specs.Refusals.{row, first}
 use Rattle.protocol.specs.Page.{isTaken, pendingAfter}
+use Rattle.protocol.specs.pages.Crash.{namesEmpty}
 use Rattle.protocol.specs.Sound.{Sound}
 use Rattle.protocol.proofs.Message.{same-eq, same-self}
 use Rattle.protocol.proofs.Numbering.{none-pending, pending-none}
@@ -40,7 +41,7 @@ unfoldable pub without : Option Msg → List Msg → List Msg
 without o [] = []
 without o (m ∷ l) = cond (isTaken o m) (without o l) (m ∷ without o l)
 
--- the table's refusal number; only a turn looks at the list alone
+-- the table's refusal number; a turn and a crash look at the list alone
 unfoldable pub viewRefusal : View → Call → ℕ
 viewRefusal v (join s n b c) = refusal seats width (v .seats) (among (v .pending)) (join s n b c)
 viewRefusal v (reserve s n b) = refusal seats width (v .seats) (among (v .pending)) (reserve s n b)
@@ -49,6 +50,8 @@ viewRefusal v (giveBack s) = refusal seats width (v .seats) (among (v .pending))
 viewRefusal v (leave s) = refusal seats width (v .seats) (among (v .pending)) (leave s)
 viewRefusal v (deliver n) = refusal seats width (v .seats) (among (v .pending)) (deliver n)
 viewRefusal v turn = first (row 11 (someLeft (v .pending)) ∷ [])
+viewRefusal v (crash set) =
+    first (row 7 (isClearing (v .seats .phase)) ∷ row 8 (namesEmpty seats (v .seats) set) ∷ row 11 (someLeft (v .pending)) ∷ [])
 
 -- the view after an accepted call
 unfoldable pub viewAfter : View → Call → View
@@ -119,6 +122,9 @@ module _ (v : View) (h : Sound seats width (meant v)) where
   view-refusal (leave s) = refl
   view-refusal (deliver n) = refl
   view-refusal turn = ap (λ (b : Bool). first (row 11 b ∷ [])) (some-left (v .pending) (λ m t. pending-exists h m t))
+  view-refusal (crash set) =
+      ap (λ (b : Bool). first (row 7 (isClearing (v .seats .phase)) ∷ row 8 (namesEmpty seats (v .seats) set) ∷ row 11 b ∷ []))
+      (some-left (v .pending) (λ m t. pending-exists h m t))
 
   view-accept : (c : Call) → accept seats width (meant v) c ≡ meant (viewAfter v c)
   unfolding accept viewAfter

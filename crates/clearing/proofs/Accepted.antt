@@ -13,8 +13,8 @@ use Rattle.base.specs.Loops.{any}
 use Rattle.protocol.specs.Numbering.{messageAt}
 use Rattle.protocol.specs.State.{Phase, open-phase, clearing, Meaning, leaves}
 use Rattle.protocol.specs.Calls.{turn, seatsAfter, linksAfter, sends, takes, accept}
-use Rattle.protocol.specs.pages.Turn.{each, farewells, afterTurn, turnSends, turnLinks}
-use Rattle.protocol.specs.Page.{pendingAfter}
+use Rattle.protocol.specs.pages.Turn.{farewells, afterTurn, turnSends, turnLinks}
+use Rattle.protocol.specs.Page.{each, pendingAfter}
 use Rattle.protocol.specs.Freeing.{unlinked}
 use Rattle.record.specs.Layout.{seats, phaseAt}
 use Rattle.record.specs.Meaning.{phaseByte, bytesOf}

@@ -6,19 +6,18 @@ use mathlib.Core.Bool.{true, false, cond, _&&_}
 use mathlib.Core.List.{List}
 use native.Mathlib.Omega.{arith}
 use lib.Dec.{ltb}
-use lib.ListN.{set as put}
 use borrow.Author.Tests.{lt-ltb, le-ltb}
 use Rattle.base.proofs.Cases.{lt-or-ge, eq-or-ne}
-use Rattle.memory.specs.Bytes.{putNumber}
 use Rattle.memory.specs.Bits.{hasBit}
 use Rattle.protocol.specs.Rules.{free}
 use Rattle.protocol.specs.State.{Meaning}
 use Rattle.protocol.specs.Page.{at}
 use Rattle.protocol.proofs.Calls.{at-same, at-other}
-use Rattle.record.specs.Layout.{seats, numberSize, vectorSize, stateAt, numberFrom, vectorFrom}
+use Rattle.record.specs.Layout.{seats}
 use Rattle.record.specs.Meaning.{bytesOf}
+use Rattle.record.specs.inner.Entry.{filled}
 use Rattle.record.proofs.Frame.{bytes-same}
-use Rattle.record.proofs.Update.{withState, withNumber, bytes-withState, bytes-withNumber, bytes-withVector}
+use Rattle.record.proofs.Entry.{bytes-filled}
 use Rattle.clearing.specs.inner.Steps.{freedTo}
 
 -- below one more
@@ -46,15 +45,11 @@ module _ (set s : ℕ) where
 
 module _ (set s n : ℕ) (h : s < seats) (M : Meaning) {l : List ℕ} (e : l ≡ bytesOf (freedTo set s n M)) where
   -- a seat of the set: its three fields
-  pub clear-freed : hasBit set s ≡ true
-      → putNumber (putNumber (put l (stateAt s) 0) (numberFrom s) numberSize 0) (vectorFrom s) vectorSize 0 ≡ bytesOf (freedTo set (s + 1) n M)
+  pub clear-freed : hasBit set s ≡ true → filled l s 0 0 0 ≡ bytesOf (freedTo set (s + 1) n M)
   unfolding freedTo
   clear-freed t =
-      let N = freedTo set s n M in
-      ap (λ (m : List ℕ). putNumber (putNumber m (numberFrom s) numberSize 0) (vectorFrom s) vectorSize 0)
-      (ap (λ (m : List ℕ). put m (stateAt s) 0) e ∙ sym (bytes-withState N s free h))
-      ∙ ap (λ (m : List ℕ). putNumber m (vectorFrom s) vectorSize 0) (sym (bytes-withNumber (withState N s free) s 0 h))
-      ∙ sym (bytes-withVector (withNumber (withState N s free) s 0) s 0 h)
+      ap (λ (m : List ℕ). filled m s 0 0 0) e
+      ∙ sym (bytes-filled (freedTo set s n M) s free 0 0 h)
       ∙ sym (bytes-same (record {
         phase = refl;
         state = λ x p. field-freed set s free (M .seats .state) t x;

@@ -1,21 +1,22 @@
--- Messages sent one after the other, and GOING from a lot to a link. Assumes nothing.
+-- Messages sent one after the other, to a link that the bytes have, and GOING from a lot. Assumes nothing.
 use Prim.Native.Nat.{ℕ, _+_, _-_, _≤_, _<_}
 use mathlib.Core.Path.{_≡_, sym, ap, _∙_}
 use mathlib.Core.Option.{none}
 use mathlib.Core.Bool.{true, false}
-use mathlib.Core.List.{List, [], _++_, append-assoc}
+use mathlib.Core.List.{List, [], _++_}
 use native.Mathlib.Numerals.{add-one}
 use lib.Dec.{T}
 use borrow.Author.Tests.{lt-ltb}
 use Rattle.memory.specs.Bits.{setBit}
-use Rattle.graph.specs.Side.{Side, left, right, opp, sideOfNumber}
+use Rattle.graph.specs.Side.{Side, opp, sideOfNumber}
 use Rattle.graph.specs.Vector.{width}
 use Rattle.base.proofs.Tests.{true-T}
 use Rattle.protocol.specs.Message.{Msg, going}
 use Rattle.protocol.specs.Numbering.{exists, place}
 use Rattle.protocol.specs.Rules.{toLink}
 use Rattle.protocol.specs.State.{Meaning, leaves}
-use Rattle.protocol.specs.pages.Turn.{each, farewell}
+use Rattle.protocol.specs.Page.{each}
+use Rattle.protocol.specs.pages.Turn.{farewell}
 use Rattle.record.specs.Layout.{seats, levels, pendingFrom}
 use Rattle.record.specs.Meaning.{linkOf, seatsIn, meaning, bytesOf}
 use Rattle.record.proofs.Values.{linkOf-linkByte}
@@ -27,7 +28,7 @@ use Rattle.record.proofs.Pending.{after-append}
 use Rattle.record.proofs.Update.{withPending}
 use Rattle.record.proofs.Sent.{bytes-withMessage}
 use Rattle.clearing.proofs.Leaving.{leaves-bytes}
-use Rattle.clearing.specs.inner.Steps.{Linked, saying, levelFarewells, lotFarewells, farewellsFrom}
+use Rattle.clearing.specs.inner.Steps.{Linked, saying, lotFarewells, farewellsFrom}
 
 -- GOING exists
 pub going-exists : (x k : ℕ) (d : Side) → x < seats → k < levels → T (exists seats width (going x k d))
@@ -46,37 +47,33 @@ pub each-more : (n : ℕ) (f : ℕ → List Msg) → each (n + 1) f ≡ each n f
 unfolding each
 each-more n f = rw add-one
 
--- one level's farewells more, and one lot's
-module _ (M : Meaning) (n : ℕ) where
-  pub level-more : (y : ℕ) → let f = levelFarewells (M .link) y in
-      saying (saying (saying M (each n f)) (farewell (M .link) y n left)) (farewell (M .link) y n right) ≡ saying M (each (n + 1) f)
-  level-more y =
-      let f = levelFarewells (M .link) y in
-      ap (λ (N : Meaning). saying N (farewell (M .link) y n right)) (saying-append M (each n f) (farewell (M .link) y n left))
-      ∙ saying-append M (each n f ++ farewell (M .link) y n left) (farewell (M .link) y n right)
-      ∙ ap (saying M) (append-assoc (each n f) (farewell (M .link) y n left) (farewell (M .link) y n right) ∙ sym (each-more n f))
+-- the next list, whole or in two parts
+module _ (M : Meaning) (n : ℕ) (f : ℕ → List Msg) where
+  pub saying-next : saying (saying M (each n f)) (f n) ≡ saying M (each (n + 1) f)
+  saying-next = saying-append M (each n f) (f n) ∙ ap (saying M) (sym (each-more n f))
 
-  pub lot-more : saying (saying M (each n (farewellsFrom M))) (farewellsFrom M n) ≡ saying M (each (n + 1) (farewellsFrom M))
-  lot-more = saying-append M (each n (farewellsFrom M)) (farewellsFrom M n) ∙ ap (saying M) (sym (each-more n (farewellsFrom M)))
+  pub saying-parts : (a b : List Msg) → f n ≡ a ++ b → saying (saying (saying M (each n f)) a) b ≡ saying M (each (n + 1) f)
+  saying-parts a b e = saying-append (saying M (each n f)) a b ∙ ap (saying (saying M (each n f))) (sym e) ∙ saying-next
 
-pub each-start : (M : Meaning) (f : ℕ → List Msg) → saying M (each 0 f) ≡ M
+pub saying-none : (M : Meaning) (f : ℕ → List Msg) → saying M (each 0 f) ≡ M
 unfolding each
-each-start M f = saying-nothing M
+saying-none M f = saying-nothing M
 
--- GOING from y to its link b on side d, and no link
-module _ (M : Meaning) (c : Linked M) (y k d b : ℕ) (h : y < seats) (g : k < levels) (n : d < 2) {l : List ℕ} (e : l ≡ bytesOf M)
+-- a link that the bytes have is that of the meaning; its side is a number
+module _ (M : Meaning) (c : Linked M) (y k d b : ℕ) (h : y < seats) (g : k < levels) {l : List ℕ} (e : l ≡ bytesOf M)
     (f : linkOf b ≡ meaning l .link y k (sideOfNumber d)) where
-  link-named : M .link y k (sideOfNumber d) ≡ linkOf b
+  pub link-named : M .link y k (sideOfNumber d) ≡ linkOf b
   link-named =
       let s = sideOfNumber d in
       let byte = read-link M y h k s g (λ z q. c y k z s q) in
       let back = linkOf-linkByte (M .link y k s) (λ z q. c y k z s q) in
       sym (f ∙ ap (λ (m : List ℕ). meaning m .link y k s) e ∙ meaning-link (bytesOf M) y k s h g ∙ ap linkOf byte ∙ back)
 
-  pub tell-sent : b < seats
+  -- GOING from y to that link, and no link
+  pub tell-sent : d < 2 → b < seats
       → setBit l pendingFrom (place seats width (going b k (sideOfNumber (1 - d)))) ≡ bytesOf (saying M (farewell (M .link) y k (sideOfNumber d)))
   unfolding farewell toLink
-  tell-sent p = rw (side-opp d n, link-named, linkOf-some b p, e)
+  tell-sent n p = rw (side-opp d n, link-named, linkOf-some b p, e)
       (sym (bytes-withMessage M (going b k (opp (sideOfNumber d))) (going-exists b k (opp (sideOfNumber d)) p g)))
 
   pub tell-none : seats ≤ b → l ≡ bytesOf (saying M (farewell (M .link) y k (sideOfNumber d)))

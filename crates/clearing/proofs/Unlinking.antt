@@ -65,7 +65,7 @@ module _ (set : ℕ) where
       by false false = refl
 
   -- a link that is left is as before
-  unlinked-kept : (x y : ℕ) (o : Option ℕ) → cond (hasBit set x) none (unlinked (hasBit set) o) ≡ some y → o ≡ some y
+  pub unlinked-kept : (x y : ℕ) (o : Option ℕ) → cond (hasBit set x) none (unlinked (hasBit set) o) ≡ some y → o ≡ some y
   unfolding unlinked
   unlinked-kept x y none e = by (hasBit set x) e
     where

@@ -16,7 +16,7 @@ use record::SEATS;
 use record::fields::Change;
 
 // Whether seat s is in the set.
-fn in_set(set: u64, s: usize) -> bool
+pub fn in_set(set: u64, s: usize) -> bool
     requires { ⌜ s < seats ⌝ }
     ensures { λ r. ⌜ r ≡ hasBit set s ⌝ }
 {
@@ -59,9 +59,7 @@ fn clear_seat(rec: &mut [u8], set: u64, s: usize)
     ensures { λ _. ⌜ Step (freedTo set s (linkPlace s 0 0)) (freedTo set (s + 1) (linkPlace s 0 0)) (now (rec .entry)) (now (rec .exit)) ⌝ }
 {
     if in_set(set, s) {
-        record::set_state(rec, s, FREE);
-        record::set_number(rec, s, 0);
-        record::set_vector(rec, s, 0);
+        record::fill(rec, s, FREE, 0, 0);
     }
 }
 

@@ -1,7 +1,7 @@
 -- Find on the bytes (document 01, "Find"; document 02, #102 and #104): the refusal number, 1, 2, 3, 8, 13, or 0; the holder and the hops of the
 -- search on the meaning, for the lots that stay. A refused answer has none and 0. Assumes nothing.
 use Prim.Native.Nat.{ℕ}
-use mathlib.Core.Bool.{not, cond}
+use mathlib.Core.Bool.{Bool, not, cond, _&&_}
 use mathlib.Core.Option.{Option, none}
 use mathlib.Core.List.{List, [], _∷_}
 use lib.Dec.{eqb}
@@ -12,12 +12,17 @@ use Rattle.record.specs.Layout.{seats}
 use Rattle.record.specs.Meaning.{seatsIn, meaning}
 use Rattle.record.specs.Reading.{sizeRow, soundRow, seatRow, emptyRow}
 use Rattle.search.specs.Walk.{Found, find}
+use Rattle.check_links.specs.Check.{componentsIn}
 use Rattle.check_links.specs.Settled.{settled}
 
 pub record FindAnswer : Type 0 where
   pub refused : ℕ
   pub holder : Option ℕ
   pub hops : ℕ
+
+-- the lots among which the holder is sought in a scan from the lot on seat s (document 02, #104 and #106): those that stay, of its component
+abbrev pub soughtFrom : List ℕ → (s z : ℕ) → Bool
+soughtFrom l s z = stays (seatsIn l) z && eqb (componentsIn l s) (componentsIn l z)
 
 -- what a search found
 abbrev pub searched : Found → FindAnswer

@@ -22,6 +22,13 @@ record Listed (L : Links) (x z : ℕ) : Type 0 where
   steps : ℕ
   walk : Walk L 0 side steps x z
 
+-- what is joined to a node is a node
+pub joined-member : {W : ℕ} {G : Lots} {L : Links} {x y : ℕ} → Joined W G L x y → T (G .member x) ↔ T (G .member y)
+joined-member same = (λ m. m, λ m. m)
+joined-member (linked mx my l e) = (λ m. my, λ m. mx)
+joined-member (turned j) = (joined-member j .1, joined-member j .0)
+joined-member (through i j) = (λ m. joined-member j .0 (joined-member i .0 m), λ m. joined-member i .1 (joined-member j .1 m))
+
 module _ {W : ℕ} {G : Lots} {L : Links} (c : Constraints W G L) where
   walk-joined : {j x z : ℕ} {d : Side} → T (G .member x) → Walk L 0 d j x z → Joined W G L x z
   walk-joined m here = same
@@ -45,12 +52,6 @@ module _ {W : ℕ} {G : Lots} {L : Links} (c : Constraints W G L) where
           record { side = q .side; steps = p .steps + q .steps; walk = walk-append v (q .walk) }
       by (inr e) = let w = subst (λ (s : Side). Walk L 0 s (q .steps) y z) (sym e) (q .walk) in
           meet (walk-reverse c (omega arith) mx (p .walk)) w (decLe (p .steps) (q .steps))
-
-  joined-member : {x y : ℕ} → Joined W G L x y → T (G .member x) ↔ T (G .member y)
-  joined-member same = (λ m. m, λ m. m)
-  joined-member (linked mx my l e) = (λ m. my, λ m. mx)
-  joined-member (turned j) = (joined-member j .1, joined-member j .0)
-  joined-member (through i j) = (λ m. joined-member j .0 (joined-member i .0 m), λ m. joined-member i .1 (joined-member j .1 m))
 
   joined-listed : {x y : ℕ} → T (G .member x) → Joined W G L x y → Listed L x y
   joined-listed m same = record { side = left; steps = 0; walk = here }

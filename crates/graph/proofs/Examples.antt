@@ -1,13 +1,17 @@
--- Evaluated facts of document 01: case (a), the same vectors at twice the width, and the graph of the settled record Q. Assumes nothing.
-use Prim.Native.Nat.{ℕ, _*_}
+-- Evaluated facts: document 01's case (a), the same vectors at twice the width, the graph of the settled record Q, and components by the links.
+-- Assumes nothing.
+use Prim.Native.Nat.{ℕ, _+_, _-_, _*_}
 use mathlib.Core.Path.{_≡_, refl}
 use mathlib.Core.Option.{Option, none, some}
-use mathlib.Core.List.{[], _∷_}
-use lib.Dec.{ltb}
+use mathlib.Core.List.{List, [], _∷_}
+use mathlib.Core.Bool.{Bool, not, cond, _&&_}
+use lib.Dec.{eqb, ltb}
 use lib.ListN.{getD}
+use Rattle.base.specs.Loops.{any, firstFrom}
 use Rattle.graph.specs.Side.{Side, left, right, onSide}
 use Rattle.graph.specs.Vector.{bit, equalBits, shared}
-use Rattle.graph.specs.Graph.{Lots, inList, beside, nearer, nearest, graph}
+use Rattle.graph.specs.Graph.{Lots, Links, inList, beside, nearer, nearest, graph}
+use Rattle.graph.specs.Components.{names, linksTo, linkedWith, joinedBelow, componentOf}
 
 -- case (a)
 pub share-0-128 : shared 8 0 128 ≡ 0
@@ -58,3 +62,37 @@ pub q-level-1 : (linkQ 0 1 left ≡ none) × (linkQ 0 1 right ≡ some 2) × (li
     × (linkQ 2 1 left ≡ some 0) × (linkQ 2 1 right ≡ none)
 unfolding graph nearest nearer beside inList onSide shared equalBits bit
 q-level-1 = (refl, refl, refl, refl, refl, refl)
+
+-- the components of lots on seats 0 to 3, as a list
+abbrev pub labelsOf : (member : ℕ → Bool) → Links → List ℕ
+labelsOf member L = let c = componentOf 8 member L 4 in c 0 ∷ (c 1 ∷ (c 2 ∷ (c 3 ∷ [])))
+
+-- one link: at level k on the right, from x to y
+abbrev oneLink : (x k y : ℕ) → Links
+oneLink x k y z i left = none
+oneLink x k y z i right = cond (eqb z x && eqb i k) (some y) none
+
+-- 0 and 2 are linked, and 1 and 3
+abbrev crossed : Links
+crossed x k left = cond (eqb k 0 && ltb 1 x) (some (x - 2)) none
+crossed x k right = cond (eqb k 0 && ltb x 2) (some (x + 2)) none
+
+pub two-components : labelsOf (λ x. ltb x 4) crossed ≡ 0 ∷ (1 ∷ (0 ∷ (1 ∷ [])))
+unfolding componentOf firstFrom joinedBelow linkedWith linksTo any names
+two-components = refl
+
+-- a link without its link back joins too, at whatever level
+pub joined-above : labelsOf (λ x. ltb x 4) (oneLink 1 8 3) ≡ 0 ∷ (1 ∷ (2 ∷ (1 ∷ [])))
+unfolding componentOf firstFrom joinedBelow linkedWith linksTo any names
+joined-above = refl
+
+-- and through a lot: all of Q. Without 200 on seat 1, 100 and 300 are joined at level 1
+pub joined-through : (labelsOf (settledQ .member) linkQ ≡ 0 ∷ (0 ∷ (0 ∷ (3 ∷ []))))
+    × (labelsOf (λ x. settledQ .member x && not (eqb x 1)) linkQ ≡ 0 ∷ (1 ∷ (0 ∷ (3 ∷ []))))
+unfolding componentOf firstFrom joinedBelow linkedWith linksTo any names graph nearest nearer beside inList onSide shared equalBits bit
+joined-through = (refl, refl)
+
+-- a link to a lot that is no node joins nobody
+pub apart-outside : labelsOf (λ x. ltb x 3) (oneLink 1 0 3) ≡ 0 ∷ (1 ∷ (2 ∷ (3 ∷ [])))
+unfolding componentOf firstFrom joinedBelow linkedWith linksTo any names
+apart-outside = refl

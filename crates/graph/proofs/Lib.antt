@@ -8,5 +8,6 @@ pub mod Walk
 pub mod Levels
 pub mod SkipGraph
 pub mod Components
+pub mod Labels
 pub mod Leading
 pub mod Examples

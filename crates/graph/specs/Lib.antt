@@ -3,4 +3,5 @@ pub mod Side
 pub mod Vector
 pub mod Graph
 pub mod Constraints
+pub mod Components
 pub mod inner

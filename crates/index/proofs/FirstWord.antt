@@ -11,7 +11,7 @@ use Rattle.base.proofs.Any.{any-none}
 use Rattle.base.proofs.Cases.{lt-or-ge}
 use Rattle.base.proofs.Tests.{not-T-false}
 use Rattle.memory.specs.Bits.{hasBit}
-use Rattle.memory.proofs.First.{first, first-is}
+use Rattle.base.proofs.First.{first, first-is}
 use Rattle.index.specs.inner.Index.{parts, isNoted, isSome, Exact}
 use Rattle.index.proofs.Index.{some-within}
 

@@ -23,13 +23,14 @@ use Rattle.protocol.proofs.SoundFacts.{free-empty, empty-unlinked}
 use Rattle.protocol.proofs.Accepted.{Reserves, reserve-rows, join-reserve, leave-rows}
 use Rattle.record.specs.Layout.{seats, stateAt}
 use Rattle.record.specs.Meaning.{meaning, bytesOf, stateByte}
+use Rattle.record.specs.inner.Entry.{filled}
 use Rattle.record.proofs.Form.{Form}
 use Rattle.record.proofs.Round.{bytes-meaning}
 use Rattle.record.proofs.Update.{withState, withPending, bytes-withState}
 use Rattle.record.proofs.Sent.{bytes-withMessage}
 use Rattle.record.proofs.Entry.{withLot, bytes-withLot-unlinked}
 use Rattle.record.proofs.Accepted.{Accepted}
-use Rattle.joining.specs.inner.Newcomer.{filled, greeted}
+use Rattle.joining.specs.inner.Newcomer.{greeted}
 
 -- a seat without a lot has no links, so three fields are all that changes of the entries
 pub filled-bytes : {l : List ℕ} → Form l → Sound seats width (meaning l) → (s : ℕ) (t : SeatState) (n v : ℕ) → s < seats

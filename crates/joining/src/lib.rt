@@ -12,7 +12,6 @@ ghost use Rattle.record.specs.Answer.{outcome, Numbered};
 
 pub mod newcomer;
 
-use newcomer::fill;
 use newcomer::greet;
 use newcomer::lacks_contact;
 use newcomer::lacks_seat;
@@ -21,6 +20,7 @@ use record::Answer;
 use record::LEAVING;
 use record::SEATS;
 use record::STAYING;
+use record::fill;
 use record::lots::is_clearing;
 use record::lots::is_leaving;
 use record::lots::is_seated;

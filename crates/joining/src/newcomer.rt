@@ -1,4 +1,4 @@
-// What a join, a reservation and its confirmation have in common: the rows of the table, the three fields of a seat, and the MEET to the contact.
+// What a join, a reservation and its confirmation have in common: the rows of the table, and the MEET to the contact.
 ghost use mathlib.Core.Path.{_≡_};
 ghost use mathlib.Core.Bool.{_&&_, _||_};
 ghost use Prim.Native.Nat.{ℕ, _<_};
@@ -11,7 +11,7 @@ ghost use Rattle.protocol.specs.Calls.{reserve, refusal};
 ghost use Rattle.protocol.specs.pages.Join.{noSuchContact, inUse, lacksContact};
 ghost use Rattle.record.specs.Layout.{seats, size};
 ghost use Rattle.record.specs.Meaning.{seatsIn, meaning};
-ghost use Rattle.joining.specs.inner.Newcomer.{filled, greeted};
+ghost use Rattle.joining.specs.inner.Newcomer.{greeted};
 use messages::meet_place;
 use record::NONE;
 use record::SEATS;
@@ -94,16 +94,6 @@ pub fn lacks_seat(seat: usize, contact: usize) -> bool
     ensures { λ r. ⌜ r ≡ noSeat seats seat || noSuchContact seats contact ⌝ }
 {
     seat >= SEATS || (contact >= SEATS && contact != NONE as usize)
-}
-
-// Writes state, number and vector of seat s.
-pub fn fill(rec: &mut [u8], s: usize, state: u8, number: u64, vector: u8)
-    requires { ⌜ (length (now rec) ≡ size) × (s < seats) ⌝ }
-    ensures { λ _. ⌜ now (rec .exit) ≡ filled (now (rec .entry)) s state number vector ⌝ }
-{
-    record::set_state(rec, s, state);
-    record::set_number(rec, s, number);
-    record::set_vector(rec, s, vector);
 }
 
 // Lets the contact know of the newcomer on seat s: it is sent MEET at level 0. A contact that is no seat is none.

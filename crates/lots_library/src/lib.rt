@@ -4,7 +4,7 @@
 ghost use mathlib.Core.Path.{_≡_};
 ghost use Rattle.protocol.specs.Message.{name};
 ghost use Rattle.protocol.specs.Calls.{join as joining, reserve as reserving, confirm as confirming, giveBack as givingBack};
-ghost use Rattle.protocol.specs.Calls.{leave as leaving, deliver as delivering, turn as turning};
+ghost use Rattle.protocol.specs.Calls.{leave as leaving, deliver as delivering, turn as turning, crash as crashing};
 ghost use Rattle.record.specs.Reading.{recordRefusal, openRefusal, openBytes, readLot, readLink, readMessage, readCounts};
 ghost use Rattle.record.specs.Call.{called};
 ghost use Rattle.record.specs.Bundle.{bundled};
@@ -122,6 +122,14 @@ pub extern "C" fn lots_turn(rec: &mut [u8]) -> u8
     ensures { λ r. ⌜ record { refused = r; after = now (rec .exit) } ≡ called (now (rec .entry)) turning ⌝ }
 {
     number_of(clearing::turn(rec))
+}
+
+// Frees the seats of a set, whose lots are gone, and makes the ends of each link that remains above level 0 known to each other. Refused: 1, 2, 7, 8, 11.
+#[no_mangle]
+pub extern "C" fn lots_crash(rec: &mut [u8], seats: u64) -> u8
+    ensures { λ r. ⌜ record { refused = r; after = now (rec .exit) } ≡ called (now (rec .entry)) (crashing seats) ⌝ }
+{
+    number_of(crash::crash(rec, seats))
 }
 
 // The staying lot that a scanned number belongs to, searched from the lot on a seat: its seat, or 255 for none, and the hops. Refused: 1, 2, 3,

@@ -3,7 +3,7 @@ use Prim.Native.Nat.{ℕ, zero, suc, _+_, _-_, _*_, _/_, _%_, _^_, _≤_, _<_}
 use mathlib.Core.Path.{_≡_, refl, sym, ap, _∙_}
 use mathlib.Core.Bool.{Bool, true, false}
 use native.Mathlib.Omega.{arith}
-use native.Mathlib.Nat.{le-trans, mul-le-mul-right, mul-assoc, one-mul, zero-mul, mod-le, zero-div, div-mul-le-self, pow-suc}
+use native.Mathlib.Nat.{le-trans, mul-le-mul-right, mul-assoc, one-mul, zero-mul, mod-le, div-mul-le-self, pow-suc}
 use native.Mathlib.Numerals.{one-add}
 use lib.Bits.{bitAnd, bitOr, and-high, or-add-and}
 use lib.Dec.{eqb, lit<}
@@ -12,6 +12,7 @@ use borrow.Author.Tests.{eq-eqb, ne-eqb, eqb-true}
 use Rattle.base.specs.Loops.{oneIf}
 use Rattle.memory.specs.Bits.{bitOf, hasBit, withBit}
 use Rattle.base.proofs.Count.{oneIf-le}
+pub use Rattle.base.proofs.Bits.{hasBit-none}
 
 -- the lowest bit
 pub bitOf-zero : (x : ℕ) → bitOf x 0 ≡ x % 2
@@ -29,10 +30,6 @@ bitOf-suc x k = ap (bitOf x) (sym (one-add k)) ∙ sym (bitOf-shr x 1 k)
 pub bitOf-two : (x k : ℕ) → bitOf x k < 2
 unfolding bitOf
 bitOf-two x k = omega arith
-
-pub bitOf-none : (k : ℕ) → bitOf 0 k ≡ 0
-unfolding bitOf
-bitOf-none k = rw zero-div
 
 -- what a bit stands for is within the number
 pub bitOf-le : (x k : ℕ) → bitOf x k * 2 ^ k ≤ x
@@ -54,10 +51,6 @@ hasBit-is x k false e = ne-eqb (bitOf x k) 1 (λ q. omega arith)
 
 pub hasBit-shr : (x k j : ℕ) → hasBit x (k + j) ≡ hasBit (x / 2 ^ k) j
 hasBit-shr x k j = ap (λ (y : ℕ). eqb y 1) (sym (bitOf-shr x k j))
-
--- 0 has no bit
-pub hasBit-none : (k : ℕ) → hasBit 0 k ≡ false
-hasBit-none k = hasBit-is 0 k false (bitOf-none k)
 
 -- a number with a bit changed: its lowest bit, and those above it
 withBit-zero : (x : ℕ) (b : Bool) → withBit x 0 b ≡ x / 2 * 2 + oneIf b

@@ -1,5 +1,4 @@
 -- Laws of the definitions of specs/.
-pub mod First
 pub mod Bytes
 pub mod Digits
 pub mod Bits

@@ -12,7 +12,7 @@ use Rattle.base.specs.Loops.{firstFrom, count}
 use Rattle.memory.specs.Bits.{hasBit, packed}
 use Rattle.base.proofs.Cases.{lt-or-ge}
 use Rattle.memory.proofs.Bits.{bitOf-zero, oneIf-hasBit, hasBit-is, hasBit-shr}
-use Rattle.memory.proofs.First.{first, first-same, first-shift}
+use Rattle.base.proofs.First.{first, first-same, first-shift}
 use Rattle.base.proofs.Count.{count-append, count-more, count-none, count-same}
 use Rattle.memory.proofs.Packed.{packed-lt, packed-bits, packed-none}
 

@@ -14,7 +14,7 @@ use Rattle.base.specs.Loops.{firstFrom, count}
 use Rattle.memory.specs.Bytes.{AreBytes, isZero, nonZero}
 use Rattle.memory.specs.Bits.{hasBit, bitSet}
 use Rattle.base.proofs.Cases.{lt-or-ge}
-use Rattle.memory.proofs.First.{IsFirst, first, first-end, first-same, first-shift, first-skip, first-found}
+use Rattle.base.proofs.First.{IsFirst, first, first-end, first-same, first-shift, first-skip, first-found}
 use Rattle.base.proofs.Count.{count-append, count-same, count-zero}
 use Rattle.memory.proofs.Bits.{hasBit-none}
 use Rattle.memory.proofs.Packed.{bits-same}

@@ -13,7 +13,7 @@ use Rattle.base.specs.Loops.{all, firstFrom}
 use Rattle.memory.specs.Bytes.{numberAt, isZero, nonZero, zeros}
 use Rattle.base.proofs.Cases.{eqb-both}
 use Rattle.base.proofs.All.{all-at}
-use Rattle.memory.proofs.First.{first-skip}
+use Rattle.base.proofs.First.{first-skip}
 
 -- an array made of zeros
 pub replicate-zero : (n i : ℕ) → getD {A = ℕ} (replicate n 0) i 0 ≡ 0

@@ -2,17 +2,10 @@
 use Prim.Native.Nat.{ℕ, zero, suc, _+_, _-_, _*_, _/_, _%_, _^_}
 use mathlib.Core.Bool.{Bool, true, false}
 use mathlib.Core.List.{List}
-use lib.Dec.{eqb}
 use lib.ListN.{getD, set}
 use Rattle.base.specs.Loops.{oneIf}
-
--- bit k of x: 0 or 1
-unfoldable pub bitOf : (x k : ℕ) → ℕ
-bitOf x k = x / 2 ^ k % 2
-
--- bit k of x is 1
-abbrev pub hasBit : (x k : ℕ) → Bool
-hasBit x k = eqb (bitOf x k) 1
+unfoldable pub use Rattle.base.specs.Bits.{bitOf}
+pub use Rattle.base.specs.Bits.{hasBit}
 
 -- x with b for its bit k
 unfoldable pub withBit : (x k : ℕ) (b : Bool) → ℕ

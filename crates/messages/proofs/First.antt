@@ -16,7 +16,7 @@ use Rattle.base.proofs.Cases.{lt-or-ge, eq-or-ne}
 use Rattle.base.proofs.Count.{count-zero}
 use Rattle.base.proofs.Tests.{T-true, true-T, false-T}
 use Rattle.memory.specs.Bits.{bitSet}
-use Rattle.memory.proofs.First.{IsFirst, first, first-same}
+use Rattle.base.proofs.First.{IsFirst, first, first-same}
 use Rattle.graph.specs.Vector.{width}
 use Rattle.protocol.specs.Message.{Msg, Name, name}
 use Rattle.protocol.specs.Numbering.{messageAt, somePending}

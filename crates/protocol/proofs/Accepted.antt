@@ -2,17 +2,19 @@
 use Prim.Native.Nat.{ℕ, _≤_, _<_}
 use mathlib.Core.Path.{_≡_, refl}
 use mathlib.Core.Logic.{_≢_}
-use mathlib.Core.Bool.{Bool, true, false, cond, _&&_, _||_}
+use mathlib.Core.Bool.{Bool, true, false, not, cond, _&&_, _||_}
 use lib.Dec.{T, eqb, ltb}
 use borrow.Author.Tests.{ltb-true, lt-ltb, le-ltb, not-false, eq-eqb}
+use Rattle.base.specs.Bits.{hasBit}
 use Rattle.base.proofs.Tests.{true-T, and-T}
 use Rattle.protocol.specs.Message.{Msg, Name, named}
 use Rattle.protocol.specs.Numbering.{somePending}
-use Rattle.protocol.specs.State.{open-phase, Seats, isClearing, noSeat, taken, seated, leaves, held, isPending}
-use Rattle.protocol.specs.Calls.{Call, join, reserve, confirm, giveBack, leave, deliver, turn, rows, refusal}
+use Rattle.protocol.specs.State.{open-phase, Seats, isClearing, noSeat, taken, seated, empty, leaves, held, isPending}
+use Rattle.protocol.specs.Calls.{Call, join, reserve, confirm, giveBack, leave, deliver, turn, crash, rows, refusal}
 use Rattle.protocol.specs.Refusals.{wrongSize, unsound, noSuchLevel, noSuchSeat, seatTaken, numberInUse, noContact, inClearing, emptySeat}
 use Rattle.protocol.specs.Refusals.{alreadyLeaving, noSuchMessage, messagesLeft, notReserved, appliesIn, first}
 use Rattle.protocol.specs.pages.Join.{noSuchContact, inUse, lacksContact}
+use Rattle.protocol.specs.pages.Crash.{namesEmpty}
 use Rattle.protocol.proofs.Calls.{no-row}
 use Rattle.base.proofs.Any.{any-none}
 use Rattle.protocol.proofs.SoundFacts.{false-not, phase-open}
@@ -42,6 +44,7 @@ module _ (N W : ℕ) (r : Seats) (p : Msg → Bool) where
   rows-free (leave s) = (refl, refl, refl)
   rows-free (deliver n) = (refl, refl, refl)
   rows-free turn = (refl, refl, refl)
+  rows-free (crash set) = (refl, refl, refl)
 
   -- what the rows of a join, of reserving and of confirming say in common
   not-used : (n : ℕ) → inUse N r n ≡ false → (x : ℕ) → x < N → T (taken r x) → r .number x ≢ n
@@ -147,3 +150,23 @@ module _ (N W : ℕ) (r : Seats) (p : Msg → Bool) where
   pub turn-row : refusal N W r p turn ≡ 0 → somePending N W p ≡ false
   unfolding refusal rows
   turn-row e = no-row (rows N W r p turn) messagesLeft tt e
+
+  pub record Crashes (set : ℕ) : Type 0 where
+    pub opens : r .phase ≡ open-phase
+    pub occupied : (x : ℕ) → x < N → T (hasBit set x) → T (seated r x)
+    pub quiet : somePending N W p ≡ false
+
+  pub crash-rows : (set : ℕ) → refusal N W r p (crash set) ≡ 0 → Crashes set
+  unfolding refusal rows
+  crash-rows set e =
+      let rs = rows N W r p (crash set) in
+      let all : namesEmpty N r set ≡ false = no-row rs emptySeat tt e in
+      record {
+        opens = phase-open (r .phase) (false-not (no-row rs inClearing tt e));
+        occupied = λ x l t. by (seated r x) (λ u. any-none N (λ z. hasBit set z && empty r z) all x l (and-T (hasBit set x) (empty r x) t u));
+        quiet = no-row rs messagesLeft tt e;
+      }
+    where
+      by : (b : Bool) → (T (not b) → ⊥) → T b
+      by true f = tt
+      by false f = absurd (f tt)

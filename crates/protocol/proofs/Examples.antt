@@ -16,8 +16,8 @@ use Rattle.protocol.specs.Rules.{Entry, Effect, staying, keep, set, toLi
 use Rattle.protocol.specs.State.{Meaning, nobody, opened, isPending}
 use Rattle.protocol.specs.Calls.{Call, join, leave, deliver, turn, rows, refusal, seatsAfter, sends, takes, linksAfter}
 use Rattle.protocol.specs.Refusals.{first}
-use Rattle.protocol.specs.Page.{at, isTaken, pendingAfter}
-use Rattle.protocol.specs.pages.Turn.{afterTurn, each, farewell, farewells, turnSends, turnLinks}
+use Rattle.protocol.specs.Page.{each, at, isTaken, pendingAfter}
+use Rattle.protocol.specs.pages.Turn.{afterTurn, farewell, farewells, turnSends, turnLinks}
 use Rattle.protocol.specs.pages.Deliver.{rule, deliverySends, applied, deliveryLinks}
 use Rattle.protocol.specs.Freeing.{unlinked}
 use Rattle.protocol.specs.Calls.{accept, unlessRefused, call}
@@ -40,15 +40,15 @@ lot-100 : Option ℕ → Entry
 lot-100 o = record { state = staying; number = 100; vector = 0; link = links-of o }
 
 -- two lists have the same messages, and as many
-all-among : List Msg → List Msg → Bool
+unfoldable pub all-among : List Msg → List Msg → Bool
 all-among [] k = true
 all-among (m ∷ l) k = among k m && all-among l k
 
-count-of : List Msg → ℕ
+unfoldable pub count-of : List Msg → ℕ
 count-of [] = 0
 count-of (m ∷ l) = suc (count-of l)
 
-same-messages : List Msg → List Msg → Bool
+unfoldable pub same-messages : List Msg → List Msg → Bool
 same-messages l k = all-among l k && (all-among k l && eqb (count-of l) (count-of k))
 
 -- (i) right link 300, MEET about 200: link 200, and 200 gets MEET about 100, MEET about 300, PROBE about 100
@@ -95,14 +95,14 @@ unfolding refusals calls logOf meaningRun stepsFrom step steps opened nobody cal
 refused = refl
 
 -- the messages that a bundle delivers, and what it leaves
-bundled : ℕ → Meaning → List Name
+unfoldable pub bundled : ℕ → Meaning → List Name
 bundled n M = bundleOf (call 3 2) 3 2 (λ K. K .pending) n M
 
-drained : ℕ → Meaning → Meaning
+unfoldable pub drained : ℕ → Meaning → Meaning
 drained n M = leftBy (call 3 2) M (bundled n M)
 
 -- Q: lots 100, 200, 300 with vectors 00, 10, 01
-joined-Q : Meaning
+unfoldable pub joined-Q : Meaning
 joined-Q = meaningRun 3 2 (join 0 100 0 255 ∷ join 1 200 2 0 ∷ join 2 300 1 0 ∷ []) .now
 
 settled-Q : Meaning
@@ -130,7 +130,7 @@ unfolding joined-Q drained bundled bundleOf leftBy onward smallestFrom smallestO
     sideOf bit equalBits shared named ifZero ifBit sameMsg among somePending messageAt split pairAt pullAt sideAt
 all-Q = refl
 
-links : Meaning → List (Option ℕ)
+unfoldable pub links : Meaning → List (Option ℕ)
 links M =
     M .link 0 0 right ∷ M .link 1 0 left ∷ M .link 1 0 right ∷ M .link 2 0 left
     ∷ M .link 0 1 right ∷ M .link 2 1 left ∷ M .link 1 1 left ∷ M .link 1 1 right ∷ M .link 0 2 right ∷ []
@@ -150,7 +150,7 @@ unfolding links settled-Q joined-Q drained bundled bundleOf leftBy onward smalle
 Q-links = refl
 
 -- (k) leave 1, turn, deliver all, turn: 100 and 300 are linked at levels 0 and 1, and seat 1 is as opened
-after : Meaning → Call → Meaning
+unfoldable pub after : Meaning → Call → Meaning
 after M c = call 3 2 M c .after
 
 left-Q : Meaning

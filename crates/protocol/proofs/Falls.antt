@@ -8,7 +8,7 @@ use native.Mathlib.Omega.{arith}
 use lib.Dec.{T}
 use Rattle.base.proofs.Tests.{dec-T}
 use Rattle.protocol.specs.Message.{Msg, Name, named}
-use Rattle.protocol.specs.State.{Phase, open-phase, clearing, Meaning, oneComponent, stays, isPending}
+use Rattle.protocol.specs.State.{Phase, open-phase, clearing, Meaning, stays, isPending}
 use Rattle.protocol.specs.Calls.{deliver, refusal, accept, unlessRefused, call}
 use Rattle.protocol.specs.Sound.{Sound}
 use Rattle.protocol.specs.Run.{accepted}
@@ -16,7 +16,7 @@ use Rattle.protocol.proofs.World.{World, pair-level}
 use Rattle.protocol.proofs.Delivery.{stateOf, delivered, delivers, accept-deliver}
 use Rattle.protocol.proofs.SoundFacts.{Proper, link-linked, pending-proper, pending-exists, seated-below}
 use Rattle.protocol.proofs.Accepted.{deliver-row}
-use Rattle.protocol.proofs.Reached.{sound-laws, worldOf, Stayer, open-rule, clearing-rule}
+use Rattle.protocol.proofs.Reached.{oneComponent, sound-laws, worldOf, Stayer, open-rule, clearing-rule}
 use Rattle.protocol.proofs.KeepDelivery.{all-proper, sided, deliver-sound}
 use Rattle.protocol.proofs.Measure.{weight, bound}
 use Rattle.protocol.proofs.Ends.{open-cost, open-less}

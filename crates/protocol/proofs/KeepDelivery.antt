@@ -11,7 +11,7 @@ use Rattle.graph.specs.Graph.{Links}
 use Rattle.graph.proofs.Order.{lt-trans, lt-ne, lt-ne′}
 use Rattle.protocol.specs.Message.{Msg, Name, nameOf, named}
 use Rattle.protocol.specs.Rules.{set}
-use Rattle.protocol.specs.State.{Phase, open-phase, clearing, Seats, Meaning, isFree, oneComponent, isPending}
+use Rattle.protocol.specs.State.{Phase, open-phase, clearing, Seats, Meaning, isFree, isPending}
 use Rattle.protocol.specs.Calls.{deliver, refusal, seatsAfter, sends, takes, linksAfter, accept}
 use Rattle.protocol.specs.pages.Deliver.{rule, deliverySends, applied, deliveryLinks}
 use Rattle.protocol.specs.Page.{pendingAfter}
@@ -25,7 +25,7 @@ use Rattle.protocol.proofs.Clearing as Clearing
 use Rattle.protocol.proofs.ClearingEffect.{Sided, s-going, s-seek, s-found, s-none}
 use Rattle.protocol.proofs.SoundFacts.{seated-taken, Two, Linked, Proper, p-meet, p-probe, p-pull, p-going, p-seek, p-found, p-none, two-sym, two-via}
 use Rattle.protocol.proofs.SoundFacts.{two-level, link-linked, two-lt, linked-ok, proper-ok, pending-proper, pending-after}
-use Rattle.protocol.proofs.Reached.{sound-laws, worldOf, Stayer, open-rule, clearing-rule}
+use Rattle.protocol.proofs.Reached.{oneComponent, sound-laws, worldOf, Stayer, open-rule, clearing-rule}
 
 -- what the rule of a message may send in phase p, and which link it may set
 pub record Fits (W : ℕ) (M : Meaning) (p : Phase) (m : Msg) : Type 0 where

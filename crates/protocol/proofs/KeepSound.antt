@@ -3,18 +3,21 @@
 use Prim.Native.Nat.{ℕ, zero, suc}
 use mathlib.Core.Path.{_≡_, refl}
 use mathlib.Core.Bool.{false}
+use lib.Dec.{T}
 use lib.Pow.{pow-pos}
 use Rattle.base.proofs.Tests.{false-T, none-some}
+use Rattle.protocol.specs.Message.{Msg}
 use Rattle.protocol.specs.Numbering.{somePending}
 use Rattle.protocol.specs.State.{Meaning, nobody, opened}
-use Rattle.protocol.specs.Calls.{Call, join, reserve, confirm, giveBack, leave, deliver, turn, refusal, accept, unlessRefused, call, InRange}
+use Rattle.protocol.specs.Calls.{Call, join, reserve, confirm, giveBack, leave, deliver, turn, crash, refusal, accept, unlessRefused, call, InRange}
 use Rattle.protocol.specs.Sound.{numberBits, Sound}
 use Rattle.protocol.proofs.Numbering.{none-pending}
 use Rattle.protocol.proofs.SoundFacts.{pending-exists}
-use Rattle.protocol.proofs.Accepted.{turn-row}
+use Rattle.protocol.proofs.Accepted.{turn-row, crash-rows}
 use Rattle.protocol.proofs.KeepDelivery.{deliver-sound}
 use Rattle.protocol.proofs.KeepCalls.{join-sound, reserve-sound, confirm-sound, give-back-sound, leave-sound}
 use Rattle.protocol.proofs.KeepTurn.{turn-sound}
+use Rattle.protocol.proofs.KeepCrash.{crash-sound}
 
 pub opened-sound : (N W : ℕ) → Sound N W opened
 unfolding opened nobody
@@ -28,6 +31,10 @@ opened-sound N W = record {
   messages = λ m t. absurd t;
 }
 
+-- nothing pending, as the table tests it
+pub nothing-left : {N W : ℕ} {M : Meaning} → Sound N W M → somePending N W (M .pending) ≡ false → (m : Msg) → T (M .pending m) → ⊥
+nothing-left {N} {W} {M} h e m t = false-T (none-pending N W (M .pending) e m (pending-exists h m t)) t
+
 pub accept-sound : (N W : ℕ) (M : Meaning) → Sound N W M → (c : Call) → InRange N W c → refusal N W (M .seats) (M .pending) c ≡ 0
     → Sound N W (accept N W M c)
 accept-sound N W M h (join s n v c) q e = join-sound h s n v c (q .0) (q .1) e
@@ -36,10 +43,8 @@ accept-sound N W M h (confirm s c) q e = confirm-sound h s c e
 accept-sound N W M h (giveBack s) q e = give-back-sound h s e
 accept-sound N W M h (leave s) q e = leave-sound h s e
 accept-sound N W M h (deliver n) q e = deliver-sound h n e
-accept-sound N W M h turn q e = turn-sound h (λ m t. false-T (none-pending N W (M .pending) none-left m (pending-exists h m t)) t)
-  where
-    none-left : somePending N W (M .pending) ≡ false
-    none-left = turn-row N W (M .seats) (M .pending) e
+accept-sound N W M h turn q e = turn-sound h (nothing-left h (turn-row N W (M .seats) (M .pending) e))
+accept-sound N W M h (crash set) q e = let c = crash-rows N W (M .seats) (M .pending) set e in crash-sound h (nothing-left h (c .quiet)) (c .opens) set
 
 pub call-sound : (N W : ℕ) (M : Meaning) → Sound N W M → (c : Call) → InRange N W c → Sound N W (call N W M c .after)
 unfolding call unlessRefused

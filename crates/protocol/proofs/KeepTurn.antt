@@ -16,12 +16,13 @@ use Rattle.protocol.specs.State.{Phase, open-phase, clearing, Seats, Mea
 use Rattle.protocol.specs.Calls.{turn, seatsAfter, sends, takes, linksAfter, accept}
 use Rattle.protocol.specs.pages.Turn.{afterTurn, farewell, farewells, turnSends, turnLinks}
 use Rattle.protocol.specs.Page.{pendingAfter}
-use Rattle.protocol.specs.Freeing.{unlinked}
+use Rattle.protocol.specs.Freeing.{freeing}
 use Rattle.protocol.specs.Sound.{numberBits, messageOk, Sound}
 use Rattle.base.proofs.Any.{any-in}
 use Rattle.protocol.proofs.Sent.{All, all-at, all-sent}
 use Rattle.protocol.proofs.SoundFacts.{Linked, p-going, linked-ok, proper-ok, two-level, link-linked, pending-after}
-use Rattle.protocol.proofs.KeepCalls.{Kept, Held, linked-kept, link-kept, seats-kept, differ-kept}
+use Rattle.protocol.proofs.KeepCalls.{link-kept}
+use Rattle.protocol.proofs.KeepFreeing.{freed-sound}
 
 -- a GOING of a turn: a leaver's, to its link
 pub record Farewell (N : ℕ) (r : Seats) (L : Links) (m : Msg) : Type 0 where
@@ -46,24 +47,6 @@ all-farewells N W r L = search (all-sent, to-left, to-right) depth 9
 
 pub farewell-out : (N W : ℕ) (r : Seats) (L : Links) {m : Msg} → List·Memᴰ m (farewells N W r L) → Farewell N r L m
 farewell-out N W r L h = all-at (all-farewells N W r L) h
-
--- a link after seats are freed
-unlinked-none : (freed : ℕ → Bool) {o : Option ℕ} → o ≡ none → unlinked freed o ≡ none
-unfolding unlinked
-unlinked-none freed e = rw e
-
-pub unlinked-some : (freed : ℕ → Bool) (o : Option ℕ) (y : ℕ) → unlinked freed o ≡ some y → (o ≡ some y) × (freed y ≡ false)
-unfolding unlinked
-unlinked-some freed none y e = none-some refl e
-unlinked-some freed (some z) y e = by (freed z) refl e
-  where
-    by : (b : Bool) → freed z ≡ b → cond b none (some z) ≡ some y → (some z ≡ some y) × (freed y ≡ false)
-    by true f e = none-some refl e
-    by false f e = (e, ap freed (sym (some-inj e)) ∙ f)
-
-zero-or : (b : Bool) (n m : ℕ) → 0 < m → n < m → cond b 0 n < m
-zero-or true n m p q = p
-zero-or false n m p q = q
 
 module _ {N W : ℕ} {M : Meaning} (h : Sound N W M) (still : (m : Msg) → T (M .pending m) → ⊥) where
   abbrev r : Seats
@@ -97,43 +80,9 @@ module _ {N W : ℕ} {M : Meaning} (h : Sound N W M) (still : (m : Msg) → T (M
 
   turn-clearing : Sound N W (turned clearing)
   unfolding afterTurn turnLinks turnSends
-  turn-clearing = record {
-    seats = seats-kept h old;
-    numbers = λ x. zero-or (leaves r x) (r .number x) (2 ^ numberBits) (pow-pos numberBits) (h .numbers x);
-    vectors = λ x. zero-or (leaves r x) (r .vector x) (2 ^ W) (pow-pos W) (h .vectors x);
-    unused = λ x t. unused x (leaves r x) refl t;
-    differ = differ-kept h old;
-    links = λ x k y d e. linked-ok W r′ (linked x k y d (leaves r x) refl e);
-    messages = pending-after (λ m. T (messageOk W r′ m)) [] none (M .pending) (λ m t. absurd (still m t)) (λ m q. absurd (List·Memᴰ·not-nil q));
-  }
-    where
-      r′ : Seats
-      r′ = afterTurn N clearing r
-
-      new : (x : ℕ) → T (seated r x) → leaves r x ≡ false → Kept r r′ x
-      new x t e = record { there = rw e t; number = rw e; vector = rw e }
-
-      old : (x : ℕ) → T (taken r′ x) → Held r′ r x
-      old x t = by (leaves r x) refl t
-        where
-          by : (b : Bool) → leaves r x ≡ b → T (not (isFree (cond b free (r .state x)))) → Held r′ r x
-          by true e t = absurd t
-          by false e t = record { there = t; number = rw e }
-
-      unused : (x : ℕ) (b : Bool) → leaves r x ≡ b → T (isFree (r′ .state x))
-          → (cond b 0 (r .number x) ≡ 0)
-          × (cond b 0 (r .vector x) ≡ 0)
-          × ((k : ℕ) (d : Side) → cond b none (unlinked (leaves r) (M .link x k d)) ≡ none)
-      unused x true e t = (refl, refl, λ k d. refl)
-      unused x false e t = let (n, v, l) = h .unused x (rw e at t) in (n, v, λ k d. unlinked-none (leaves r) (l k d))
-
-      linked : (x k y : ℕ) (d : Side) (b : Bool) → leaves r x ≡ b → cond b none (unlinked (leaves r) (M .link x k d)) ≡ some y
-          → Linked W r′ x k d y
-      linked x k y d true e q = none-some refl q
-      linked x k y d false e q =
-          let (f, g) = unlinked-some (leaves r) (M .link x k d) y q in
-          let l = link-linked h f in
-          linked-kept (new x (l .0 .one) e) (new y (l .0 .two) g) l
+  turn-clearing = freed-sound h (leaves r) open-phase (pendingAfter [] none (M .pending))
+      (pending-after (λ m. T (messageOk W (freeing (leaves r) open-phase r) m)) [] none (M .pending)
+      (λ m t. absurd (still m t)) (λ m q. absurd (List·Memᴰ·not-nil q)))
 
   pub turn-sound : Sound N W (accept N W M turn)
   unfolding accept seatsAfter linksAfter sends takes

@@ -1,5 +1,6 @@
 -- Why the protocol is right.
 pub mod Examples
+pub mod CrashExamples
 pub mod Message
 pub mod Calls
 pub mod Sent
@@ -22,9 +23,11 @@ pub mod Measure
 pub mod Ends
 pub mod ClearingEnds
 pub mod Turn
+pub mod Cut
 pub mod Reached
 pub mod ReachedCalls
 pub mod ReachedTurn
+pub mod ReachedCrash
 pub mod Falls
 pub mod Bundle
 pub mod Theorem
@@ -41,6 +44,8 @@ pub mod Accepted
 pub mod Reserving
 pub mod KeepDelivery
 pub mod KeepCalls
+pub mod KeepFreeing
 pub mod KeepTurn
+pub mod KeepCrash
 pub mod KeepSound
 pub mod Local

@@ -31,6 +31,10 @@ pub record Laws (r : Seats) : Type 0 where
 pub sound-laws : {N W : ℕ} {M : Meaning} → Sound N W M → Laws (M .seats)
 sound-laws h = record { small = h .numbers; differ = seated-differ h }
 
+-- all lots in one component, for what does not depend on it
+abbrev pub oneComponent : ℕ → ℕ
+oneComponent x = 0
+
 -- the seated lots, with the component of each
 abbrev pub worldOf : (c : ℕ → ℕ) (W : ℕ) (r : Seats) → Laws r → World
 worldOf c W r l = record { W = W; Seated = λ x. T (seated r x); num = r .number; vec = r .vector; comp = c; small = l .small; differ = l .differ }
@@ -84,7 +88,7 @@ sane-deliver {c} {W} {M} (in-clearing L a i) m t =
 
 -- who the members are
 module _ (r : Seats) (x : ℕ) where
-  member-open : r .phase ≡ open-phase → member r x ≡ seated r x
+  pub member-open : r .phase ≡ open-phase → member r x ≡ seated r x
   unfolding member
   member-open e = rw e
 

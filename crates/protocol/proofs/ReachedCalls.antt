@@ -16,6 +16,7 @@ use Rattle.protocol.specs.Rules.{SeatState, free, staying, leaving, rese
 use Rattle.protocol.specs.State.{Phase, open-phase, clearing, Seats, Meaning, isSeated, seated, stays}
 use Rattle.protocol.specs.Calls.{reserve, confirm, giveBack, leave, seatsAfter, sends, takes, linksAfter, accept}
 use Rattle.protocol.specs.Page.{marking, seating, withoutLinks, isTaken, pendingAfter}
+use Rattle.protocol.specs.pages.Join.{admitted}
 use Rattle.protocol.specs.Sound.{Sound}
 use Rattle.protocol.proofs.Message.{among-mem, mem-among}
 use Rattle.protocol.proofs.Calls.{at-same, at-other, at-tested, after-nothing, after-came, after-kept, after-only}
@@ -147,22 +148,29 @@ module _ (comp : ℕ → ℕ) {N W : ℕ} {M : Meaning} (h : Sound N W M) (s c :
       by (yes q) = inr q
       by (no q) = inl (rw (at-other s staying (r .state) x q) at t)
 
+  -- the components after it
+  abbrev comp′ : ℕ → ℕ
+  comp′ = admitted N s c comp
+
   -- the newcomer is in the component of its contact
-  grows : c < N → comp s ≡ comp c → (l : Laws r) (l′ : Laws r′) → Grows (worldOf comp W r l) (worldOf comp W r′ l′) s c
-  grows p same l l′ = record {
+  grows : c < N → (l : Laws r) (l′ : Laws r′) → Grows (worldOf comp W r l) (worldOf comp′ W r′ l′) s c
+  grows p l l′ = record {
     has = record {
-      agree = record { width = refl; number = λ x t. refl; vector = λ x t. refl; component = λ x t. refl };
+      agree = record { width = refl; number = λ x t. refl; vector = λ x t. refl; component = λ x t. old x (other x t) };
       still = λ x t. rw (at-other s staying (r .state) x (other x t)) t;
     };
     new = rw (at-same s staying (r .state) s refl) tt;
     from = who;
     apart = other c (ok .contact p);
-    contact = same;
+    contact = at-same s (cond (ltb c N) (comp c) s) comp s refl ∙ rw (lt-ltb c N p);
   }
+    where
+      old : (x : ℕ) → x ≢ s → comp′ x ≡ comp x
+      old x n = at-other s (cond (ltb c N) (comp c) s) comp x n
 
-  confirmed : (c < N → comp s ≡ comp c) → Sane comp W M open-phase → Sane comp W (accept N W M (confirm s c)) open-phase
+  confirmed : Sane comp W M open-phase → Sane comp′ W (accept N W M (confirm s c)) open-phase
   unfolding accept linksAfter sends takes seatsAfter
-  confirmed same (in-open i) = by (decLt c N)
+  confirmed (in-open i) = by (decLt c N)
     where
       sent : Bool → List Msg
       sent b = cond b (meet c s 0 ∷ []) []
@@ -182,10 +190,10 @@ module _ (comp : ℕ → ℕ) {N W : ℕ} {M : Meaning} (h : Sound N W M) (s c :
       l : Laws r
       l = sound-laws h
 
-      by : Dec (c < N) → Sane comp W (accept N W M (confirm s c)) open-phase
-      by (yes p) = in-open (λ l′. invariant-join (grows p (same p) l l′) (meets (ltb c N) (lt-ltb c N p)) (ok .contact p) (i l))
+      by : Dec (c < N) → Sane comp′ W (accept N W M (confirm s c)) open-phase
+      by (yes p) = in-open (λ l′. invariant-join (grows p l l′) (meets (ltb c N) (lt-ltb c N p)) (ok .contact p) (i l))
       by (no p) =
-          in-open (λ l′. invariant-first (worldOf comp W r′ l′) _ alone (λ x k d. empty-unlinked h x k d (not-T-false (nobody-in x)))
+          in-open (λ l′. invariant-first (worldOf comp′ W r′ l′) _ alone (λ x k d. empty-unlinked h x k d (not-T-false (nobody-in x)))
           (λ m t. silent (ltb c N) (le-ltb c N (omega arith)) m t))
         where
           nobody-in : (x : ℕ) → T (seated r x) → ⊥
@@ -206,5 +214,5 @@ module _ (comp : ℕ → ℕ) {N W : ℕ} {M : Meaning} (h : Sound N W M) (s c :
               none-in (inl u) = nobody-in (nameOf m .to) (ok-to (i l .proper .pend-ok u))
               none-in (inr u) = List·Memᴰ·not-nil u
 
-  pub sane-confirm : (c < N → comp s ≡ comp c) → Sane comp W M (M .seats .phase) → Sane comp W (accept N W M (confirm s c)) (M .seats .phase)
-  sane-confirm same i = subst (Sane comp W (accept N W M (confirm s c))) (sym (ok .opens)) (confirmed same (subst (Sane comp W M) (ok .opens) i))
+  pub sane-confirm : Sane comp W M (M .seats .phase) → Sane comp′ W (accept N W M (confirm s c)) (M .seats .phase)
+  sane-confirm i = subst (Sane comp′ W (accept N W M (confirm s c))) (sym (ok .opens)) (confirmed (subst (Sane comp W M) (ok .opens) i))

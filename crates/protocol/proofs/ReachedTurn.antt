@@ -16,8 +16,8 @@ use Rattle.base.specs.Loops.{any}
 use Rattle.protocol.specs.Rules.{SeatState, free, staying, leaving, isStaying}
 use Rattle.protocol.specs.State.{Phase, open-phase, clearing, Seats, Meaning, isSeated, isLeaving, seated, stays, leaves}
 use Rattle.protocol.specs.Calls.{turn, seatsAfter, sends, takes, linksAfter, accept}
-use Rattle.protocol.specs.pages.Turn.{afterTurn, each, farewell, farewells, turnSends, turnLinks}
-use Rattle.protocol.specs.Page.{pendingAfter}
+use Rattle.protocol.specs.pages.Turn.{afterTurn, farewell, farewells, turnSends, turnLinks}
+use Rattle.protocol.specs.Page.{each, pendingAfter}
 use Rattle.protocol.specs.Freeing.{unlinked}
 use Rattle.protocol.specs.Sound.{Sound}
 use Rattle.base.proofs.Any.{any-none}
@@ -30,7 +30,8 @@ use Rattle.protocol.proofs.Invariant.{invariant-quiet}
 use Rattle.protocol.proofs.Clearing.{Target, nobody, nearest, clearing-quiet}
 use Rattle.protocol.proofs.Turn.{exact-links, clearing-start, Shrinks, clearing-end}
 use Rattle.protocol.proofs.SoundFacts.{stays-seated, seated-below, two-level, link-linked}
-use Rattle.protocol.proofs.KeepTurn.{farewell-out, unlinked-some}
+use Rattle.protocol.proofs.KeepTurn.{farewell-out}
+use Rattle.protocol.proofs.KeepFreeing.{unlinked-some}
 use Rattle.protocol.proofs.Reached.{Laws, sound-laws, worldOf, Stayer, Sane, in-open, in-clearing}
 use Rattle.protocol.proofs.ReachedCalls.{after-only-sent, after-sent}
 

@@ -12,7 +12,7 @@ use native.Mathlib.Decide.{ℕ-discrete}
 use lib.Dec.{T}
 use Rattle.protocol.specs.Message.{Msg}
 use Rattle.protocol.specs.Rules.{toLink}
-use Rattle.protocol.specs.pages.Turn.{each}
+use Rattle.protocol.specs.Page.{each}
 
 -- a message is in a list
 pub in-head : {m : Msg} {l : List Msg} → List·Memᴰ m (m ∷ l)

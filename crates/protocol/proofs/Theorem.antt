@@ -10,106 +10,98 @@ use Rattle.graph.specs.Graph.{IsGraph}
 use Rattle.base.proofs.Tests.{false-T, not-T-false}
 use Rattle.protocol.specs.Message.{Msg, Name}
 use Rattle.protocol.specs.Numbering.{somePending}
-use Rattle.protocol.specs.State.{Meaning, oneComponent, nobody, opened}
-use Rattle.protocol.specs.Calls.{Call, join, reserve, confirm, giveBack, leave, deliver, turn, refusal, seatsAfter, sends, takes, accept, unlessRefused}
-use Rattle.protocol.specs.Calls.{call, InRange}
+use Rattle.protocol.specs.State.{Seats, Meaning, members, nobody, opened}
+use Rattle.protocol.specs.Calls.{Call, join, reserve, confirm, giveBack, leave, deliver, turn, crash, refusal, seatsAfter, sends, takes, accept, unlessRefused}
+use Rattle.protocol.specs.Calls.{call, componentsAfter, InRange}
+use Rattle.protocol.specs.pages.Join.{admitted}
 use Rattle.protocol.specs.Page.{pendingAfter}
 use Rattle.protocol.specs.Sound.{Sound}
-use Rattle.protocol.specs.Run.{Logged, Past, Standing, logOf, step, steps, stepsFrom, AllAccepted, Roster, membersOf, meaningRun, rosterAfter}
+use Rattle.protocol.specs.Run.{Logged, Past, Standing, logOf, step, steps, stepsFrom, AllAccepted, Roster, meaningRun, rosterAfter}
 use Rattle.protocol.specs.Run.{rosterOf, pendingOf, RefusedByTable, NothingPending, MeaningDemand3, AllInRange}
 use Rattle.protocol.proofs.Numbering.{none-pending, pending-none}
 use Rattle.protocol.proofs.Delivery.{stateOf, accept-deliver}
 use Rattle.protocol.proofs.World.{Quiet}
 use Rattle.protocol.proofs.Invariant.{invariant-first}
 use Rattle.protocol.proofs.SoundFacts.{pending-exists}
-use Rattle.protocol.proofs.Accepted.{reserve-rows, confirm-rows, join-reserve, give-back-rows, leave-rows, turn-row}
+use Rattle.protocol.proofs.Accepted.{reserve-rows, confirm-rows, join-reserve, give-back-rows, leave-rows, turn-row, crash-rows}
 use Rattle.protocol.proofs.Reserving.{join-confirm, join-in-two}
 use Rattle.protocol.proofs.KeepCalls.{reserve-sound}
-use Rattle.protocol.proofs.KeepSound.{opened-sound, accept-sound}
+use Rattle.protocol.proofs.KeepSound.{opened-sound, nothing-left, accept-sound}
 use Rattle.protocol.proofs.Measure.{bound}
 use Rattle.protocol.proofs.Falls.{deliver-taken, deliveries-end}
 use Rattle.protocol.proofs.Bundle.{deliveries-counted}
 use Rattle.protocol.proofs.Reached.{worldOf, Sane, in-open, Reached, sane-deliver, reached-graph}
 use Rattle.protocol.proofs.ReachedCalls.{sane-reserve, sane-confirm, sane-give-back, sane-leave}
 use Rattle.protocol.proofs.ReachedTurn.{sane-turn}
-
--- what holds of the old and of the new holds of what a call leaves
-either : {A : Type 0} (P : A → Type 0) (n : ℕ) {old new : A} → P old → P new → P (unlessRefused n old new)
-unfolding unlessRefused
-either P zero p q = q
-either P (suc n) p q = p
+use Rattle.protocol.proofs.ReachedCrash.{sane-crash}
 
 module _ (N W : ℕ) where
-  reached-opened : Reached oneComponent N W opened
+  reached-opened : Reached (λ x. x) N W opened
   unfolding opened nobody
   reached-opened =
       record {
         sound = opened-sound N W;
         sane = in-open
-            (λ l. invariant-first (worldOf oneComponent W nobody l) (stateOf opened) (λ x y p q. absurd p) (λ x k d. refl) (λ m p. p));
+            (λ l. invariant-first (worldOf (λ x. x) W nobody l) (stateOf opened) (λ x y p q. absurd p) (λ x k d. refl) (λ m p. p));
       }
 
-  -- nothing pending, as the table tests it and as a fact
-  quiet-none : {M : Meaning} → Sound N W M → somePending N W (M .pending) ≡ false → Quiet (stateOf M)
-  quiet-none {M} h e m t = false-T (none-pending N W (M .pending) e m (pending-exists h m t)) t
-
+  -- nothing pending, as the table tests it
   none-quiet : (M : Meaning) → Quiet (stateOf M) → somePending N W (M .pending) ≡ false
   none-quiet M q = pending-none N W (M .pending) (λ m x. not-T-false (λ t. q m t))
 
-  sane-accept : {M : Meaning} → Reached oneComponent N W M → (c : Call) → InRange N W c → refusal N W (M .seats) (M .pending) c ≡ 0
-      → Sane oneComponent W (accept N W M c) (accept N W M c .seats .phase)
-  unfolding accept seatsAfter
-  sane-accept {M} g (join s n v c) q e =
-      let a = join-reserve N W (M .seats) (M .pending) s n v c e in
-      let K = accept N W M (reserve s n v) in
-      let b = confirm-rows N W (K .seats) (K .pending) s c (join-confirm N W M s n v c e) in
-      subst (λ (K : Meaning). Sane oneComponent W K (K .seats .phase)) (join-in-two N W M s n v c)
-      (sane-confirm oneComponent (reserve-sound (g .sound) s n v (q .0) (q .1) a) s c b (λ l. refl)
-      (sane-reserve oneComponent (g .sound) s n v (reserve-rows N W (M .seats) (M .pending) s n v a) (g .sane)))
-  sane-accept {M} g (reserve s n v) q e = sane-reserve oneComponent (g .sound) s n v (reserve-rows N W (M .seats) (M .pending) s n v e) (g .sane)
-  sane-accept {M} g (confirm s c) q e = sane-confirm oneComponent (g .sound) s c (confirm-rows N W (M .seats) (M .pending) s c e) (λ l. refl) (g .sane)
-  sane-accept {M} g (giveBack s) q e = sane-give-back oneComponent (g .sound) s (give-back-rows N W (M .seats) (M .pending) s e) (g .sane)
-  sane-accept {M} g (leave s) q e = sane-leave oneComponent (g .sound) s (leave-rows N W (M .seats) (M .pending) s e) (g .sane)
-  sane-accept {M} g (deliver n) q e =
-      let t = deliver-taken N W M n e in
-      subst (λ (K : Meaning). Sane oneComponent W K (K .seats .phase)) (sym (accept-deliver N W M n (t .message) (t .is)))
-      (sane-deliver (g .sane) (t .message) (t .was))
-  sane-accept {M} g turn q e = sane-turn oneComponent (g .sound) (quiet-none (g .sound) (turn-row N W (M .seats) (M .pending) e)) (g .sane)
+  module _ {k : ℕ → ℕ} {M : Meaning} (g : Reached k N W M) where
+    -- an accepted call keeps the invariant, with the components that its page makes of those before it
+    sane-accept : (c : Call) → InRange N W c → refusal N W (M .seats) (M .pending) c ≡ 0
+        → Sane (componentsAfter N W (M .seats) k c) W (accept N W M c) (accept N W M c .seats .phase)
+    unfolding accept seatsAfter componentsAfter
+    sane-accept (join s n v c) q e =
+        let a = join-reserve N W (M .seats) (M .pending) s n v c e in
+        let K = accept N W M (reserve s n v) in
+        let b = confirm-rows N W (K .seats) (K .pending) s c (join-confirm N W M s n v c e) in
+        subst (λ (K : Meaning). Sane (admitted N s c k) W K (K .seats .phase)) (join-in-two N W M s n v c)
+        (sane-confirm k (reserve-sound (g .sound) s n v (q .0) (q .1) a) s c b
+        (sane-reserve k (g .sound) s n v (reserve-rows N W (M .seats) (M .pending) s n v a) (g .sane)))
+    sane-accept (reserve s n v) q e = sane-reserve k (g .sound) s n v (reserve-rows N W (M .seats) (M .pending) s n v e) (g .sane)
+    sane-accept (confirm s c) q e = sane-confirm k (g .sound) s c (confirm-rows N W (M .seats) (M .pending) s c e) (g .sane)
+    sane-accept (giveBack s) q e = sane-give-back k (g .sound) s (give-back-rows N W (M .seats) (M .pending) s e) (g .sane)
+    sane-accept (leave s) q e = sane-leave k (g .sound) s (leave-rows N W (M .seats) (M .pending) s e) (g .sane)
+    sane-accept (deliver n) q e =
+        let t = deliver-taken N W M n e in
+        subst (λ (K : Meaning). Sane k W K (K .seats .phase)) (sym (accept-deliver N W M n (t .message) (t .is)))
+        (sane-deliver (g .sane) (t .message) (t .was))
+    sane-accept turn q e = sane-turn k (g .sound) (nothing-left (g .sound) (turn-row N W (M .seats) (M .pending) e)) (g .sane)
+    sane-accept (crash set) q e =
+        let a = crash-rows N W (M .seats) (M .pending) set e in
+        sane-crash g (nothing-left (g .sound) (a .quiet)) (a .opens) set
 
-  reached-accept : {M : Meaning} → Reached oneComponent N W M → (c : Call) → InRange N W c → refusal N W (M .seats) (M .pending) c ≡ 0
-      → Reached oneComponent N W (accept N W M c)
-  reached-accept {M} g c q e = record { sound = accept-sound N W M (g .sound) c q e; sane = sane-accept g c q e }
+    pub reached-accept : (c : Call) → InRange N W c → refusal N W (M .seats) (M .pending) c ≡ 0
+        → Reached (componentsAfter N W (M .seats) k c) N W (accept N W M c)
+    reached-accept c q e = record { sound = accept-sound N W M (g .sound) c q e; sane = sane-accept c q e }
 
-  pub reached-call : {M : Meaning} → Reached oneComponent N W M → (c : Call) → InRange N W c → Reached oneComponent N W (call N W M c .after)
-  unfolding call unlessRefused
-  reached-call {M} g c q = by (refusal N W (M .seats) (M .pending) c) refl
-    where
-      by : (n : ℕ) → refusal N W (M .seats) (M .pending) c ≡ n → Reached oneComponent N W (unlessRefused n M (accept N W M c))
-      by zero e = reached-accept g c q e
-      by (suc n) e = g
-
-  -- the roster of a meaning: all its lots are in one component
-  abbrev rosterNow : Meaning → Roster
-  rosterNow M = record { seats = M .seats; component = oneComponent }
-
-  -- and so is every roster
-  pub one-component : (ls : List Logged) → rosterOf N W ls .component ≡ oneComponent
-  unfolding rosterOf rosterAfter
-  one-component [] = refl
-  one-component (l ∷ ls) = either (λ (o : Roster). o .component ≡ oneComponent) (l .refused) (one-component ls) (one-component ls)
+    -- and so with those of the roster, whether the call is accepted or not
+    reached-call : (o : Roster) → o ≡ record { seats = M .seats; component = k } → (c : Call) → InRange N W c
+        → let n = refusal N W (M .seats) (M .pending) c in
+        Reached (unlessRefused n o (rosterAfter N W o c) .component) N W (unlessRefused n M (accept N W M c))
+    unfolding unlessRefused rosterAfter
+    reached-call o same c q = by (refusal N W (M .seats) (M .pending) c) refl
+      where
+        by : (n : ℕ) → refusal N W (M .seats) (M .pending) c ≡ n
+            → Reached (unlessRefused n o (rosterAfter N W o c) .component) N W (unlessRefused n M (accept N W M c))
+        by zero e = rw same (reached-accept c q e)
+        by (suc n) e = rw same g
 
   -- what goes through a list
   pub record Track (s : Standing Meaning) : Type 0 where
-    pub reached : Reached oneComponent N W (s .now)
+    pub reached : Reached (rosterOf N W (logOf (s .history)) .component) N W (s .now)
     pub refusals : RefusedByTable N W (s .history)
-    pub lots : rosterNow (s .now) ≡ rosterOf N W (logOf (s .history))
+    pub lots : s .now .seats ≡ rosterOf N W (logOf (s .history)) .seats
     pub pending : s .now .pending ≡ pendingOf N W (s .history)
 
-  -- an accepted call makes of the roster what it makes of the seats, and of the pending messages what it sends and takes
-  lots-step : (M : Meaning) (ls : List Logged) (c : Call) (n : ℕ) → rosterNow M ≡ rosterOf N W ls
-      → rosterNow (unlessRefused n M (accept N W M c)) ≡ rosterOf N W (record { call = c; refused = n } ∷ ls)
+  -- an accepted call makes of the roster's seats what it makes of the seats, and of the pending messages what it sends and takes
+  lots-step : (M : Meaning) (ls : List Logged) (c : Call) (n : ℕ) → M .seats ≡ rosterOf N W ls .seats
+      → unlessRefused n M (accept N W M c) .seats ≡ rosterOf N W (record { call = c; refused = n } ∷ ls) .seats
   unfolding rosterOf unlessRefused accept rosterAfter
-  lots-step M ls c zero e = ap (λ (o : Roster). rosterAfter N W o c) e
+  lots-step M ls c zero e = ap (λ (r : Seats). seatsAfter N W r c) e
   lots-step M ls c (suc n) e = e
 
   pending-step : (M : Meaning) (es : List (Past Meaning)) (c : Call) (n : ℕ) → M .pending ≡ pendingOf N W es
@@ -119,13 +111,15 @@ module _ (N W : ℕ) where
   pending-step M es c (suc n) e = e
 
   track-step : {s : Standing Meaning} (c : Call) → InRange N W c → Track s → Track (step (call N W) s c)
-  unfolding step call logOf
-  track-step {s} c q t = record {
-    reached = reached-call (t .reached) c q;
-    refusals = (ap₂ (λ (o : Roster) (p : Msg → Bool). refusal N W (o .seats) p c) (t .lots) (t .pending), t .refusals);
-    lots = lots-step (s .now) (logOf (s .history)) c (refusal N W (s .now .seats) (s .now .pending) c) (t .lots);
-    pending = pending-step (s .now) (s .history) c (refusal N W (s .now .seats) (s .now .pending) c) (t .pending);
-  }
+  unfolding step call logOf rosterOf
+  track-step {s} c q t =
+      let o = rosterOf N W (logOf (s .history)) in
+      record {
+        reached = reached-call (t .reached) o (rw (t .lots)) c q;
+        refusals = (ap₂ (λ (r : Seats) (p : Msg → Bool). refusal N W r p c) (t .lots) (t .pending), t .refusals);
+        lots = lots-step (s .now) (logOf (s .history)) c (refusal N W (s .now .seats) (s .now .pending) c) (t .lots);
+        pending = pending-step (s .now) (s .history) c (refusal N W (s .now .seats) (s .now .pending) c) (t .pending);
+      }
 
   track-steps : (cs : List Call) {s : Standing Meaning} → AllInRange N W cs → Track s → Track (steps (call N W) s cs)
   unfolding steps
@@ -140,10 +134,11 @@ module _ (N W : ℕ) where
   track-demand : {s : Standing Meaning} → Track s → MeaningDemand3 N W (bound N W) s
   track-demand {s} t = record {
     refusals = t .refusals;
-    lots = ap (λ (o : Roster). o .seats) (t .lots);
+    lots = t .lots;
     messages = λ m. ap (λ (p : Msg → Bool). p m) (t .pending);
-    none-left = ((λ e m. settled (quiet-none (t .reached .sound) e) m), λ q. none-quiet (s .now) (quiet q));
-    graph = λ q. subst (λ (o : Roster). IsGraph N W (membersOf o) (s .now .link)) (t .lots) (reached-graph (t .reached) (quiet q));
+    none-left = ((λ e m. settled (nothing-left (t .reached .sound) e) m), λ q. none-quiet (s .now) (quiet q));
+    graph = λ q. subst (λ (r : Seats). IsGraph N W (members (rosterOf N W (logOf (s .history)) .component) r) (s .now .link)) (t .lots)
+        (reached-graph (t .reached) (quiet q));
     ends = λ ns. deliveries-end N W ns (s .now) (t .reached .sound);
   }
     where

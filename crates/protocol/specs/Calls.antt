@@ -16,6 +16,7 @@ use Rattle.protocol.specs.pages.GiveBack.{giveBackPage}
 use Rattle.protocol.specs.pages.Leave.{leavePage}
 use Rattle.protocol.specs.pages.Deliver.{deliverPage}
 use Rattle.protocol.specs.pages.Turn.{turnPage}
+use Rattle.protocol.specs.pages.Crash.{crashPage}
 
 pub data Call : Type 0 where
   join : (seat number vector contact : ℕ) → Call
@@ -25,6 +26,7 @@ pub data Call : Type 0 where
   leave : (seat : ℕ) → Call
   deliver : Name → Call
   turn : Call
+  crash : (set : ℕ) → Call
 
 -- the refusal number of a call, 0 if it is accepted, and what is there after it
 pub record Outcome (A : Type 0) : Type 0 where
@@ -46,6 +48,7 @@ module _ (N W : ℕ) where
   pageOf (leave s) = leavePage N W s
   pageOf (deliver n) = deliverPage N W n
   pageOf turn = turnPage N W
+  pageOf (crash set) = crashPage N W set
 
   -- the arguments fit their types
   abbrev pub InRange : Call → Type 0
@@ -60,6 +63,10 @@ module _ (N W : ℕ) where
 
   unfoldable pub seatsAfter : Seats → Call → Seats
   seatsAfter r c = pageOf c .seats r
+
+  -- for the roster: the component of each lot
+  unfoldable pub componentsAfter : Seats → (ℕ → ℕ) → Call → ℕ → ℕ
+  componentsAfter r k c = pageOf c .component r k
 
   unfoldable pub linksAfter : Meaning → Call → Links
   linksAfter M c = pageOf c .links M

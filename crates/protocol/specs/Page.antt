@@ -1,9 +1,9 @@
 -- What a call's page says (document 01, "Calls" and "Refused calls"): the rows of the table that it meets, what it makes of the seats and of
--- the links, what it sends and takes, and that its arguments fit their types. Assumes nothing.
-use Prim.Native.Nat.{ℕ}
+-- the links, what it sends and takes, what the roster's components are after it, and that its arguments fit their types. Assumes nothing.
+use Prim.Native.Nat.{ℕ, zero, suc}
 use mathlib.Core.Option.{Option, none, some}
 use mathlib.Core.Bool.{Bool, false, not, cond, _&&_, _||_}
-use mathlib.Core.List.{List}
+use mathlib.Core.List.{List, [], _++_}
 use lib.Dec.{eqb}
 use Rattle.graph.specs.Graph.{Links}
 use Rattle.protocol.specs.Message.{Msg, sameMsg, among}
@@ -19,8 +19,19 @@ pub record Page : Type 1 where
   pub links : Meaning → Links
   pub sends : Meaning → List Msg
   pub takes : Option Msg
+  -- and, for the roster, the component of each lot after it, from the seats and the components before it; no record holds these
+  pub component : Seats → (ℕ → ℕ) → ℕ → ℕ
   -- its arguments fit their types
   pub fits : Type 0
+
+-- the components stay
+abbrev pub sameComponents : Seats → (ℕ → ℕ) → ℕ → ℕ
+sameComponents r c = c
+
+-- the lists f 0, f 1, .. below n
+unfoldable pub each : ℕ → (ℕ → List Msg) → List Msg
+each zero f = []
+each (suc n) f = each n f ++ f n
 
 -- f with the value a at s
 unfoldable pub at : {A : Type 0} → ℕ → A → (ℕ → A) → ℕ → A

@@ -8,9 +8,9 @@ use mathlib.Core.List.{List, [], _∷_, map}
 use Rattle.graph.specs.Graph.{Lots, IsGraph}
 use Rattle.protocol.specs.Message.{Msg, Name}
 use Rattle.protocol.specs.Numbering.{somePending}
-use Rattle.protocol.specs.State.{Seats, Meaning, oneComponent, members, nobody, opened}
+use Rattle.protocol.specs.State.{Seats, Meaning, members, nobody, opened}
 use Rattle.protocol.specs.Page.{pendingAfter}
-use Rattle.protocol.specs.Calls.{Call, deliver, Outcome, unlessRefused, InRange, refusal, seatsAfter, sends, takes, call}
+use Rattle.protocol.specs.Calls.{Call, deliver, Outcome, unlessRefused, InRange, refusal, seatsAfter, componentsAfter, sends, takes, call}
 
 -- a call of a list with its refusal number, 0 if it was accepted
 pub record Logged : Type 0 where
@@ -60,7 +60,7 @@ pub record Roster : Type 0 where
   pub seats : Seats
   pub component : ℕ → ℕ
 
--- the members of a roster
+-- the members of a roster; their graph is made within each component
 abbrev pub membersOf : Roster → Lots
 membersOf o = members (o .component) (o .seats)
 
@@ -69,13 +69,13 @@ module _ (N W : ℕ) where
   unfoldable pub meaningRun : List Call → Standing Meaning
   meaningRun cs = stepsFrom (call N W) opened cs
 
-  -- the roster after an accepted call: all lots stay in one component
+  -- the roster after an accepted call
   unfoldable pub rosterAfter : Roster → Call → Roster
-  rosterAfter o c = record { seats = seatsAfter N W (o .seats) c; component = o .component }
+  rosterAfter o c = record { seats = seatsAfter N W (o .seats) c; component = componentsAfter N W (o .seats) (o .component) c }
 
   -- the roster, kept from the log alone
   unfoldable pub rosterOf : List Logged → Roster
-  rosterOf [] = record { seats = nobody; component = oneComponent }
+  rosterOf [] = record { seats = nobody; component = λ x. x }
   rosterOf (l ∷ ls) = unlessRefused (l .refused) (rosterOf ls) (rosterAfter (rosterOf ls) (l .call))
 
   -- pending from the sending by an accepted call until an accepted delivery takes it away

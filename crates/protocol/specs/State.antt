@@ -89,10 +89,6 @@ isPending p (some m) = p m
 unfoldable pub member : Seats → ℕ → Bool
 member r x = cond (isClearing (r .phase)) (stays r x) (seated r x)
 
--- the component of each lot where all are in one
-abbrev pub oneComponent : ℕ → ℕ
-oneComponent x = 0
-
 -- the members, with the component of each
 abbrev pub members : (component : ℕ → ℕ) → Seats → Lots
 members c r = record { member = member r; number = r .number; vector = r .vector; component = c }

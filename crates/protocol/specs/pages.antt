@@ -6,3 +6,4 @@ pub mod GiveBack
 pub mod Leave
 pub mod Deliver
 pub mod Turn
+pub mod Crash

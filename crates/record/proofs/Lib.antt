@@ -15,6 +15,7 @@ pub mod Clauses
 pub mod Sound
 pub mod Opened
 pub mod Refused
+pub mod Rows
 pub mod Reading
 pub mod SeatBytes
 pub mod Call

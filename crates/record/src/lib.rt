@@ -9,7 +9,7 @@ ghost use Rattle.record.specs.Answer.{numberOf, Numbered};
 ghost use Rattle.graph.specs.Side.{sideOfNumber};
 ghost use Rattle.record.specs.Layout.{seats, levels, messages, numberSize, vectorSize, size};
 ghost use Rattle.record.specs.Layout.{phaseAt, stateAt, numberFrom, vectorFrom, linkAt, pendingFrom};
-ghost use Rattle.record.specs.inner.Entry.{written};
+ghost use Rattle.record.specs.inner.Entry.{filled, written};
 
 pub mod fields;
 pub mod lots;
@@ -130,7 +130,7 @@ pub fn number(rec: &[u8], s: usize) -> u64
     memory::number(rec, ENTRIES + ENTRY * s + NUMBER_AT)
 }
 
-pub fn set_number(rec: &mut [u8], s: usize, n: u64)
+fn set_number(rec: &mut [u8], s: usize, n: u64)
     requires { ⌜ (length (now rec) ≡ size) × (s < seats) ⌝ }
     ensures { λ _. ⌜ now (rec .exit) ≡ putNumber (now (rec .entry)) (numberFrom s) numberSize n ⌝ }
 {
@@ -145,11 +145,21 @@ pub fn vector(rec: &[u8], s: usize) -> u8
     rec[ENTRIES + ENTRY * s + VECTOR_AT]
 }
 
-pub fn set_vector(rec: &mut [u8], s: usize, v: u8)
+fn set_vector(rec: &mut [u8], s: usize, v: u8)
     requires { ⌜ (length (now rec) ≡ size) × (s < seats) ⌝ }
     ensures { λ _. ⌜ now (rec .exit) ≡ putNumber (now (rec .entry)) (vectorFrom s) vectorSize v ⌝ }
 {
     rec[ENTRIES + ENTRY * s + VECTOR_AT] = v;
+}
+
+// Writes state, number and vector of seat s.
+pub fn fill(rec: &mut [u8], s: usize, state: u8, number: u64, vector: u8)
+    requires { ⌜ (length (now rec) ≡ size) × (s < seats) ⌝ }
+    ensures { λ _. ⌜ now (rec .exit) ≡ filled (now (rec .entry)) s state number vector ⌝ }
+{
+    set_state(rec, s, state);
+    set_number(rec, s, number);
+    set_vector(rec, s, vector);
 }
 
 // The link of seat s at level k on side d, 0 left and 1 right: a seat or NONE.

@@ -17,7 +17,8 @@ use Rattle.record.proofs.Round.{bytes-meaning}
 use Rattle.record.proofs.Update.{withState, withPending, bytes-withState}
 use Rattle.record.proofs.Entry.{withLot}
 use Rattle.record.proofs.Accepted.{Accepted}
-use Rattle.joining.specs.inner.Newcomer.{filled, greeted}
+use Rattle.record.specs.inner.Entry.{filled}
+use Rattle.joining.specs.inner.Newcomer.{greeted}
 use Rattle.joining.proofs.After.{filled-bytes, greeted-bytes}
 
 module _ {l : List ℕ} {s n v : ℕ} (a : Accepted l (reserve s n v)) where

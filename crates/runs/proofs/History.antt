@@ -8,6 +8,7 @@ use mathlib.Core.Bool.{Bool, true, false, not, cond}
 use mathlib.Core.List.{List, [], _∷_, _++_}
 use native.Mathlib.Omega.{arith}
 use lib.Dec.{T}
+use Rattle.base.specs.Bits.{hasBit}
 use Rattle.base.proofs.Cases.{eq-or-ne}
 use Rattle.base.proofs.Tests.{true-false}
 use Rattle.protocol.specs.Message.{Msg, Name, named}
@@ -15,8 +16,9 @@ use Rattle.protocol.specs.Rules.{SeatState, free, staying, leaving, reserved}
 use Rattle.protocol.specs.State.{Phase, open-phase, clearing, Seats, Meaning, isFree, nobody, taken, leaves, isPending}
 use Rattle.protocol.specs.Refusals.{wrongSize, unsound, noSuchLevel, noSuchMessage, order, Row, appliesIn, firstOf, first}
 use Rattle.protocol.specs.Page.{at}
+use Rattle.protocol.specs.Freeing.{freeing}
 use Rattle.protocol.specs.pages.Turn.{afterTurn}
-use Rattle.protocol.specs.Calls.{Call, join, reserve, confirm, giveBack, leave, deliver, turn, unlessRefused, rows, refusal, seatsAfter}
+use Rattle.protocol.specs.Calls.{Call, join, reserve, confirm, giveBack, leave, deliver, turn, crash, unlessRefused, rows, refusal, seatsAfter}
 use Rattle.protocol.specs.Run.{Past, logOf, Roster, rosterAfter, rosterOf, pendingOf, RefusedByTable}
 use Rattle.protocol.proofs.Calls.{at-other}
 use Rattle.protocol.proofs.Accepted.{rows-free, reserve-rows, confirm-rows, join-reserve, give-back-rows, leave-rows}
@@ -70,14 +72,18 @@ module _ (N W : ℕ) where
       (λ n. h x (subst (λ (z : SeatState). T (not (isFree z))) (at-other s a (r .state) x n) t))
       (eq-or-ne x s)
 
-  turn-below : (f : Phase) (r : Seats) → Below N r → Below N (afterTurn N f r)
-  unfolding afterTurn
-  turn-below open-phase r h x t = h x t
-  turn-below clearing r h x t = by (leaves r x) t
+  -- seats become free
+  freed-below : (freed : ℕ → Bool) (f : Phase) (r : Seats) → Below N r → Below N (freeing freed f r)
+  freed-below freed f r h x t = by (freed x) t
     where
       by : (b : Bool) → T (not (isFree (cond b free (r .state x)))) → x < N
       by true u = absurd u
       by false u = h x u
+
+  turn-below : (f : Phase) (r : Seats) → Below N r → Below N (afterTurn N f r)
+  unfolding afterTurn
+  turn-below open-phase r h x t = h x t
+  turn-below clearing r h x t = freed-below (leaves r) open-phase r h x t
 
   after-below : (r : Seats) (p : Msg → Bool) → Below N r → (c : Call) → refusal N W r p c ≡ 0 → Below N (seatsAfter N W r c)
   unfolding seatsAfter
@@ -88,6 +94,7 @@ module _ (N W : ℕ) where
   after-below r p h (leave s) e = at-below s leaving r (leave-rows N W r p s e .seat) h
   after-below r p h (deliver n) e = h
   after-below r p h turn e = turn-below (r .phase) r h
+  after-below r p h (crash set) e = freed-below (hasBit set) (r .phase) r h
 
   step-below : (o : Roster) (p : Msg → Bool) → Below N (o .seats) → (c : Call) (n : ℕ) → n ≡ refusal N W (o .seats) p c
       → Below N (unlessRefused n o (rosterAfter N W o c) .seats)

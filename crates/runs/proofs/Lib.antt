@@ -11,3 +11,4 @@ pub mod Unmet
 pub mod Reserved
 pub mod Right
 pub mod Bundles
+pub mod Drained

@@ -30,7 +30,7 @@ use Rattle.find.proofs.Scans.{settled-accepted, find-says}
 use Rattle.check_links.specs.Check.{checkIn}
 use Rattle.check_links.specs.Settled.{settled}
 use Rattle.runs.specs.Typed.{AllTyped}
-use Rattle.runs.specs.Run.{bytesRun, listRun, meant, roster, Demand3}
+use Rattle.runs.specs.Run.{bytesRun, listRun, meant, roster, soughtIn, Demand3}
 use Rattle.runs.proofs.Typed.{all-typed}
 use Rattle.runs.proofs.Same.{run-same}
 use Rattle.runs.proofs.Theorem.{bound, open-sized, every-list}
@@ -76,7 +76,7 @@ module _ (l : List ℕ) (e : openRefusal l ≡ 0) (is : List (Item Call)) (t : A
     settles o = is-settled-now D run-bytes q o
 
     pub found : R .phase ≡ open-phase → (s x : ℕ) → T (seated R s)
-        → (findIn here s x .refused ≡ 0) × RightHolder (stays R) (R .number) x (findIn here s x .holder)
+        → (findIn here s x .refused ≡ 0) × RightHolder (soughtIn (roster (listRun l is .history)) s) (R .number) x (findIn here s x .holder)
     found o s x m = right-holder D run-bytes q o s x m
 
     -- no link of a staying lot reads as a leaving lot's seat

@@ -3,24 +3,28 @@
 -- phase is clearing it is refused with 13. Assumes only that its bytes are bytes.
 use Prim.Native.Nat.{ℕ, _≤_}
 use mathlib.Core.Path.{_≡_, sym, ap, _∙_, subst}
-use mathlib.Core.Logic.{_≢_, inl, inr, ⊎-elim}
+use mathlib.Core.Logic.{_↔_, _≢_, inl, inr, ⊎-elim}
 use mathlib.Core.Option.{Option}
 use mathlib.Core.Bool.{Bool, true, false}
 use mathlib.Core.List.{List}
 use native.Mathlib.Omega.{arith}
-use lib.Dec.{T}
-use Rattle.base.proofs.Cases.{true-or-false}
+use lib.Dec.{T, eqb}
+use borrow.Author.Tests.{eqb-true, eq-eqb}
+use Rattle.base.proofs.Cases.{true-or-false, same-test}
+use Rattle.base.proofs.Tests.{true-T, and-fst}
 use Rattle.memory.specs.Bytes.{AreBytes}
 use Rattle.graph.specs.Side.{Side, sideNumber}
 use Rattle.graph.specs.Vector.{width}
 use Rattle.graph.specs.Graph.{Laws, graph, IsGraph}
+use Rattle.graph.proofs.Components.{graph-labels}
+use Rattle.graph.proofs.Labels.{components-agree}
 use Rattle.protocol.specs.Numbering.{somePending}
 use Rattle.protocol.specs.Refusals.{unsettled}
 use Rattle.protocol.specs.Rules.{isStaying}
-use Rattle.protocol.specs.State.{oneComponent, Phase, open-phase, clearing, isClearing, Seats, seated, stays, member, members}
+use Rattle.protocol.specs.State.{Phase, open-phase, clearing, isClearing, Seats, seated, stays, member, members}
 use Rattle.protocol.specs.Run.{Standing, membersOf, NothingPending}
 use Rattle.protocol.proofs.SoundFacts.{stays-seated, seated-below, seated-taken}
-use Rattle.protocol.proofs.Reached.{member-seated, members-laws}
+use Rattle.protocol.proofs.Reached.{member-open, member-seated, members-laws}
 use Rattle.record.specs.Layout.{seats}
 use Rattle.record.specs.Meaning.{seatsIn, meaning, linkOf, linkByte, phaseOf, phaseByte}
 use Rattle.record.specs.Reading.{LinkAnswer, readLink, CountAnswer, readCounts}
@@ -28,15 +32,14 @@ use Rattle.record.proofs.Reading.{pendingCount, pendingCount-zero, link-read, c
 use Rattle.record.proofs.Round.{link-seat}
 use Rattle.record.proofs.Values.{NamesSeat, linkOf-linkByte, phaseOf-phaseByte}
 use Rattle.search.specs.Right.{RightHolder}
-use Rattle.search.proofs.Check.{check-graph}
 use Rattle.search.proofs.Agree.{member-there, agree-laws, graph-agrees, graph-member, holder-agrees}
-use Rattle.find.specs.Find.{FindAnswer, findIn}
+use Rattle.find.specs.Find.{FindAnswer, soughtFrom, findIn}
 use Rattle.find.proofs.Scans.{settled-accepted, unsettled-refused, find-refused, accepted-holder}
-use Rattle.check_links.specs.Check.{CheckAnswer, checkIn}
+use Rattle.check_links.specs.Check.{componentsIn, CheckAnswer, checkIn}
 use Rattle.check_links.specs.Settled.{settled}
-use Rattle.check_links.proofs.Facts.{check-says}
+use Rattle.check_links.proofs.Facts.{check-says, yes-says, yes-labels}
 use Rattle.check_links.proofs.Settled.{unsettled-exactly, is-settled}
-use Rattle.runs.specs.Run.{meant, roster, Demand3}
+use Rattle.runs.specs.Run.{meant, roster, soughtIn, Demand3}
 use Rattle.runs.proofs.SameLots.{passed, same-phase, fine, same-seat, same-seated, agree}
 
 -- a link is known by its byte
@@ -56,9 +59,13 @@ module _ {bound : List ℕ → ℕ} {s : Standing (List ℕ)} (D : Demand3 bound
   abbrev R : Seats
   R = roster (s .history) .seats
 
-  laws : Laws seats (members oneComponent (seatsIn l))
+  -- the component of each lot, by the roster
+  abbrev C : ℕ → ℕ
+  C = roster (s .history) .component
+
+  laws : Laws seats (members C (seatsIn l))
   unfolding meaning
-  laws = members-laws oneComponent (fine D b)
+  laws = members-laws C (fine D b)
 
   pub roster-laws : Laws seats (membersOf (roster (s .history)))
   roster-laws = agree-laws (agree D b) laws
@@ -92,13 +99,20 @@ module _ {bound : List ℕ → ℕ} {s : Standing (List ℕ)} (D : Demand3 bound
         (λ y f. roster-laws .seat y (graph-member width roster-laws x k y d f))
         (ap (λ (a : LinkAnswer). a .seat) e)
 
-    pub links-graph : IsGraph seats width (members oneComponent (seatsIn l)) (meaning l .link)
+    pub links-graph : IsGraph seats width (members C (seatsIn l)) (meaning l .link)
     links-graph = record { link = λ x k d m w. link-is x k d m w ∙ sym (graph-agrees width laws (agree D b) x k d m) }
 
     -- the check says yes
     pub check-yes : checkIn l ≡ record { refused = 0; yes = true }
     check-yes = check-says l (passed D .sized) b (passed D .fine)
-        ∙ ap (λ (y : Bool). record { refused = 0; yes = y }) (check-graph (laws .seat) .1 links-graph)
+        ∙ ap (λ (y : Bool). record { refused = 0; yes = y })
+        (sym (yes-says l (passed D .sized) b (passed D .fine)) ∙ yes-labels l (passed D .sized) b (passed D .fine) C links-graph)
+
+    -- two members are in one component of the roster exactly if they are in one by the links
+    pub same-components : (x y : ℕ) → T (member (seatsIn l) x) → T (member (seatsIn l) y) → (C x ≡ C y) ↔ (componentsIn l x ≡ componentsIn l y)
+    unfolding componentsIn
+    same-components x y m n =
+        components-agree seats width (members C (seatsIn l)) (meaning l .link) (laws .seat) (graph-labels laws links-graph) x y m n
 
     -- nothing is pending by the bytes
     pub quiet : somePending seats width (meaning l .pending) ≡ false
@@ -108,13 +122,33 @@ module _ {bound : List ℕ → ℕ} {s : Standing (List ℕ)} (D : Demand3 bound
       pub is-settled-now : settled l ≡ true
       is-settled-now = is-settled l (same-phase D ∙ o) quiet (ap (λ (a : CheckAnswer). a .yes) check-yes)
 
-      -- a search from any lot of the roster
-      pub right-holder : (x n : ℕ) → T (seated R x) → (findIn l x n .refused ≡ 0) × RightHolder (stays R) (R .number) n (findIn l x n .holder)
+      -- a search from any lot of the roster: the staying lots of its component are those of the bytes
+      sought-same : (x z : ℕ) → T (seated R x) → soughtFrom l x z ≡ soughtIn (roster (s .history)) x z
+      sought-same x z m = by (stays (seatsIn l) z) refl
+        where
+          is-member : (y : ℕ) → T (seated (seatsIn l) y) → T (member (seatsIn l) y)
+          is-member y t = rw (member-open (seatsIn l) y (same-phase D ∙ o)) t
+
+          stay : stays (seatsIn l) z ≡ stays R z
+          stay = ap isStaying (same-seat D b z .state)
+
+          by : (t : Bool) → stays (seatsIn l) z ≡ t → soughtFrom l x z ≡ soughtIn (roster (s .history)) x z
+          by true e =
+              let p = is-member x (lot-here x m) in
+              let q = is-member z (stays-seated (seatsIn l) z (true-T e)) in
+              let (to, from) = same-components x z p q in
+              rw (← stay, e) (same-test (eqb (componentsIn l x) (componentsIn l z)) (eqb (C x) (C z))
+              (λ f. eq-eqb (C x) (C z) (from (eqb-true (componentsIn l x) (componentsIn l z) f)))
+              (λ f. eq-eqb (componentsIn l x) (componentsIn l z) (to (eqb-true (C x) (C z) f))))
+          by false e = rw (← stay, e)
+
+      pub right-holder : (x n : ℕ) → T (seated R x)
+          → (findIn l x n .refused ≡ 0) × RightHolder (soughtIn (roster (s .history)) x) (R .number) n (findIn l x n .holder)
       right-holder x n m =
           let a = find-refused l x n ∙ settled-accepted l b is-settled-now x (lot-here x m) in (
             a,
-            holder-agrees (λ z. ap isStaying (same-seat D b z .state)) (λ z t. same-seat D b z .number (seated-taken (seatsIn l) z
-                (stays-seated (seatsIn l) z t))) (accepted-holder l b x n a),
+            holder-agrees (λ z. sought-same x z m) (λ z t. same-seat D b z .number (seated-taken (seatsIn l) z
+                (stays-seated (seatsIn l) z (and-fst (stays (seatsIn l) z) _ t)))) (accepted-holder l b x n a),
           )
 
   -- the same by the counts that a reader sees

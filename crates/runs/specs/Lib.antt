@@ -1,3 +1,4 @@
 -- Demand 3 on the bytes: lists of calls on an opened record, and what holds after each.
 pub mod Typed
 pub mod Run
+pub mod Drained

@@ -4,15 +4,15 @@
 use Prim.Native.Nat.{ℕ, _≤_, _<_}
 use mathlib.Core.Path.{_≡_}
 use mathlib.Core.Logic.{_↔_}
-use mathlib.Core.Bool.{not, cond}
+use mathlib.Core.Bool.{Bool, not, cond, _&&_}
 use mathlib.Core.List.{List, [], _∷_}
-use lib.Dec.{T}
+use lib.Dec.{T, eqb}
 use Rattle.base.specs.Loops.{oneIf, count}
 use Rattle.graph.specs.Side.{Side, sideNumber}
 use Rattle.graph.specs.Vector.{width}
 use Rattle.graph.specs.Graph.{graph}
 use Rattle.protocol.specs.Message.{Name, named}
-use Rattle.protocol.specs.State.{Seats, Meaning, taken, seated, isPending, member}
+use Rattle.protocol.specs.State.{Seats, Meaning, taken, seated, stays, isPending, member}
 use Rattle.protocol.specs.Refusals.{emptySeat}
 use Rattle.protocol.specs.Calls.{Call, deliver}
 use Rattle.protocol.specs.Bundle.{Item, spread}
@@ -41,6 +41,10 @@ meant (e ∷ es) = record { logged = e .logged; before = meaning (e .before) } �
 abbrev pub roster : List (Past (List ℕ)) → Roster
 roster es = rosterOf seats width (logOf (meant es))
 
+-- the lots among which a scan from the lot on seat x seeks its holder: those of the roster that stay, of x's component
+abbrev pub soughtIn : Roster → (x z : ℕ) → Bool
+soughtIn o x z = stays (o .seats) z && eqb (o .component x) (o .component z)
+
 -- what reading a seat answers of the seats of a roster: its lot or its reservation, or 8
 unfoldable pub lotOf : Seats → ℕ → LotAnswer
 lotOf r x = cond (not (taken r x)) (record { refused = emptySeat; state = 0; number = 0; vector = 0 })
@@ -59,7 +63,7 @@ pub record Demand3 (bound : List ℕ → ℕ) (s : Standing (List ℕ)) : Type 0
   pub messages : (n : Name) → readMessage (s .now) n
       ≡ record { refused = 0; pending = oneIf (isPending (pendingOf seats width (meant (s .history))) (named n)) }
   pub none-left : (readCounts (s .now) .pending ≡ 0) ↔ NothingPending seats width (meant (s .history))
-  -- with none pending, each link of each member reads as in the graph of the members
+  -- with none pending, each link of each member reads as in the graph of the members, made within each component of the roster
   pub links : NothingPending seats width (meant (s .history)) → (x k : ℕ) (d : Side) → T (member (roster (s .history) .seats) x) → k < levels
       → readLink (s .now) x k (sideNumber d) ≡ record { refused = 0; seat = linkByte (graph seats width (membersOf (roster (s .history))) x k d) }
   -- no list of deliveries and bundles from here has more accepted deliveries than the bound

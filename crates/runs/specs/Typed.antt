@@ -1,8 +1,8 @@
--- The arguments that the types of the code can hold: a lot's number is a u64, the limit of a bundle a u16, everything else a u8. Demand 3
+-- The arguments that the types of the code can hold: a lot's number and a set of seats are a u64, the limit of a bundle a u16, everything else a u8. Demand 3
 -- speaks of every list of calls and bundles with such arguments, and of no fewer. Assumes nothing.
 use Prim.Native.Nat.{ℕ, _^_, _<_}
 use mathlib.Core.List.{List, [], _∷_}
-use Rattle.protocol.specs.Calls.{Call, join, reserve, confirm, giveBack, leave, deliver, turn}
+use Rattle.protocol.specs.Calls.{Call, join, reserve, confirm, giveBack, leave, deliver, turn, crash}
 use Rattle.protocol.specs.Bundle.{Item, one, bundle}
 
 -- the bits of the types u8, u16 and u64
@@ -33,6 +33,7 @@ Typed (giveBack seat) = IsU8 seat
 Typed (leave seat) = IsU8 seat
 Typed (deliver n) = IsU8 (n .kind) × IsU8 (n .to) × IsU8 (n .about) × IsU8 (n .level) × IsU8 (n .side)
 Typed turn = Unit {0}
+Typed (crash set) = IsU64 set
 
 -- of a call, or the limit of a bundle
 abbrev pub TypedItem : Item Call → Type 0

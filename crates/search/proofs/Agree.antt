@@ -1,8 +1,8 @@
--- Lots that agree on their members have the same graph: what is said of a seat that is no member does not matter. A link of the graph names a
--- member. And the right answers to a search are the same. Assumes the laws of the lots.
+-- Lots that agree on their members have the same graph: what is said of a seat that is no member does not matter, nor by which labels components are
+-- told apart. A link of the graph names a member. And the right answers to a search are the same. Assumes the laws of the lots.
 use Prim.Native.Nat.{ℕ}
 use mathlib.Core.Path.{_≡_, sym, _∙_, subst}
-use mathlib.Core.Logic.{_⊎_, inl, inr}
+use mathlib.Core.Logic.{_↔_, _⊎_, inl, inr}
 use mathlib.Core.Option.{Option, some}
 use mathlib.Core.Bool.{Bool}
 use lib.Dec.{T}
@@ -12,12 +12,12 @@ use Rattle.graph.specs.inner.Order.{Lt, toL, toR}
 use Rattle.graph.proofs.Neighbour.{InList, Nearest, nobody as nobody-near, nearest, nearest-list, graph-nearest, nearest-graph}
 use Rattle.search.specs.Right.{RightHolder, holds, nobody}
 
--- the same members, and of each the same number, vector and component
+-- the same members, of each the same number and vector, and the same components
 pub record Agree (G H : Lots) : Type 0 where
   pub member : (z : ℕ) → G .member z ≡ H .member z
   pub number : (z : ℕ) → T (G .member z) → G .number z ≡ H .number z
   pub vector : (z : ℕ) → T (G .member z) → G .vector z ≡ H .vector z
-  pub component : (z : ℕ) → T (G .member z) → G .component z ≡ H .component z
+  pub component : (y z : ℕ) → T (G .member y) → T (G .member z) → (G .component y ≡ G .component z) ↔ (H .component y ≡ H .component z)
 
 module _ {G H : Lots} (a : Agree G H) where
   pub member-there : (z : ℕ) → T (G .member z) → T (H .member z)
@@ -31,7 +31,7 @@ agree-sym {G} {H} a = record {
   member = λ z. sym (a .member z);
   number = λ z m. sym (a .number z (member-back a z m));
   vector = λ z m. sym (a .vector z (member-back a z m));
-  component = λ z m. sym (a .component z (member-back a z m));
+  component = λ y z m n. let (to, from) = a .component y z (member-back a y m) (member-back a z n) in (from, to);
 }
 
 pub agree-laws : {N : ℕ} {G H : Lots} → Agree G H → Laws N G → Laws N H
@@ -45,7 +45,7 @@ module _ {G H : Lots} (a : Agree G H) {x : ℕ} (m : T (G .member x)) where
   list-agrees : {W k z : ℕ} → InList W G k x z → InList W H k x z
   list-agrees {z = z} p = record {
     member = member-there a z (p .member);
-    same = sym (a .component x m) ∙ p .same ∙ a .component z (p .member);
+    same = a .component x z m (p .member) .0 (p .same);
     bits = rw (← a .vector x m, ← a .vector z (p .member)) (p .bits);
   }
 
@@ -84,10 +84,10 @@ pub holder-agrees : {m n : ℕ → Bool} {f g : ℕ → ℕ} {x : ℕ} {o : Opti
     → ((z : ℕ) → m z ≡ n z) → ((z : ℕ) → T (m z) → f z ≡ g z)
     → RightHolder m f x o → RightHolder n g x o
 holder-agrees {m} {n} {f} {g} {x} e h (holds {h = y} r) = holds (record {
-  stays = subst (λ (t : Bool). T t) (e y) (r .stays);
-  below = rw (← h y (r .stays)) (r .below);
+  found = subst (λ (t : Bool). T t) (e y) (r .found);
+  below = rw (← h y (r .found)) (r .below);
   largest = λ z t l. let u : T (m z) = subst (λ (v : Bool). T v) (sym (e z)) t in
-      rw (← h y (r .stays), ← h z u) (r .largest z u (rw (h z u) l));
+      rw (← h y (r .found), ← h z u) (r .largest z u (rw (h z u) l));
 })
 holder-agrees {m} {n} {f} {g} {x} e h (nobody no-one) = nobody (λ z t l. let u : T (m z) = subst (λ (v : Bool). T v) (sym (e z)) t in
     no-one z u (rw (h z u) l))

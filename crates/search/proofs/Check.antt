@@ -1,4 +1,4 @@
--- The check of specs/ says yes exactly if the links are the graph's, so exactly if Constraints 1 to 6 hold and there is one level-0 list.
+-- The check of specs/ says yes exactly if the links are the graph's, so for the components of the links exactly if Constraints 1 to 6 hold.
 -- Where it says yes, find names the right holder. Assumes that members sit below N, and for the constraints the laws of the lots.
 use Prim.Native.Nat.{ℕ, suc, _≤_, _<_}
 use mathlib.Core.Path.{_≡_, refl, ap}
@@ -6,17 +6,17 @@ use mathlib.Core.Logic.{_↔_}
 use mathlib.Core.Option.{Option, none, some}
 use mathlib.Core.Bool.{Bool, true, not, _&&_, _||_}
 use native.Mathlib.Omega.{arith}
-use lib.Dec.{T, eqb→eq, eqb-refl}
+use lib.Dec.{T, eqb, eqb→eq, eqb-refl}
 use Rattle.graph.specs.Side.{Side, left, right}
 use Rattle.graph.specs.Graph.{Lots, Links, Laws, graph, IsGraph}
-use Rattle.graph.specs.Constraints.{Constraints, OneList}
+use Rattle.graph.specs.Constraints.{Constraints}
+use Rattle.graph.specs.Components.{byLinks}
 use Rattle.base.proofs.Tests.{T-true, true-T, and-T, and-fst, and-snd}
-use Rattle.graph.proofs.SkipGraph.{skip-graph}
+use Rattle.graph.proofs.Labels.{theorem-5-links}
 use Rattle.base.specs.Loops.{all}
 use Rattle.search.specs.Check.{sameLink, levelRight, check}
 use Rattle.search.specs.Walk.{find}
 use Rattle.search.proofs.Count.{when-T, T-when, all-passes, passes-all}
-use Rattle.search.proofs.Ordered.{OneComponent}
 use Rattle.search.specs.Right.{RightHolder}
 use Rattle.search.proofs.Holder.{find-holder}
 
@@ -71,12 +71,15 @@ check-graph {N} {W} {G} {L} seat =
       (λ g. T-true (r .1 (λ x m. lot-right N W G L x .1 (λ k d l. g .link x k d m l)))),
     )
 
-pub check-constraints : {N W : ℕ} {G : Lots} {L : Links} → Laws N G → (check N W G L ≡ true) ↔ (Constraints W G L × OneList W G L)
-check-constraints laws = let (to, back) = check-graph (laws .seat) in
-    (λ e. skip-graph laws .1 (to e), λ c. back (skip-graph laws .0 c))
+-- with the components of the links: Constraints 1 to 6, by Theorem 5
+pub check-constraints : (N W : ℕ) (G : Lots) (L : Links) → Laws N G → (check N W (byLinks N W G L) L ≡ true) ↔ Constraints W G L
+check-constraints N W G L laws =
+    let (to, back) = check-graph {G = byLinks N W G L} (laws .seat) in
+    let (graph, constraints) = theorem-5-links N W G L laws in
+    (λ e. constraints (to e), λ c. back (graph c))
 
--- where the check says yes, the holder is right: of those members that stay
-pub checked-holder : {N : ℕ} {G : Lots} → Laws N G → OneComponent G → (W : ℕ) (L : Links) → check N W G L ≡ true
-    → (staying : ℕ → Bool) → ((z : ℕ) → T (staying z) → T (G .member z))
-    → (x s : ℕ) → T (G .member s) → RightHolder staying (G .number) x (find staying (G .number) L x N W s .holder)
-checked-holder laws one W L e staying within x s m = find-holder laws (check-graph (laws .seat) .0 e) one staying within x s m
+-- where the check says yes, the holder is right: of those members of the start's component that stay
+pub checked-holder : {N : ℕ} {G : Lots} → Laws N G → (W : ℕ) (L : Links) → check N W G L ≡ true
+    → (staying : ℕ → Bool) → ((z : ℕ) → T (staying z) → T (G .member z)) → (x s : ℕ) → T (G .member s)
+    → RightHolder (λ z. staying z && eqb (G .component s) (G .component z)) (G .number) x (find staying (G .number) L x N W s .holder)
+checked-holder laws W L e staying within x s m = find-holder laws (check-graph (laws .seat) .0 e) staying within x s m

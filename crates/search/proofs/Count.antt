@@ -1,21 +1,13 @@
 -- Tests of the numbers below n: that every one passes, and how many do. Assumes nothing.
 use Prim.Native.Nat.{ℕ, zero, suc, _+_, _≤_, _<_}
-use mathlib.Core.Path.{_≡_, refl, sym, subst}
-use mathlib.Core.Logic.{_↔_}
+use mathlib.Core.Path.{_≡_, subst}
 use mathlib.Core.Bool.{Bool, true, false, not, _||_}
 use native.Mathlib.Omega.{arith}
 use native.Mathlib.Decide.{ℕ-discrete}
 use lib.Dec.{T}
-use Rattle.base.proofs.Tests.{T-true, true-T, not-T-false, and-T, and-fst, and-snd}
-use Rattle.base.proofs.Count.{count-zero}
+use Rattle.base.proofs.Tests.{T-true, not-T-false, and-T, and-fst, and-snd}
 use Rattle.graph.proofs.Below.{below-suc}
 use Rattle.base.specs.Loops.{oneIf, all, count}
-
--- two tests that pass together are one
-pub test-eq : {a b : Bool} → (T a → T b) → (T b → T a) → a ≡ b
-test-eq {a = true} f g = sym (T-true (f tt))
-test-eq {a = false} {b = true} f g = absurd (g tt)
-test-eq {a = false} {b = false} f g = refl
 
 -- a test that is made where another passes
 pub when-T : (a b : Bool) → (T a → T b) → T (not a || b)
@@ -60,35 +52,3 @@ count-less (suc n) p q j l t f h = by (ℕ-discrete j n) (λ m. count-less n p q
         let b : p n ≡ false = not-T-false (subst (λ (i : ℕ). ¬ (T (p i))) e f) in
         rw (a, b) (omega (arith, count-mono n p q h))
     by (no e) ih = omega (arith, ih (omega arith), one-le (p n) (q n) (h n))
-
--- at most one passes
-count-same : (n : ℕ) (p : ℕ → Bool) → count n p ≤ 1 → (i j : ℕ) → i < n → j < n → T (p i) → T (p j) → i ≡ j
-unfolding count
-count-same zero p c i j k l s t = absurd (omega arith)
-count-same (suc n) p c i j k l s t = by (p n) refl (ℕ-discrete i n) (ℕ-discrete j n)
-    (λ a b. count-same n p (omega (arith, c)) i j a b s t)
-  where
-    none-below : p n ≡ true → (h : ℕ) → h < n → T (p h) → ⊥
-    none-below e h a u = let z : count n p ≡ 0 = (let d : count n p + oneIf (p n) ≤ 1 = c in let f = rw e at d in omega arith) in
-        let f : p h ≡ false = count-zero n p .0 z h a in rw f at u
-
-    by : (b : Bool) → p n ≡ b → Dec (i ≡ n) → Dec (j ≡ n) → (i < n → j < n → i ≡ j) → i ≡ j
-    by b e (yes f) (yes g) ih = omega arith
-    by b e (no f) (no g) ih = ih (omega arith) (omega arith)
-    by b e (yes f) (no g) ih = absurd (none-below (T-true (rw f at s)) j (omega arith) t)
-    by b e (no f) (yes g) ih = absurd (none-below (T-true (rw g at t)) i (omega arith) s)
-
-same-count : (n : ℕ) (p : ℕ → Bool) → ((i j : ℕ) → i < n → j < n → T (p i) → T (p j) → i ≡ j) → count n p ≤ 1
-unfolding count
-same-count zero p h = omega arith
-same-count (suc n) p h = by (p n) refl (same-count n p (λ i j k l s t. h i j (omega arith) (omega arith) s t))
-  where
-    by : (b : Bool) → p n ≡ b → count n p ≤ 1 → count n p + oneIf (p n) ≤ 1
-    by true e ih =
-        let z : count n p ≡ 0 = count-zero n p .1 (λ i l. not-T-false (λ t.
-        let q = h i n (omega arith) (omega arith) t (true-T e) in absurd (omega arith))) in
-        rw (e, z) (omega arith)
-    by false e ih = rw e (omega arith)
-
-pub count-one : (n : ℕ) (p : ℕ → Bool) → (count n p ≤ 1) ↔ ((i j : ℕ) → i < n → j < n → T (p i) → T (p j) → i ≡ j)
-count-one n p = (count-same n p, same-count n p)

@@ -10,6 +10,5 @@ pub mod Check
 pub mod Ahead
 pub mod LinkTests
 pub mod LinkCheck
-pub mod OneStart
 pub mod Examples
 pub mod Agree

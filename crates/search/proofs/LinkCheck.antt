@@ -1,5 +1,5 @@
--- The check of the links passes exactly if Constraints 1 to 6 hold, with any number of level-0 lists. Assumes the laws of the lots, and links
--- that lie on their side and share the level's bits, as soundness says.
+-- The check of the links passes exactly if Constraints 1 to 6 hold, with any number of components, so exactly where the check of specs/ does.
+-- Assumes the laws of the lots, and links that lie on their side and share the level's bits, as soundness says.
 use Prim.Native.Nat.{ℕ, zero, suc, _+_, _≤_, _<_}
 use mathlib.Core.Path.{_≡_, refl, subst}
 use mathlib.Core.Logic.{_↔_}
@@ -17,7 +17,11 @@ use Rattle.graph.specs.inner.Order.{Lt}
 use Rattle.graph.proofs.Order.{lt-on}
 use Rattle.graph.proofs.Shared.{shared-refl, shared-sym, shared-trans, shared-bit, bit-shared}
 use Rattle.graph.proofs.Walk.{Walk, here, there, walk-iterate, iterate-walk, walk-zero, walk-snoc, walk-rest, Sorted, walk-member}
+use Rattle.graph.specs.Components.{byLinks}
+use Rattle.base.proofs.Cases.{same-test}
+use Rattle.search.specs.Check.{check}
 use Rattle.search.specs.inner.LinkCheck.{constraintsOk}
+use Rattle.search.proofs.Check.{check-constraints}
 use Rattle.search.proofs.Ahead.{FirstWith, found, nowhere, ahead-first}
 use Rattle.search.proofs.LinkTests.{Backs, Aboves, tests-say}
 
@@ -27,18 +31,18 @@ pub record Sided (W : ℕ) (G : Lots) (L : Links) : Type 0 where
   pub bits : (x k y : ℕ) (d : Side) → T (G .member x) → k ≤ W → L x k d ≡ some y → k ≤ shared W (G .vector x) (G .vector y)
 
 -- a walk between members whose links have their links back, the other way
-pub walk-back : {W : ℕ} {G : Lots} {L : Links} → Backs W G L → {k : ℕ} → k ≤ W → {d : Side} {j x z : ℕ} → T (G .member x)
+walk-back : {W : ℕ} {G : Lots} {L : Links} → Backs W G L → {k : ℕ} → k ≤ W → {d : Side} {j x z : ℕ} → T (G .member x)
     → Walk L k d j x z → Walk L k (opp d) j z x
 walk-back b l m here = here
 walk-back b {k} l {d} m (there {x = x} {y = y} e w) = walk-snoc (walk-back b l (b .within x k y d m l e) w) (b .back x k y d m l e)
 
-pub backs-sorted : {W : ℕ} {G : Lots} {L : Links} → Sided W G L → Backs W G L → Sorted W G L
+backs-sorted : {W : ℕ} {G : Lots} {L : Links} → Sided W G L → Backs W G L → Sorted W G L
 backs-sorted sided b = record {
   within = λ {x} {k} {y} {d} m l e. b .within x k y d m l e;
   order = λ {x} {k} {y} {d} m l e. sided .order x k y d m l e;
 }
 
-pub constraints-backs : {W : ℕ} {G : Lots} {L : Links} → Constraints W G L → Backs W G L
+constraints-backs : {W : ℕ} {G : Lots} {L : Links} → Constraints W G L → Backs W G L
 constraints-backs c = record { within = c .within; back = c .back }
 
 module _ {W : ℕ} {G : Lots} {L : Links} (sided : Sided W G L) (backs : Backs W G L) {k : ℕ} (less : k < W) where
@@ -150,9 +154,16 @@ module _ {N W : ℕ} {G : Lots} {L : Links} (laws : Laws N G) (sided : Sided W G
   constraints-aboves c x k m l = let b = constraints-backs c in
       first-found sided b l m c (ahead-first laws (backs-sorted sided b) (omega arith) x m)
 
-  -- the check without the question of the starts: Constraints 1 to 6
+  -- the check says yes exactly if Constraints 1 to 6 hold
   pub constraints-checked : (constraintsOk N W G L ≡ true) ↔ Constraints W G L
   constraints-checked = let (to, from) = tests-say N W G L (laws .seat) in (
     (λ e. let (b, a) = to (true-T e) in tests-constraints b a),
     (λ c. T-true (from (constraints-backs c, constraints-aboves c))),
   )
+
+  -- so it says what the check of specs/ says, with the components of the links
+  pub constraints-check : constraintsOk N W G L ≡ check N W (byLinks N W G L) L
+  constraints-check =
+      let (to, from) = constraints-checked in
+      let (constraints, checked) = check-constraints N W G L laws in
+      same-test (constraintsOk N W G L) (check N W (byLinks N W G L) L) (λ e. checked (to e)) (λ e. from (constraints e))

@@ -8,10 +8,10 @@ use native.Mathlib.Omega.{arith}
 use lib.Dec.{T}
 use Rattle.base.specs.Loops.{all}
 use Rattle.base.proofs.Tests.{and-T, and-fst, and-snd}
-use Rattle.graph.specs.Side.{Side, left, right, opp}
+use Rattle.graph.specs.Side.{Side, right, opp}
 use Rattle.graph.specs.Graph.{Lots, Links}
 use Rattle.search.specs.Check.{sameLink}
-use Rattle.search.specs.inner.LinkCheck.{backOf, backsOk, startsAt, aheadOf, aboveOk, lotBacks, lotAboves, constraintsOk}
+use Rattle.search.specs.inner.LinkCheck.{backOf, backsOk, aheadOf, aboveOk, lotBacks, lotAboves, constraintsOk}
 use Rattle.search.proofs.Count.{all-passes, passes-all}
 use Rattle.search.proofs.Check.{link-eq, eq-link, both-at, at-both, members-at}
 
@@ -39,13 +39,6 @@ module _ (G : Lots) (L : Links) where
       by : (o : Option ℕ) → L x k d ≡ o → T (backOf G L x k d o)
       by none e = tt
       by (some y) e = let (m, b) = h y e in and-T (G .member y) (sameLink (L y k (opp d)) (some x)) m (eq-link b)
-
-  pub start-test : (x : ℕ) → T (startsAt G L x) ↔ (T (G .member x) × (L x 0 left ≡ none))
-  unfolding startsAt
-  start-test x = let b = sameLink (L x 0 left) none in (
-    (λ t. (and-fst (G .member x) b t, link-eq (L x 0 left) none (and-snd (G .member x) b t))),
-    (λ p. and-T (G .member x) b (p .0) (eq-link (p .1))),
-  )
 
   -- the test of both sides
   backs-at : (x k : ℕ) → T (backsOk G L x k) → (d : Side) → T (backOf G L x k d (L x k d))

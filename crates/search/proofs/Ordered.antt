@@ -1,7 +1,7 @@
 -- What the search needs of a record, and every sound record has: links that keep to their side. Each link lowers the rank of a lot. Assumes
 -- nothing.
 use Prim.Native.Nat.{ℕ, _≤_, _<_}
-use mathlib.Core.Path.{_≡_, refl}
+use mathlib.Core.Path.{refl}
 use mathlib.Core.Bool.{Bool, _&&_}
 use lib.Dec.{T}
 use Rattle.graph.specs.Side.{Side, onSide}
@@ -26,10 +26,6 @@ graph-ordered laws g = sorted-ordered laws (constraints-sorted (graph-constraint
 -- an instance
 pub ordered-two : (W : ℕ) → Ordered 2 W (twoSeated .member) (twoSeated .number) (graph 2 W twoSeated)
 ordered-two W = graph-ordered laws-two (record { link = λ x k d m l. refl })
-
--- all members are in one component, as document 01 has it
-abbrev pub OneComponent : Lots → Type 0
-OneComponent G = (x y : ℕ) → T (G .member x) → T (G .member y) → G .component x ≡ G .component y
 
 pub rank-bound : (N : ℕ) (seated : ℕ → Bool) (number : ℕ → ℕ) (d : Side) (x : ℕ) → rank N seated number d x ≤ N
 unfolding rank

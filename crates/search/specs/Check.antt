@@ -1,5 +1,4 @@
--- The check: every link of every member is its link in the graph of the members. (By `skip-graph` of the graph crate that is exactly
--- Constraints 1 to 6 and one level-0 list.) Assumes nothing.
+-- The check: every link of every member is its link in the graph of the members, made within each component. Assumes nothing.
 use Prim.Native.Nat.{ℕ, suc}
 use mathlib.Core.Option.{Option, none, some}
 use mathlib.Core.Bool.{Bool, true, false, not, _&&_, _||_}

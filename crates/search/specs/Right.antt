@@ -1,21 +1,21 @@
--- What is promised of a search: the right holder (document 02, #104), and a path that meets no lot twice and stays between its ends. Assumes
--- nothing.
+-- What is promised of a search: the right holder among the lots that are sought, the staying ones (document 02, #104) of the start's component
+-- (#106), and a path that meets no lot twice and stays between its ends. Assumes nothing.
 use Prim.Native.Nat.{ℕ, _≤_, min, max}
 use mathlib.Core.Option.{Option, none, some}
 use mathlib.Core.Bool.{Bool}
 use mathlib.Core.List.{List, [], _∷_, List·Memᴰ}
 use lib.Dec.{T}
 
--- h is the holder of x: the staying lot with the largest number that is not above x
-pub record Holds (staying : ℕ → Bool) (number : ℕ → ℕ) (x h : ℕ) : Type 0 where
-  pub stays : T (staying h)
+-- h is the holder of x: of the lots that are sought the one with the largest number that is not above x
+pub record Holds (sought : ℕ → Bool) (number : ℕ → ℕ) (x h : ℕ) : Type 0 where
+  pub found : T (sought h)
   pub below : number h ≤ x
-  pub largest : (z : ℕ) → T (staying z) → number z ≤ x → number z ≤ number h
+  pub largest : (z : ℕ) → T (sought z) → number z ≤ x → number z ≤ number h
 
--- the right answer to a search for x: the holder, or none if no staying lot has a number that is not above x
-pub data RightHolder (staying : ℕ → Bool) (number : ℕ → ℕ) (x : ℕ) : Option ℕ → Type 0 where
-  holds : {h : ℕ} → Holds staying number x h → RightHolder staying number x (some h)
-  nobody : ((z : ℕ) → T (staying z) → number z ≤ x → ⊥) → RightHolder staying number x none
+-- the right answer to a search for x: the holder, or none if no lot that is sought has a number that is not above x
+pub data RightHolder (sought : ℕ → Bool) (number : ℕ → ℕ) (x : ℕ) : Option ℕ → Type 0 where
+  holds : {h : ℕ} → Holds sought number x h → RightHolder sought number x (some h)
+  nobody : ((z : ℕ) → T (sought z) → number z ≤ x → ⊥) → RightHolder sought number x none
 
 -- no lot stands twice in a list
 pub data Once : List ℕ → Type 0 where

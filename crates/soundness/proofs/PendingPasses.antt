@@ -10,7 +10,7 @@ use Rattle.base.specs.Loops.{all}
 use Rattle.memory.specs.Bits.{bitSet}
 use Rattle.base.proofs.Cases.{lt-or-ge, true-or-false}
 use Rattle.base.proofs.All.{all-at, all-from}
-use Rattle.memory.proofs.First.{first}
+use Rattle.base.proofs.First.{first}
 use Rattle.record.specs.Layout.{messages, pendingFrom}
 use Rattle.messages.specs.inner.Numbers.{firstPending, NoneBefore}
 use Rattle.messages.proofs.First.{first-pending-bit}

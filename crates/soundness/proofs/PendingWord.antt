@@ -11,7 +11,7 @@ use Rattle.base.specs.Loops.{firstFrom}
 use Rattle.memory.specs.Bits.{packed, bitSet}
 use Rattle.base.proofs.Cases.{lt-or-ge, eq-or-ne}
 use Rattle.base.proofs.All.{all-from, all-fails}
-use Rattle.memory.proofs.First.{first}
+use Rattle.base.proofs.First.{first}
 use Rattle.memory.proofs.Packed.{packed-same, packed-zero, packed-shr}
 use Rattle.memory.proofs.Bitmap.{bitSet-from}
 use Rattle.memory.proofs.MachineCounts.{trailing-packed, first-set}

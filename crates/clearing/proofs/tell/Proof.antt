@@ -29,7 +29,7 @@ returns c = λ M f e.
     let s = a .before .before .before .args in
     c .before .before .send .ensures
     ∙ ap (setBit (s .rec .now) pendingFrom) (c .before .before .before .going-place .ensures .0)
-    ∙ tell-sent M f (s .y) (s .k) (s .d) (a .link .result) (omega arith) (omega arith) (omega arith) e (a .link .ensures) (omega arith)
+    ∙ tell-sent M f (s .y) (s .k) (s .d) (a .link .result) (omega arith) (omega arith) e (a .link .ensures) (omega arith) (omega arith)
 
 same-length-2 : tie.Need-same-length-2
 same-length-2 c = search needs
@@ -38,7 +38,7 @@ returns-2 : tie.Need-returns-2
 returns-2 c = λ M f e.
     let a = c .before in
     let s = a .before .before .before .args in
-    tell-none M f (s .y) (s .k) (s .d) (a .link .result) (omega arith) (omega arith) (omega arith) e (a .link .ensures) (c .if1 .left)
+    tell-none M f (s .y) (s .k) (s .d) (a .link .result) (omega arith) (omega arith) e (a .link .ensures) (c .if1 .left)
 
 pub tell-spec : {M : Type 1} → statement M
 tell-spec =

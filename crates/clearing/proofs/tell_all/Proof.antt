@@ -4,11 +4,12 @@ use mathlib.Core.Path.{_≡_, refl, sym, ap, _∙_}
 use native.Mathlib.Omega.{arith}
 use lib.ListN.{length}
 use borrow.Author.Needs.{needs}
-use Rattle.protocol.specs.pages.Turn.{each, farewells}
+use Rattle.protocol.specs.Page.{each}
+use Rattle.protocol.specs.pages.Turn.{farewells}
 use Rattle.record.specs.Layout.{seats}
 use Rattle.record.specs.Meaning.{bytesOf}
 use Rattle.clearing.specs.inner.Steps.{Step, same, saying, farewellsFrom}
-use Rattle.clearing.proofs.Telling.{each-start, lot-more}
+use Rattle.clearing.proofs.Telling.{saying-none, saying-next}
 use Rattle.clearing.proofs.tell_all.Statement.{statement}
 use Rattle.clearing.proofs.tell_all.Tie as tie
 
@@ -19,7 +20,7 @@ abbrev μ-loop : tie.MeasureT-loop
 μ-loop rec₀ y₀ rec y = seats - y
 
 loop-holds : tie.Need-loop-holds Inv-loop μ-loop
-loop-holds c = (search needs, refl, λ M f e. e ∙ sym (ap bytesOf (each-start M (farewellsFrom M))))
+loop-holds c = (search needs, refl, λ M f e. e ∙ sym (ap bytesOf (saying-none M (farewellsFrom M))))
 
 tell-if-leaving-requires : tie.Need-tell-if-leaving-requires Inv-loop μ-loop
 tell-if-leaving-requires c κs = omega arith
@@ -38,7 +39,7 @@ loop-again c =
       search needs,
       b .kept .0 ∙ a .loop .inv .1,
       λ M f e.
-          b .ensures (saying M (each y (farewellsFrom M))) f (a .loop .inv .2 M f e) ∙ ap bytesOf (lot-more M y),
+          b .ensures (saying M (each y (farewellsFrom M))) f (a .loop .inv .2 M f e) ∙ ap bytesOf (saying-next M y (farewellsFrom M)),
     )
 
 same-length : tie.Need-same-length Inv-loop μ-loop

@@ -4,12 +4,13 @@ use mathlib.Core.Path.{_≡_, refl, sym, ap, _∙_}
 use native.Mathlib.Omega.{arith}
 use lib.ListN.{length}
 use borrow.Author.Needs.{needs}
-use Rattle.graph.specs.Side.{left}
-use Rattle.protocol.specs.pages.Turn.{each, farewell}
+use Rattle.graph.specs.Side.{left, right}
+use Rattle.protocol.specs.Page.{each}
+use Rattle.protocol.specs.pages.Turn.{farewell}
 use Rattle.record.specs.Layout.{levels}
 use Rattle.record.specs.Meaning.{bytesOf}
 use Rattle.clearing.specs.inner.Steps.{Step, same, saying, levelFarewells}
-use Rattle.clearing.proofs.Telling.{each-start, level-more}
+use Rattle.clearing.proofs.Telling.{saying-none, saying-parts}
 use Rattle.clearing.proofs.tell_links.Statement.{statement}
 use Rattle.clearing.proofs.tell_links.Tie as tie
 
@@ -20,7 +21,7 @@ abbrev μ-loop : tie.MeasureT-loop
 μ-loop rec₀ y k₀ rec k = levels - k
 
 loop-holds : tie.Need-loop-holds Inv-loop μ-loop
-loop-holds c = (search needs, refl, λ M f e. e ∙ sym (ap bytesOf (each-start M (levelFarewells (M .link) (c .before .args .y)))))
+loop-holds c = (search needs, refl, λ M f e. e ∙ sym (ap bytesOf (saying-none M (levelFarewells (M .link) (c .before .args .y)))))
 
 tell-requires : tie.Need-tell-requires Inv-loop μ-loop
 tell-requires c κs = omega arith
@@ -44,8 +45,11 @@ loop-again c =
       search needs,
       d .kept .0 ∙ b .kept .0 ∙ a .loop .inv .1,
       λ M f e.
-          let N = saying M (each k (levelFarewells (M .link) (s .y))) in
-          d .ensures (saying N (farewell (M .link) (s .y) k left)) f (b .ensures N f (a .loop .inv .2 M f e)) ∙ ap bytesOf (level-more M k (s .y)),
+          let sent = levelFarewells (M .link) (s .y) in
+          let first = farewell (M .link) (s .y) k left in
+          let N = saying M (each k sent) in
+          d .ensures (saying N first) f (b .ensures N f (a .loop .inv .2 M f e))
+          ∙ ap bytesOf (saying-parts M k sent first (farewell (M .link) (s .y) k right) refl),
     )
 
 same-length : tie.Need-same-length Inv-loop μ-loop

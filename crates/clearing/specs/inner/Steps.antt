@@ -12,9 +12,9 @@ use Rattle.graph.specs.Graph.{Links}
 use Rattle.graph.specs.Vector.{width}
 use Rattle.protocol.specs.Message.{Msg}
 use Rattle.protocol.specs.State.{Phase, open-phase, clearing, Meaning, leaves}
-use Rattle.protocol.specs.Page.{pendingAfter}
+use Rattle.protocol.specs.Page.{each, pendingAfter}
 use Rattle.protocol.specs.Freeing.{freeing, unlinking}
-use Rattle.protocol.specs.pages.Turn.{each, farewell, farewells}
+use Rattle.protocol.specs.pages.Turn.{farewell, farewells}
 use Rattle.record.specs.Layout.{seats, levels}
 use Rattle.record.specs.Meaning.{bytesOf}
 

@@ -13,7 +13,7 @@ use Rattle.protocol.specs.Refusals.{noContact, first}
 use Rattle.protocol.proofs.Accepted.{join-after}
 use Rattle.record.specs.Layout.{seats}
 use Rattle.record.specs.Meaning.{meaning}
-use Rattle.joining.proofs.Rows.{row-here, row-next}
+use Rattle.record.proofs.Rows.{row-here, row-next}
 use Rattle.joining.proofs.join_row.Statement.{statement}
 use Rattle.joining.proofs.join_row.Tie as tie
 

@@ -6,7 +6,7 @@ use borrow.Author.Needs.{needs}
 use Rattle.base.specs.Loops.{count as countOf}
 use Rattle.memory.specs.Bytes.{nonZero}
 use Rattle.memory.specs.Bits.{bitSet}
-use Rattle.memory.proofs.First.{IsFirst, first}
+use Rattle.base.proofs.First.{IsFirst, first}
 use Rattle.base.proofs.Count.{count-none, count-le}
 use Rattle.memory.proofs.Search.{count-bytes, count-passed}
 use Rattle.memory.proofs.count_bits.Statement.{statement}

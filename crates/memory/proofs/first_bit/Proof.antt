@@ -5,7 +5,7 @@ use native.Mathlib.Omega.{arith}
 use native.Mathlib.Nat.{sub-self, div-add-mod'}
 use borrow.Author.Needs.{needs}
 use Rattle.memory.specs.Bits.{bitSet}
-use Rattle.memory.proofs.First.{first-end}
+use Rattle.base.proofs.First.{first-end}
 use Rattle.memory.proofs.Search.{first-byte-found, first-byte-none}
 use Rattle.memory.proofs.first_bit.Statement.{statement}
 use Rattle.memory.proofs.first_bit.Tie as tie

@@ -9,7 +9,7 @@ use borrow.Author.Needs.{needs}
 use borrow.Author.Tests.{eq-eqb, ne-eqb}
 use Rattle.base.specs.Loops.{firstFrom}
 use Rattle.memory.specs.Bytes.{nonZero}
-use Rattle.memory.proofs.First.{first-end, first-here, first-more}
+use Rattle.base.proofs.First.{first-end, first-here, first-more}
 use Rattle.memory.proofs.first_byte.Statement.{statement}
 use Rattle.memory.proofs.first_byte.Tie as tie
 

@@ -6,7 +6,7 @@ use lib.ListN.{getD}
 use borrow.Author.Needs.{needs}
 use Rattle.memory.specs.Bytes.{AreBytes, nonZero}
 use Rattle.memory.specs.Bits.{hasBit}
-use Rattle.memory.proofs.First.{IsFirst, first}
+use Rattle.base.proofs.First.{IsFirst, first}
 use Rattle.memory.proofs.Search.{first-bytes-none, first-bytes-found}
 use Rattle.memory.proofs.first_in_bytes.Statement.{statement}
 use Rattle.memory.proofs.first_in_bytes.Tie as tie

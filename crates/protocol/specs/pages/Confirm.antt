@@ -9,7 +9,7 @@ use Rattle.protocol.specs.Rules.{staying}
 use Rattle.protocol.specs.State.{isClearing, held, noSeat}
 use Rattle.protocol.specs.Refusals.{noSuchSeat, inClearing, notReserved, noContact, row}
 use Rattle.protocol.specs.Page.{Page, marking}
-use Rattle.protocol.specs.pages.Join.{noSuchContact, lacksContact, greeting}
+use Rattle.protocol.specs.pages.Join.{noSuchContact, lacksContact, greeting, admitted}
 
 abbrev pub confirmPage : (N W s c : ℕ) → Page
 confirmPage N W s c = record {
@@ -23,5 +23,6 @@ confirmPage N W s c = record {
   links = λ M. M .link;
   sends = λ M. greeting N s c;
   takes = none;
+  component = λ r. admitted N s c;
   fits = Unit {0};
 }

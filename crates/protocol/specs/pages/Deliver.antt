@@ -11,7 +11,7 @@ use Rattle.protocol.specs.Message.{Msg, Name, nameOf, named}
 use Rattle.protocol.specs.Rules.{Change, keep, set, Effect, effect}
 use Rattle.protocol.specs.State.{Meaning, entry, isPending}
 use Rattle.protocol.specs.Refusals.{noSuchMessage, row}
-use Rattle.protocol.specs.Page.{Page}
+use Rattle.protocol.specs.Page.{Page, sameComponents}
 
 -- the rule of a message, on the entry of its `to`
 unfoldable pub rule : ℕ → Meaning → Msg → Effect
@@ -43,5 +43,6 @@ deliverPage N W n = record {
   links = λ M. deliveryLinks W M (named n);
   sends = λ M. deliverySends W M (named n);
   takes = named n;
+  component = sameComponents;
   fits = Unit {0};
 }

@@ -6,7 +6,7 @@ use mathlib.Core.List.{[], _∷_}
 use Rattle.protocol.specs.Rules.{free}
 use Rattle.protocol.specs.State.{held, noSeat}
 use Rattle.protocol.specs.Refusals.{noSuchSeat, notReserved, row}
-use Rattle.protocol.specs.Page.{Page, seating, withoutLinks}
+use Rattle.protocol.specs.Page.{Page, sameComponents, seating, withoutLinks}
 
 abbrev pub giveBackPage : (N W s : ℕ) → Page
 giveBackPage N W s = record {
@@ -15,5 +15,6 @@ giveBackPage N W s = record {
   links = λ M. withoutLinks s (M .link);
   sends = λ M. [];
   takes = none;
+  component = sameComponents;
   fits = Unit {0};
 }

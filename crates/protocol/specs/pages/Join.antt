@@ -1,6 +1,6 @@
 -- Join (document 01, "Calls"): names a free seat, number, vector and contact. The newcomer is staying, without links; the contact gets MEET
--- about it at level 0. In a record without seated lots the contact is 255 and nothing is sent. Reserving and confirming (document 02, #105) meet
--- the rows of a join that concern them. Assumes nothing.
+-- about it at level 0. In a record without seated lots the contact is 255 and nothing is sent. The newcomer's component is its contact's, a first
+-- lot's its own (document 02, #106). Reserving and confirming (document 02, #105) meet the rows of a join that concern them. Assumes nothing.
 use Prim.Native.Nat.{ℕ, _^_, _<_}
 use mathlib.Core.Option.{none}
 use mathlib.Core.Bool.{Bool, not, cond, _&&_, _||_}
@@ -11,7 +11,7 @@ use Rattle.protocol.specs.Message.{Msg, meet}
 use Rattle.protocol.specs.Rules.{staying}
 use Rattle.protocol.specs.State.{Seats, isClearing, taken, seated, empty, noSeat}
 use Rattle.protocol.specs.Refusals.{noSuchSeat, inClearing, seatTaken, numberInUse, noContact, row}
-use Rattle.protocol.specs.Page.{Page, seating, withoutLinks}
+use Rattle.protocol.specs.Page.{Page, at, seating, withoutLinks}
 use Rattle.protocol.specs.Sound.{numberBits}
 
 -- the contact that names no seat
@@ -34,6 +34,10 @@ lacksContact N r c = cond (noSeat N c) (any N (seated r)) (empty r c)
 abbrev pub greeting : (N s c : ℕ) → List Msg
 greeting N s c = cond (ltb c N) (meet c s 0 ∷ []) []
 
+-- the newcomer on seat s is in the component of its contact, a first lot in its own
+abbrev pub admitted : (N s contact : ℕ) → (ℕ → ℕ) → ℕ → ℕ
+admitted N s k c = at s (cond (ltb k N) (c k) s) c
+
 abbrev pub joinPage : (N W s n v c : ℕ) → Page
 joinPage N W s n v c = record {
   rows = λ r p.
@@ -47,5 +51,6 @@ joinPage N W s n v c = record {
   links = λ M. withoutLinks s (M .link);
   sends = λ M. greeting N s c;
   takes = none;
+  component = λ r. admitted N s c;
   fits = (n < 2 ^ numberBits) × (v < 2 ^ W);
 }

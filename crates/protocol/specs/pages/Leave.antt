@@ -5,7 +5,7 @@ use mathlib.Core.List.{[], _∷_}
 use Rattle.protocol.specs.Rules.{leaving}
 use Rattle.protocol.specs.State.{isClearing, empty, leaves, noSeat}
 use Rattle.protocol.specs.Refusals.{noSuchSeat, inClearing, emptySeat, alreadyLeaving, row}
-use Rattle.protocol.specs.Page.{Page, marking}
+use Rattle.protocol.specs.Page.{Page, sameComponents, marking}
 
 abbrev pub leavePage : (N W s : ℕ) → Page
 leavePage N W s = record {
@@ -19,5 +19,6 @@ leavePage N W s = record {
   links = λ M. M .link;
   sends = λ M. [];
   takes = none;
+  component = sameComponents;
   fits = Unit {0};
 }

@@ -6,7 +6,7 @@ use mathlib.Core.List.{[], _∷_}
 use Rattle.protocol.specs.Rules.{reserved}
 use Rattle.protocol.specs.State.{isClearing, taken, noSeat}
 use Rattle.protocol.specs.Refusals.{noSuchSeat, inClearing, seatTaken, numberInUse, row}
-use Rattle.protocol.specs.Page.{Page, seating, withoutLinks}
+use Rattle.protocol.specs.Page.{Page, sameComponents, seating, withoutLinks}
 use Rattle.protocol.specs.Sound.{numberBits}
 use Rattle.protocol.specs.pages.Join.{inUse}
 
@@ -22,5 +22,6 @@ reservePage N W s n v = record {
   links = λ M. withoutLinks s (M .link);
   sends = λ M. [];
   takes = none;
+  component = sameComponents;
   fits = (n < 2 ^ numberBits) × (v < 2 ^ W);
 }

@@ -1,6 +1,6 @@
 -- Turn (document 01, "Calls"). Open, no leavers: nothing changes. With leavers: phase clearing, and every leaver sends GOING to each of its
 -- links. Clearing: leavers' seats become free, phase open, and a link to a freed seat becomes none. Assumes nothing.
-use Prim.Native.Nat.{ℕ, zero, suc}
+use Prim.Native.Nat.{ℕ, suc}
 use mathlib.Core.Option.{none}
 use mathlib.Core.Bool.{cond}
 use mathlib.Core.List.{List, [], _∷_, _++_}
@@ -12,13 +12,8 @@ use Rattle.protocol.specs.Numbering.{somePending}
 use Rattle.protocol.specs.Rules.{toLink}
 use Rattle.protocol.specs.State.{Phase, open-phase, clearing, Seats, Meaning, leaves}
 use Rattle.protocol.specs.Refusals.{messagesLeft, row}
-use Rattle.protocol.specs.Page.{Page}
+use Rattle.protocol.specs.Page.{Page, sameComponents, each}
 use Rattle.protocol.specs.Freeing.{freeing, unlinking}
-
--- the lists f 0, f 1, .. below n
-unfoldable pub each : ℕ → (ℕ → List Msg) → List Msg
-each zero f = []
-each (suc n) f = each n f ++ f n
 
 -- GOING from the leaver y to its link at level k on side d, with the side on which the receiver has it
 unfoldable pub farewell : Links → (y k : ℕ) → Side → List Msg
@@ -47,5 +42,6 @@ turnPage N W = record {
   links = λ M. turnLinks (M .seats .phase) (M .seats) (M .link);
   sends = λ M. turnSends N W (M .seats .phase) M;
   takes = none;
+  component = sameComponents;
   fits = Unit {0};
 }

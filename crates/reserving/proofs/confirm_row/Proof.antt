@@ -7,7 +7,7 @@ use Rattle.protocol.specs.Refusals.{first}
 use Rattle.protocol.proofs.Accepted.{named-seat}
 use Rattle.record.specs.Layout.{seats}
 use Rattle.record.specs.Meaning.{meaning}
-use Rattle.joining.proofs.Rows.{row-here, row-next}
+use Rattle.record.proofs.Rows.{row-here, row-next}
 use Rattle.reserving.proofs.confirm_row.Statement.{statement}
 use Rattle.reserving.proofs.confirm_row.Tie as tie
 

@@ -1,10 +1,9 @@
 -- The check of the links as the code makes it, without a table. At every level each link of a member names a member that links back; and above
--- level 0 its right link is the first lot to the right on the level below that has its next bit. One start is asked apart. Assumes nothing.
+-- level 0 its right link is the first lot to the right on the level below that has its next bit. Assumes nothing.
 use Prim.Native.Nat.{ℕ, zero, suc}
 use mathlib.Core.Option.{Option, none, some}
 use mathlib.Core.Bool.{Bool, true, not, cond, _&&_, _||_}
-use lib.Dec.{leb}
-use Rattle.base.specs.Loops.{all, count}
+use Rattle.base.specs.Loops.{all}
 use Rattle.graph.specs.Side.{Side, left, right, opp}
 use Rattle.graph.specs.Vector.{sameBit, bit}
 use Rattle.graph.specs.Graph.{Lots, Links}
@@ -19,10 +18,6 @@ module _ (G : Lots) (L : Links) where
   -- both links of x at level k
   unfoldable pub backsOk : (x k : ℕ) → Bool
   backsOk x k = backOf x k left (L x k left) && backOf x k right (L x k right)
-
-  -- x is a member without a left link at level 0
-  unfoldable pub startsAt : ℕ → Bool
-  startsAt x = G .member x && sameLink (L x 0 left) none
 
 -- x is no member, or both its links at every level link back
 unfoldable pub lotBacks : (W : ℕ) → Lots → Links → ℕ → Bool
@@ -47,10 +42,6 @@ module _ (N W : ℕ) (G : Lots) (L : Links) where
   unfoldable pub lotAboves : ℕ → Bool
   lotAboves x = not (G .member x) || all W (aboveOk x)
 
-  -- every lot passes: Constraints 1 to 6, with any number of level-0 lists
+  -- every lot passes: Constraints 1 to 6, with any number of components
   unfoldable pub constraintsOk : Bool
   constraintsOk = all N (lotBacks W G L) && all N lotAboves
-
-  -- and one level-0 list: at most one member starts one
-  unfoldable pub linksOk : Bool
-  linksOk = leb (count N (startsAt G L)) 1 && constraintsOk

@@ -6,7 +6,7 @@ use borrow.Author.Tests.{lt-ltb, le-ltb}
 use Rattle.protocol.specs.Calls.{rows, refusal}
 use Rattle.protocol.specs.Refusals.{first}
 use Rattle.record.specs.Meaning.{meaning}
-use Rattle.joining.proofs.Rows.{row-here, row-next}
+use Rattle.record.proofs.Rows.{row-here, row-next}
 use Rattle.joining.proofs.newcomer.reserve_row.Statement.{statement}
 use Rattle.joining.proofs.newcomer.reserve_row.Tie as tie
 

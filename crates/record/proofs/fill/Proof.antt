@@ -1,7 +1,7 @@
--- `joining::newcomer::fill` meets its contract. Assumes nothing.
+-- `record::fill` meets its contract. Assumes nothing.
 use borrow.Author.Needs.{needs}
-use Rattle.joining.proofs.newcomer.fill.Statement.{statement}
-use Rattle.joining.proofs.newcomer.fill.Tie as tie
+use Rattle.record.proofs.fill.Statement.{statement}
+use Rattle.record.proofs.fill.Tie as tie
 
 set-state-requires : tie.Need-set-state-requires
 set-state-requires c κs = search needs

@@ -1,0 +1,56 @@
+-- MEET between the two ends of a link, and that links still name seats once some are freed. Assumes nothing.
+use Prim.Native.Nat.{ℕ, _≤_, _<_}
+use mathlib.Core.Path.{_≡_, sym, ap, _∙_}
+use mathlib.Core.List.{List, [], _∷_}
+use lib.Dec.{T}
+use borrow.Author.Tests.{lt-ltb}
+use Rattle.base.proofs.Tests.{true-T}
+use Rattle.memory.specs.Bits.{setBit}
+use Rattle.graph.specs.Side.{sideOfNumber}
+use Rattle.graph.specs.Vector.{width}
+use Rattle.protocol.specs.Message.{meet}
+use Rattle.protocol.specs.Numbering.{exists, place}
+use Rattle.protocol.specs.Rules.{toLink}
+use Rattle.protocol.specs.State.{Meaning}
+use Rattle.protocol.specs.pages.Crash.{introduced}
+use Rattle.record.specs.Layout.{seats, levels, pendingFrom}
+use Rattle.record.specs.Meaning.{linkOf, meaning, bytesOf}
+use Rattle.record.proofs.Links.{linkOf-some, linkOf-none}
+use Rattle.record.proofs.Sent.{bytes-withMessage}
+use Rattle.clearing.specs.inner.Steps.{Linked, saying, freed}
+use Rattle.clearing.proofs.Telling.{saying-nothing, saying-append, link-named}
+use Rattle.clearing.proofs.Unlinking.{unlinked-kept}
+
+-- MEET at level 0 exists
+meet-exists : (x y : ℕ) → x < seats → y < seats → T (exists seats width (meet x y 0))
+unfolding exists
+meet-exists x y h g = true-T {b = exists seats width (meet x y 0)} (rw (lt-ltb x seats h, lt-ltb y seats g))
+
+-- one to each end
+module _ (M : Meaning) (x y : ℕ) (h : x < seats) (g : y < seats) where
+  abbrev met : Meaning
+  met = saying M (meet x y 0 ∷ [])
+
+  two-meets : bytesOf (saying M (meet x y 0 ∷ (meet y x 0 ∷ [])))
+      ≡ setBit (setBit (bytesOf M) pendingFrom (place seats width (meet x y 0))) pendingFrom (place seats width (meet y x 0))
+  two-meets =
+      ap bytesOf (sym (saying-append M (meet x y 0 ∷ []) (meet y x 0 ∷ [])))
+      ∙ bytes-withMessage met (meet y x 0) (meet-exists y x g h)
+      ∙ ap (λ (l : List ℕ). setBit l pendingFrom (place seats width (meet y x 0))) (bytes-withMessage M (meet x y 0) (meet-exists x y h g))
+
+-- the link of x that the bytes have, and no link
+module _ (M : Meaning) (c : Linked M) (x k d y : ℕ) (h : x < seats) (g : k < levels) {l : List ℕ} (e : l ≡ bytesOf M)
+    (f : linkOf y ≡ meaning l .link x k (sideOfNumber d)) where
+  pub introduce-ends : y < seats
+      → setBit (setBit l pendingFrom (place seats width (meet x y 0))) pendingFrom (place seats width (meet y x 0))
+      ≡ bytesOf (saying M (introduced (M .link) x k (sideOfNumber d)))
+  unfolding introduced toLink
+  introduce-ends p = rw (link-named M c x k d y h g e f, linkOf-some y p, e) (sym (two-meets M x y h p))
+
+  pub introduce-none : seats ≤ y → l ≡ bytesOf (saying M (introduced (M .link) x k (sideOfNumber d)))
+  unfolding introduced toLink
+  introduce-none p = rw (link-named M c x k d y h g e f, linkOf-none y p) (e ∙ sym (ap bytesOf (saying-nothing M)))
+
+-- links name seats once those of a set are freed
+pub freed-linked : (set : ℕ) (M : Meaning) → Linked M → Linked (freed set M)
+freed-linked set M c x k y d e = c x k y d (unlinked-kept set x y (M .link x k d) e)

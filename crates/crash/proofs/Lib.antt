@@ -1,0 +1,3 @@
+-- Why the steps of a crash are right.
+pub mod Introducing
+pub mod Accepted

@@ -1,0 +1,2 @@
+-- What the inner steps of a crash leave.
+pub mod inner
