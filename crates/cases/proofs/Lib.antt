@@ -12,3 +12,5 @@ pub mod Scans
 pub mod Leavers
 pub mod Reservations
 pub mod Writings
+pub mod Crashes
+pub mod Components

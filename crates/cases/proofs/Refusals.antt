@@ -70,7 +70,7 @@ alone : (m : Msg) → among (m ∷ []) m ≡ true
 unfolding among
 alone m = rw (T-true {b = sameMsg m m} (same-self m))
 
-alone-exists : (m : Msg) → T (exists seats width m) → (n : Msg) → T (among (m ∷ []) n) → T (exists seats width n)
+pub alone-exists : (m : Msg) → T (exists seats width m) → (n : Msg) → T (among (m ∷ []) n) → T (exists seats width n)
 unfolding among
 alone-exists m x n t = ⊎-elim (λ s. subst (λ (k : Msg). T (exists seats width k)) (same-eq m n s) x) (λ f. absurd f) (or-cases (sameMsg m n) false t)
 

@@ -10,7 +10,7 @@ use Rattle.graph.specs.Side.{left, right}
 use Rattle.graph.specs.Vector.{width}
 use Rattle.protocol.specs.Message.{Msg, meet, name, among}
 use Rattle.protocol.specs.Numbering.{exists}
-use Rattle.protocol.specs.State.{open-phase, Seats}
+use Rattle.protocol.specs.State.{open-phase}
 use Rattle.protocol.specs.Calls.{Call, join, leave, deliver, crash, refusal}
 use Rattle.record.specs.Layout.{seats}
 use Rattle.record.specs.Reading.{readLot}
@@ -65,8 +65,9 @@ tCut = tCalls ++ crash 2 ∷ []
 
 -- on any bytes l that open accepts
 pub record Crashes (l : List ℕ) : Type 0 where
-  -- lot 200 is gone, and lot 100 has no link at level 0 and the one to 300 at level 1, whose ends are to meet
-  pub cut : Lot100 l qCut 255 (meet 0 2 0 ∷ meet 2 0 0 ∷ [])
+  -- lot 200 is gone, and lot 100 has no link at level 0 and the one to 300 at level 1, whose ends are to meet: each end sends
+  -- both
+  pub cut : Lot100 l qCut 255 (meet 0 2 0 ∷ meet 2 0 0 ∷ meet 2 0 0 ∷ meet 0 2 0 ∷ [])
   pub freed : readLot (bytesRun l qCut .now) 1 ≡ lot 8 0 0 0
   pub above : LinksOf (bytesRun l qCut .now) 0 1 255 2
   -- drained: linked at level 0, too
@@ -102,4 +103,4 @@ pub record Components : Type 0 where
   -- a scan waits there, and does not wait here
   pub waits : (findRefusal (smallBytes open-phase three halfLinked []) 0 ≡ 13) × (findRefusal (smallBytes open-phase three wholeLinked []) 0 ≡ 0)
   -- lot 200 has just joined at lot 100: the MEET that is pending is no link
-  pub joining : (l : List ℕ) → checkIn (smallBytes open-phase three [] (meet 0 1 0 ∷ [])) .yes ≡ true
+  pub joining : checkIn (smallBytes open-phase three [] (meet 0 1 0 ∷ [])) .yes ≡ true

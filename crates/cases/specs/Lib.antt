@@ -1,5 +1,5 @@
 -- Document 01's proved cases over the definitions of the crates below, and examples: the table of refusals, soundness on small records, scans that wait,
--- scans past leaving lots, reservations, a link written.
+-- scans past leaving lots, reservations, a link written, crashes and components.
 pub mod Lists
 pub mod Cases
 pub mod Small
@@ -9,3 +9,4 @@ pub mod Scans
 pub mod Leavers
 pub mod Reservations
 pub mod Writings
+pub mod Crashes

@@ -32,7 +32,7 @@ pub record Scans (l : List ℕ) : Type 0 where
   -- 3 and 8 before 13: seat 64, and the last seat, which is free; a scan from a lot on the last seat
   pub order : (scanned l iCalls 64 ≡ 3) × (scanned l iCalls 63 ≡ 8) × (scanned l (join 63 100 0 255 ∷ []) 63 ≡ 0)
 
--- 13 where the check says no, in phase open with nothing pending: no link at all; links at level 0 alone, where 100 and 300 share a bit
+-- 13 where the check says no, in phase open with nothing pending: links at level 0 alone, where 100 and 300 share a bit. (Without links each lot is a
+-- component of its own since #106: `Components` of Crashes.antt.)
 pub record ScansUnlinked : Type 0 where
-  pub no-links : findRefusal (smallBytes open-phase three [] []) 0 ≡ 13
   pub level-0-alone : findRefusal (smallBytes open-phase three level0 []) 0 ≡ 13

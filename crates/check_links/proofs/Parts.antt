@@ -1,5 +1,5 @@
 -- The parts of the check of the links (search's LinkCheck), by the bytes that the code reads. Assumes nothing.
-use Prim.Native.Nat.{ℕ, _-_, _%_, _≤_, _<_}
+use Prim.Native.Nat.{ℕ, _-_, _≤_, _<_}
 use mathlib.Core.Path.{_≡_, refl}
 use mathlib.Core.Logic.{⊎-elim}
 use mathlib.Core.Option.{none, some}
@@ -9,17 +9,17 @@ use native.Mathlib.Omega.{arith}
 use lib.Dec.{T, eqb, leb}
 use lib.ListN.{getD}
 use borrow.Author.Tests.{ne-eqb, lt-leb, le-leb}
-use Rattle.base.proofs.Cases.{lt-or-ge, eq-or-ne}
-use Rattle.base.specs.Loops.{oneIf}
-use Rattle.graph.specs.Side.{left, sideOfNumber}
+use Rattle.base.proofs.Cases.{lt-or-ge}
+use Rattle.graph.specs.Side.{sideOfNumber}
 use Rattle.base.proofs.Tests.{T-true}
-use Rattle.protocol.specs.State.{oneComponent, seated, member, members}
+use Rattle.protocol.specs.State.{seated, member}
 use Rattle.record.specs.Layout.{seats, levels, phaseAt, stateAt, linkAt}
 use Rattle.record.specs.Meaning.{linkOf, seatsIn, meaning}
 use Rattle.search.specs.Check.{sameLink}
-use Rattle.search.specs.inner.LinkCheck.{backOf, startsAt}
+use Rattle.search.specs.inner.LinkCheck.{backOf}
 use Rattle.record.proofs.SeatBytes.{clearing-byte, stays-byte}
 use Rattle.record.proofs.Links.{linkOf-some, linkOf-none, side-opp, link-read}
+use Rattle.check_links.specs.Check.{membersIn}
 
 -- a test of those that m picks, which r says: one that it does not pick, and one that it does
 pub when-out : {r m : Bool} (b : Bool) → r ≡ m → not r ≡ true → true ≡ not m || b
@@ -54,19 +54,13 @@ module _ (l : List ℕ) where
   -- a link with its link back
   module _ (x k d y : ℕ) (h : x < seats) (g : k < levels) (a : d < 2) (e : y ≡ getD l (linkAt x k (sideOfNumber d)) 0) where
     pub back-none : seats ≤ y
-        → true ≡ backOf (members oneComponent (seatsIn l)) (meaning l .link) x k (sideOfNumber d) (meaning l .link x k (sideOfNumber d))
+        → true ≡ backOf (membersIn l) (meaning l .link) x k (sideOfNumber d) (meaning l .link x k (sideOfNumber d))
     unfolding backOf
     back-none q = rw (link-read l x k (sideOfNumber d) y h g e, linkOf-none y q)
 
-    pub back-some : y < seats → backOf (members oneComponent (seatsIn l)) (meaning l .link) x k (sideOfNumber d) (meaning l .link x k (sideOfNumber d))
+    pub back-some : y < seats → backOf (membersIn l) (meaning l .link) x k (sideOfNumber d) (meaning l .link x k (sideOfNumber d))
         ≡ member (seatsIn l) y && eqb (getD l (linkAt y k (sideOfNumber (1 - d))) 0) x
     unfolding backOf
     back-some q =
         let other = link-read l y k (sideOfNumber (1 - d)) (getD l (linkAt y k (sideOfNumber (1 - d))) 0) q g refl in
         rw (link-read l x k (sideOfNumber d) y h g e, linkOf-some y q, ← side-opp d a, other, same-seat _ x h)
-
-  -- a start
-  pub starts-byte : (x : ℕ) → x < seats
-      → startsAt (members oneComponent (seatsIn l)) (meaning l .link) x ≡ member (seatsIn l) x && leb seats (getD l (linkAt x 0 left) 0)
-  unfolding startsAt
-  starts-byte x h = rw (link-read l x 0 left _ h (omega arith) refl, same-none (getD l (linkAt x 0 left) 0))

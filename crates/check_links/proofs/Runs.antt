@@ -12,12 +12,12 @@ use native.Mathlib.Numerals.{add-one}
 use Rattle.base.specs.Loops.{oneIf}
 use Rattle.graph.specs.Side.{right}
 use Rattle.graph.specs.Vector.{width, sameBit, bit}
-use Rattle.protocol.specs.State.{oneComponent, members}
 use Rattle.record.specs.Layout.{seats, levels, linkAt}
 use Rattle.record.specs.Meaning.{linkOf, seatsIn, meaning}
 use Rattle.record.proofs.Links.{linkOf-some, linkOf-none, link-read}
 use Rattle.search.specs.Check.{sameLink}
 use Rattle.search.specs.inner.LinkCheck.{ahead, aheadOf, aboveOk}
+use Rattle.check_links.specs.Check.{membersIn}
 use Rattle.check_links.proofs.Parts.{same-seat, same-none}
 
 -- two bits, as numbers
@@ -36,7 +36,7 @@ bits-differ false false e = absurd (e refl)
 module _ (l : List ℕ) (k : ℕ) (b : Bool) where
   -- what the run of n lots from o on finds
   abbrev pub runOf : (n : ℕ) → Option ℕ → Option ℕ
-  runOf n o = ahead width (members oneComponent (seatsIn l)) (meaning l .link) n k b o
+  runOf n o = ahead width (membersIn l) (meaning l .link) n k b o
 
   -- it stands at none, at a lot with the bit, at another, or at its end
   pub run-none : (n y : ℕ) → seats ≤ y → linkOf y ≡ runOf n (linkOf y)
@@ -60,13 +60,13 @@ module _ (l : List ℕ) (k : ℕ) (b : Bool) where
 
 -- the right link of x one level above k: y is its byte, z what the run has found
 module _ (l : List ℕ) (x k y z : ℕ) (h : x < seats) (g : k < width) (e : y ≡ getD l (linkAt x (k + 1) right) 0)
-    (f : linkOf z ≡ aheadOf seats width (members oneComponent (seatsIn l)) (meaning l .link) x k) where
-  above-byte : aboveOk seats width (members oneComponent (seatsIn l)) (meaning l .link) x k ≡ sameLink (linkOf y) (linkOf z)
+    (f : linkOf z ≡ aheadOf seats width (membersIn l) (meaning l .link) x k) where
+  above-byte : aboveOk seats width (membersIn l) (meaning l .link) x k ≡ sameLink (linkOf y) (linkOf z)
   unfolding aboveOk
   above-byte = rw (← add-one k, link-read l x (k + 1) right y h (omega arith) e, f)
 
-  pub above-none : seats ≤ z → leb seats y ≡ aboveOk seats width (members oneComponent (seatsIn l)) (meaning l .link) x k
+  pub above-none : seats ≤ z → leb seats y ≡ aboveOk seats width (membersIn l) (meaning l .link) x k
   above-none q = rw (above-byte, linkOf-none z q, same-none y)
 
-  pub above-some : z < seats → eqb y z ≡ aboveOk seats width (members oneComponent (seatsIn l)) (meaning l .link) x k
+  pub above-some : z < seats → eqb y z ≡ aboveOk seats width (membersIn l) (meaning l .link) x k
   above-some q = rw (above-byte, linkOf-some z q, same-seat y z q)

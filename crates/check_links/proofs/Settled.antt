@@ -11,20 +11,20 @@ use Rattle.base.proofs.Cases.{and-left, and-right}
 use Rattle.base.proofs.Tests.{true-T, true-false}
 use Rattle.graph.specs.Vector.{width}
 use Rattle.protocol.specs.Numbering.{somePending}
-use Rattle.protocol.specs.State.{open-phase, isClearing, oneComponent, members}
+use Rattle.protocol.specs.State.{open-phase, isClearing}
 use Rattle.protocol.proofs.SoundFacts.{phase-open}
 use Rattle.record.specs.Layout.{seats}
 use Rattle.record.specs.Meaning.{seatsIn, meaning}
 use Rattle.record.specs.Reading.{recordRefusal}
 use Rattle.record.proofs.Refused.{Passed, record-passed}
 use Rattle.search.specs.Check.{check}
-use Rattle.check_links.specs.Check.{CheckAnswer, checkIn}
+use Rattle.check_links.specs.Check.{membersIn, CheckAnswer, checkIn}
 use Rattle.check_links.specs.Settled.{settled}
 
 module _ (l : List ℕ) where
   -- the check of the links of the members
   abbrev linksRight : Bool
-  linksRight = check seats width (members oneComponent (seatsIn l)) (meaning l .link)
+  linksRight = check seats width (membersIn l) (meaning l .link)
 
   -- a record of which the check says yes is not refused
   yes-passed : checkIn l .yes ≡ true → Passed l × (linksRight ≡ true)

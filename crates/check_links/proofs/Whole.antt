@@ -1,6 +1,6 @@
 -- The whole check: that on sound bytes the test of the links is the check of specs/, and each answer. Assumes nothing.
 use Prim.Native.Nat.{ℕ, suc, _+_, _<_}
-use mathlib.Core.Path.{_≡_, refl, sym, ap, _∙_}
+use mathlib.Core.Path.{_≡_, sym, ap, _∙_}
 use mathlib.Core.Logic.{_≢_, ⊎-elim}
 use mathlib.Core.Option.{some}
 use mathlib.Core.Bool.{Bool, true, false}
@@ -18,7 +18,7 @@ use Rattle.base.specs.Loops.{oneIf}
 use Rattle.base.proofs.Cases.{lt-or-ge}
 use Rattle.base.proofs.Tests.{T-true}
 use Rattle.graph.specs.Graph.{Laws}
-use Rattle.protocol.specs.State.{oneComponent, seated, members}
+use Rattle.protocol.specs.State.{seated}
 use Rattle.protocol.specs.Sound.{Sound}
 use Rattle.protocol.proofs.SoundFacts.{link-linked}
 use Rattle.protocol.proofs.Reached.{members-laws}
@@ -29,23 +29,22 @@ use Rattle.record.specs.Reading.{recordRefusal}
 use Rattle.record.proofs.Links.{linkOf-some, link-read}
 use Rattle.record.proofs.Sound.{sound-is}
 use Rattle.search.specs.Check.{check}
-use Rattle.search.specs.inner.LinkCheck.{aboveOk, linksOk}
+use Rattle.search.specs.inner.LinkCheck.{aboveOk, constraintsOk}
 use Rattle.search.proofs.Check.{eq-link}
-use Rattle.search.proofs.LinkCheck.{Sided}
-use Rattle.search.proofs.OneStart.{links-check}
+use Rattle.search.proofs.LinkCheck.{Sided, constraints-check}
 use Rattle.record.proofs.Reading.{record-accepted}
 use Rattle.check_links.proofs.Runs.{runOf, run-none, run-found}
-use Rattle.check_links.specs.Check.{checkIn}
+use Rattle.check_links.specs.Check.{componentsIn, membersIn, checkIn}
 
 module _ (l : List ℕ) (e : length l ≡ size) (b : AreBytes l) (s : sound l ≡ true) where
   pub bytes-sound : Sound seats width (meaning l)
   bytes-sound = sound-is l e b .0 s .1
 
-  pub lots-laws : Laws seats (members oneComponent (seatsIn l))
+  pub lots-laws : Laws seats (membersIn l)
   unfolding meaning
-  lots-laws = members-laws oneComponent bytes-sound
+  lots-laws = members-laws (componentsIn l) bytes-sound
 
-  links-sided : Sided width (members oneComponent (seatsIn l)) (meaning l .link)
+  links-sided : Sided width (membersIn l) (meaning l .link)
   unfolding meaning
   links-sided = record {
     order = λ x k y d m h f. link-linked bytes-sound {x = x} {k = k} {d = d} f .1;
@@ -76,17 +75,17 @@ module _ (l : List ℕ) (e : length l ≡ size) (b : AreBytes l) (s : sound l �
         (λ q. run-none l k (bit width k (seatsIn l .vector x)) seats y q)
         (lt-or-ge y seats)
 
-    pub above-near : true ≡ aboveOk seats width (members oneComponent (seatsIn l)) (meaning l .link) x k
+    pub above-near : true ≡ aboveOk seats width (membersIn l) (meaning l .link) x k
     unfolding aboveOk
     above-near = rw (up-link, link-read l x k right w h (omega arith) low, near) (sym (T-true (eq-link run-ends)))
 
   -- so the test of the links is the check of specs/
-  links-right : linksOk seats width (members oneComponent (seatsIn l)) (meaning l .link)
-      ≡ check seats width (members oneComponent (seatsIn l)) (meaning l .link)
-  links-right = links-check lots-laws links-sided (λ x y m n. refl)
+  links-right : constraintsOk seats width (membersIn l) (meaning l .link) ≡ check seats width (membersIn l) (meaning l .link)
+  unfolding componentsIn
+  links-right = constraints-check lots-laws links-sided
 
   -- and what the check says
-  pub links-say : linksOk seats width (members oneComponent (seatsIn l)) (meaning l .link) ≡ checkIn l .yes
+  pub links-say : constraintsOk seats width (membersIn l) (meaning l .link) ≡ checkIn l .yes
   unfolding checkIn
   links-say = rw (record-accepted l e s) links-right
 

@@ -1,7 +1,8 @@
-// The check of the links over a lent record (document 01, "Check"), without a table. At every level each link of a member names a member that links
-// back. Above level 0 its right link is the first lot to the right on the level below that has its next bit; the left links then follow from the
-// links back. And at most one member is without a left link at level 0. A run to the right stops at the first lot with the bit, so that it passes
-// only lots with the other bit; where links have their links back each lot is passed by one run at most for each level, and the whole is linear.
+// The check of the links over a lent record (document 01, "Check"; document 02, #106), without a table, for any number of components. At every level
+// each link of a member names a member that links back. Above level 0 its right link is the first lot to the right on the level below that has its
+// next bit; the left links then follow from the links back. That is Constraints 1 to 6 of document 000, so each component is a skip graph: which lot
+// is in which need not be known. A run to the right stops at the first lot with the bit, so that it passes only lots with the other bit; where links
+// have their links back each lot is passed by one run at most for each level, and the whole is linear.
 ghost use mathlib.Core.Path.{_≡_};
 ghost use mathlib.Core.Bool.{true};
 ghost use Prim.Native.Nat.{_<_};
@@ -9,13 +10,13 @@ ghost use lib.Dec.{T};
 ghost use lib.ListN.{length};
 ghost use Rattle.graph.specs.Side.{sideOfNumber};
 ghost use Rattle.graph.specs.Vector.{width, bit};
-ghost use Rattle.protocol.specs.State.{oneComponent, seated, member, members};
+ghost use Rattle.protocol.specs.State.{seated, member};
 ghost use Rattle.record.specs.Layout.{seats, levels, size};
 ghost use Rattle.record.specs.Meaning.{linkOf, seatsIn, meaning};
 ghost use Rattle.record.specs.Sound.{sound};
-ghost use Rattle.base.specs.Loops.{oneIf, all, count};
-ghost use Rattle.search.specs.inner.LinkCheck.{backOf, backsOk, startsAt, aheadOf, aboveOk, lotBacks, lotAboves, constraintsOk};
-ghost use Rattle.check_links.specs.Check.{checkIn};
+ghost use Rattle.base.specs.Loops.{oneIf, all};
+ghost use Rattle.search.specs.inner.LinkCheck.{backOf, backsOk, aheadOf, aboveOk, lotBacks, lotAboves};
+ghost use Rattle.check_links.specs.Check.{membersIn, checkIn};
 ghost use Rattle.check_links.specs.Answer.{verdictNumbers, VerdictNumbered};
 use graph::LEFT;
 use graph::RIGHT;
@@ -43,7 +44,7 @@ fn seated_is_member(rec: &[u8], s: usize) -> bool
 fn back_fits(rec: &[u8], x: usize, k: usize, d: usize) -> bool
     requires { ⌜ (length (now rec) ≡ size) × (sound (now rec) ≡ true) × (x < seats) × (k < levels) × (d < 2) ⌝ }
     ensures { λ r. ⌜ (let l = now (rec .entry) in
-        r ≡ backOf (members oneComponent (seatsIn l)) (meaning l .link) x k (sideOfNumber d) (meaning l .link x k (sideOfNumber d))) ⌝ }
+        r ≡ backOf (membersIn l) (meaning l .link) x k (sideOfNumber d) (meaning l .link x k (sideOfNumber d))) ⌝ }
 {
     let y = record::link(rec, x, k, d) as usize;
     if y >= SEATS {
@@ -55,7 +56,7 @@ fn back_fits(rec: &[u8], x: usize, k: usize, d: usize) -> bool
 // Both links of x at level k.
 fn backs_fit(rec: &[u8], x: usize, k: usize) -> bool
     requires { ⌜ (length (now rec) ≡ size) × (sound (now rec) ≡ true) × (x < seats) × (k < levels) ⌝ }
-    ensures { λ r. ⌜ (let l = now (rec .entry) in r ≡ backsOk (members oneComponent (seatsIn l)) (meaning l .link) x k) ⌝ }
+    ensures { λ r. ⌜ (let l = now (rec .entry) in r ≡ backsOk (membersIn l) (meaning l .link) x k) ⌝ }
 {
     back_fits(rec, x, k, LEFT) && back_fits(rec, x, k, RIGHT)
 }
@@ -63,7 +64,7 @@ fn backs_fit(rec: &[u8], x: usize, k: usize) -> bool
 // All links of x, if it is a member.
 fn lot_backs_fit(rec: &[u8], x: usize) -> bool
     requires { ⌜ (length (now rec) ≡ size) × (sound (now rec) ≡ true) × (x < seats) ⌝ }
-    ensures { λ r. ⌜ (let l = now (rec .entry) in r ≡ lotBacks width (members oneComponent (seatsIn l)) (meaning l .link) x) ⌝ }
+    ensures { λ r. ⌜ (let l = now (rec .entry) in r ≡ lotBacks width (membersIn l) (meaning l .link) x) ⌝ }
 {
     if !is_member(rec, x) {
         return true;
@@ -78,7 +79,7 @@ fn lot_backs_fit(rec: &[u8], x: usize) -> bool
 
 fn all_backs_fit(rec: &[u8]) -> bool
     requires { ⌜ (length (now rec) ≡ size) × (sound (now rec) ≡ true) ⌝ }
-    ensures { λ r. ⌜ (let l = now (rec .entry) in r ≡ all seats (lotBacks width (members oneComponent (seatsIn l)) (meaning l .link))) ⌝ }
+    ensures { λ r. ⌜ (let l = now (rec .entry) in r ≡ all seats (lotBacks width (membersIn l) (meaning l .link))) ⌝ }
 {
     for x in 0..SEATS {
         if !lot_backs_fit(rec, x) {
@@ -99,7 +100,7 @@ fn bit_of(rec: &[u8], s: usize, k: usize) -> usize
 // The first lot to the right of x at level k that has bit k as x; SEATS or more if there is none.
 fn ahead(rec: &[u8], x: usize, k: usize) -> usize
     requires { ⌜ (length (now rec) ≡ size) × (x < seats) × (k < width) ⌝ }
-    ensures { λ r. ⌜ (let l = now (rec .entry) in linkOf r ≡ aheadOf seats width (members oneComponent (seatsIn l)) (meaning l .link) x k) ⌝ }
+    ensures { λ r. ⌜ (let l = now (rec .entry) in linkOf r ≡ aheadOf seats width (membersIn l) (meaning l .link) x k) ⌝ }
 {
     let b = bit_of(rec, x, k);
     let mut y = record::link(rec, x, k, RIGHT) as usize;
@@ -118,7 +119,7 @@ fn ahead(rec: &[u8], x: usize, k: usize) -> usize
 // Whether the right link of x one level above k is that lot. Where it is the next lot at level k it has the bit, since the record is sound.
 fn above_fits(rec: &[u8], x: usize, k: usize) -> bool
     requires { ⌜ (length (now rec) ≡ size) × (sound (now rec) ≡ true) × (x < seats) × (k < width) ⌝ }
-    ensures { λ r. ⌜ (let l = now (rec .entry) in r ≡ aboveOk seats width (members oneComponent (seatsIn l)) (meaning l .link) x k) ⌝ }
+    ensures { λ r. ⌜ (let l = now (rec .entry) in r ≡ aboveOk seats width (membersIn l) (meaning l .link) x k) ⌝ }
 {
     let y = record::link(rec, x, k + 1, RIGHT) as usize;
     if record::link(rec, x, k, RIGHT) as usize == y {
@@ -134,7 +135,7 @@ fn above_fits(rec: &[u8], x: usize, k: usize) -> bool
 // The right links of x above level 0, if it is a member.
 fn lot_aboves_fit(rec: &[u8], x: usize) -> bool
     requires { ⌜ (length (now rec) ≡ size) × (sound (now rec) ≡ true) × (x < seats) ⌝ }
-    ensures { λ r. ⌜ (let l = now (rec .entry) in r ≡ lotAboves seats width (members oneComponent (seatsIn l)) (meaning l .link) x) ⌝ }
+    ensures { λ r. ⌜ (let l = now (rec .entry) in r ≡ lotAboves seats width (membersIn l) (meaning l .link) x) ⌝ }
 {
     if !is_member(rec, x) {
         return true;
@@ -149,7 +150,7 @@ fn lot_aboves_fit(rec: &[u8], x: usize) -> bool
 
 fn all_aboves_fit(rec: &[u8]) -> bool
     requires { ⌜ (length (now rec) ≡ size) × (sound (now rec) ≡ true) ⌝ }
-    ensures { λ r. ⌜ (let l = now (rec .entry) in r ≡ all seats (lotAboves seats width (members oneComponent (seatsIn l)) (meaning l .link))) ⌝ }
+    ensures { λ r. ⌜ (let l = now (rec .entry) in r ≡ all seats (lotAboves seats width (membersIn l) (meaning l .link))) ⌝ }
 {
     for x in 0..SEATS {
         if !lot_aboves_fit(rec, x) {
@@ -159,46 +160,17 @@ fn all_aboves_fit(rec: &[u8]) -> bool
     true
 }
 
-// Constraints 1 to 6: the links back first, so that the runs of all lots together are linear.
-fn constraints_fit(rec: &[u8]) -> bool
-    requires { ⌜ (length (now rec) ≡ size) × (sound (now rec) ≡ true) ⌝ }
-    ensures { λ r. ⌜ (let l = now (rec .entry) in r ≡ constraintsOk seats width (members oneComponent (seatsIn l)) (meaning l .link)) ⌝ }
-{
-    all_backs_fit(rec) && all_aboves_fit(rec)
-}
-
-// Whether x is a member without a left link at level 0.
-fn starts_at(rec: &[u8], x: usize) -> bool
-    requires { ⌜ (length (now rec) ≡ size) × (x < seats) ⌝ }
-    ensures { λ r. ⌜ (let l = now (rec .entry) in r ≡ startsAt (members oneComponent (seatsIn l)) (meaning l .link) x) ⌝ }
-{
-    is_member(rec, x) && record::link(rec, x, 0, LEFT) as usize >= SEATS
-}
-
-// How many do.
-fn starts(rec: &[u8]) -> usize
-    requires { ⌜ length (now rec) ≡ size ⌝ }
-    ensures { λ r. ⌜ (let l = now (rec .entry) in r ≡ count seats (startsAt (members oneComponent (seatsIn l)) (meaning l .link))) ⌝ }
-{
-    let mut n: usize = 0;
-    for x in 0..SEATS {
-        if starts_at(rec, x) {
-            n += 1;
-        }
-    }
-    n
-}
-
-// The whole test of the links of a record that is known to be sound: whether the check says yes.
+// The whole test of the links of a record that is known to be sound: whether the check says yes. The links back come first, so that the runs of all
+// lots together are linear.
 pub fn links_fit(rec: &[u8]) -> bool
     requires { ⌜ (length (now rec) ≡ size) × (sound (now rec) ≡ true) ⌝ }
     ensures { λ r. ⌜ r ≡ checkIn (now (rec .entry)) .yes ⌝ }
 {
-    starts(rec) <= 1 && constraints_fit(rec)
+    all_backs_fit(rec) && all_aboves_fit(rec)
 }
 
-// Whether the links of the members are those of their skip graph: yes exactly if Constraints 1 to 6 hold for all members and they lie in one
-// level-0 list. Refused: 1 wrong size, 2 unsound. A record that open has just written gives Yes.
+// Whether every component of the members is the skip graph of its own lots: yes exactly if Constraints 1 to 6 hold for all members. Refused: 1 wrong
+// size, 2 unsound. A record that open has just written gives Yes.
 pub fn check(rec: &[u8]) -> Verdict
     ensures { λ r. ⌜ (verdictNumbers r ≡ checkIn (now (rec .entry))) × VerdictNumbered r ⌝ }
 {

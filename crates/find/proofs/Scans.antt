@@ -1,6 +1,6 @@
 -- Scans of every record, made by calls or not: on a settled one a search from any lot is accepted, on a sound one that is not settled it is
--- refused with 13, and every accepted search names the right holder, by left steps that meet each lot once. Assumes only that the elements of
--- the list are bytes.
+-- refused with 13, and every accepted search names the right holder among the staying lots of the start's component, by left steps that meet
+-- each lot once. Assumes only that the elements of the list are bytes.
 use Prim.Native.Nat.{ℕ, zero, suc, _≤_, _<_}
 use mathlib.Core.Path.{_≡_, refl, sym, ap, _∙_}
 use mathlib.Core.Logic.{_≢_, _↔_, inr}
@@ -10,13 +10,13 @@ use mathlib.Core.List.{List}
 use native.Mathlib.Omega.{arith}
 use lib.Dec.{T, eqb}
 use borrow.Author.Tests.{ne-eqb}
-use Rattle.base.proofs.Tests.{T-true}
+use Rattle.base.proofs.Tests.{T-true, and-fst}
 use Rattle.memory.specs.Bytes.{AreBytes}
 use Rattle.graph.specs.Side.{Side}
 use Rattle.graph.specs.Vector.{width}
 use Rattle.graph.specs.Graph.{graph}
 use Rattle.protocol.specs.Refusals.{unsettled}
-use Rattle.protocol.specs.State.{open-phase, Seats, seated, stays, member, oneComponent, members}
+use Rattle.protocol.specs.State.{open-phase, Seats, seated, stays, member}
 use Rattle.protocol.proofs.SoundFacts.{stays-seated, seated-below}
 use Rattle.record.specs.Layout.{seats}
 use Rattle.record.specs.Meaning.{seatsIn, meaning}
@@ -31,11 +31,12 @@ use Rattle.search.proofs.Hops.{search-seated}
 use Rattle.search.proofs.Left.{left-once, left-ends, left-below, left-few, find-by}
 use Rattle.search.proofs.Holder.{none-exactly, some-exactly, search-end, end-under}
 use Rattle.search.proofs.Check.{checked-holder}
+use Rattle.check_links.specs.Check.{componentsIn, membersIn}
 use Rattle.check_links.specs.Settled.{settled}
 use Rattle.check_links.proofs.Facts.{link-wrong-no}
 use Rattle.check_links.proofs.Settled.{Settled, settled-is, unsettled-exactly}
 use Rattle.check_links.proofs.Whole.{lots-laws}
-use Rattle.find.specs.Find.{FindAnswer, searched, scanOf, findRefusal, findIn}
+use Rattle.find.specs.Find.{FindAnswer, soughtFrom, searched, scanOf, findRefusal, findIn}
 use Rattle.find.specs.Way.{moves, end, LeftSteps}
 use Rattle.find.proofs.Fits.{sound-fit}
 use Rattle.find.proofs.Refused.{Accepted, accepted, waits, answers}
@@ -62,7 +63,7 @@ module _ (l : List ℕ) (b : AreBytes l) where
 
   -- so it is where one link of a member, at whatever level, is not the graph's
   pub wrong-refused : Passed l → (y k : ℕ) (d : Side) → T (member (seatsIn l) y) → k ≤ width
-      → meaning l .link y k d ≢ graph seats width (members oneComponent (seatsIn l)) y k d
+      → meaning l .link y k d ≢ graph seats width (membersIn l) y k d
       → (s x : ℕ) → T (seated (seatsIn l) s) → findIn l s x ≡ record { refused = unsettled; holder = none; hops = 0 }
   wrong-refused p y k d m h wrong s x t =
       unsettled-refused p (unsettled-exactly l .1 (inr (inr (link-wrong-no l (p .sized) b (p .fine) y k d m h wrong)))) s x t
@@ -91,8 +92,8 @@ module _ (l : List ℕ) (b : AreBytes l) (s x : ℕ) (e : findIn l s x .refused 
   o : Ordered seats width (seated (seatsIn l)) (seatsIn l .number) (meaning l .link)
   o = sound-fit l (A .passed .sized) b (A .passed .fine) .ordered
 
-  -- the holder is the staying lot with the largest number that is not above the scanned one
-  pub accepted-holder : RightHolder (stays (seatsIn l)) (seatsIn l .number) x (findIn l s x .holder)
+  -- the holder is of the staying lots of the start's component the one with the largest number that is not above the scanned one
+  pub accepted-holder : RightHolder (soughtFrom l s) (seatsIn l .number) x (findIn l s x .holder)
   accepted-holder = rw (ap (λ (f : FindAnswer). f .holder) (find-says l s x no-row)) held
     where
       S : Settled l
@@ -101,18 +102,20 @@ module _ (l : List ℕ) (b : AreBytes l) (s x : ℕ) (e : findIn l s x .refused 
       all : member (seatsIn l) ≡ seated (seatsIn l)
       all = seated-members (seatsIn l) (S .opens)
 
-      held : RightHolder (stays (seatsIn l)) (seatsIn l .number) x (scanOf l s x .holder)
-      held = checked-holder (lots-laws l (S .passed .sized) b (S .passed .fine)) (λ y z u v. refl) width (meaning l .link) (S .right)
+      held : RightHolder (soughtFrom l s) (seatsIn l .number) x (scanOf l s x .holder)
+      held = checked-holder (lots-laws l (S .passed .sized) b (S .passed .fine)) width (meaning l .link) (S .right)
           (stays (seatsIn l)) (λ z t. rw all (stays-seated (seatsIn l) z t)) x s (rw all (A .lot))
 
-  -- none exactly if no staying lot has a number that is not above it
-  pub accepted-none : (findIn l s x .holder ≡ none) ↔ ((z : ℕ) → T (stays (seatsIn l) z) → seatsIn l .number z ≤ x → ⊥)
+  -- none exactly if none of them has a number that is not above it
+  pub accepted-none : (findIn l s x .holder ≡ none) ↔ ((z : ℕ) → T (soughtFrom l s z) → seatsIn l .number z ≤ x → ⊥)
   accepted-none = none-exactly accepted-holder
 
   -- a seat exactly if it is the holder's
-  pub accepted-some : (h : ℕ) → (findIn l s x .holder ≡ some h) ↔ Holds (stays (seatsIn l)) (seatsIn l .number) x h
-  accepted-some = some-exactly
-      (λ y z t u. o .differ y z (stays-seated (seatsIn l) y t) (stays-seated (seatsIn l) z u)) accepted-holder
+  pub accepted-some : (h : ℕ) → (findIn l s x .holder ≡ some h) ↔ Holds (soughtFrom l s) (seatsIn l .number) x h
+  accepted-some = some-exactly (λ y z t u. o .differ y z (sought-seated y t) (sought-seated z u)) accepted-holder
+    where
+      sought-seated : (z : ℕ) → T (soughtFrom l s z) → T (seated (seatsIn l) z)
+      sought-seated z t = stays-seated (seatsIn l) z (and-fst (stays (seatsIn l) z) (eqb (componentsIn l s) (componentsIn l z)) t)
 
   -- the left steps visit each lot once and end, and there are at most the seated lots less one
   pub accepted-steps : LeftSteps l s x

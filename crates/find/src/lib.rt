@@ -1,5 +1,6 @@
-// The search for the lot of a scanned number over a lent record that is settled (document 01, "Find"; document 02, #102 and #104): from the top level
-// toward the number, a level down where the link is none or lies beyond it, and at the end to the left, to a staying lot that is not above it.
+// The search for the lot of a scanned number over a lent record that is settled (document 01, "Find"; document 02, #102, #104 and #106): from the top
+// level toward the number, a level down where the link is none or lies beyond it, and at the end to the left, to a staying lot that is not above it.
+// Links stay within a component, so it finds lots of its start's component alone.
 ghost use mathlib.Core.Path.{_≡_};
 ghost use mathlib.Core.Bool.{true};
 ghost use Prim.Native.Nat.{_<_};
@@ -207,7 +208,8 @@ fn find_refusal(rec: &[u8], seat: u8) -> u8
     0
 }
 
-// The staying lot that a scanned number belongs to, searched from the lot on a seat; leaving lots are passed, each step onto a lot one hop.
+// The staying lot that a scanned number belongs to among those of the component of the lot on a seat, where the search starts; leaving lots are
+// passed, each step onto a lot one hop.
 // Refused: 1, 2, 3, 8, 13.
 pub fn find(rec: &[u8], seat: u8, number: u64) -> Found
     ensures { λ r. ⌜ (foundNumbers r ≡ findIn (now (rec .entry)) seat number) × FoundNumbered r ⌝ }

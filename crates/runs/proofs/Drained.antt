@@ -52,11 +52,10 @@ use Rattle.runs.proofs.Right.{seats-bytes}
 module _ {comp : ℕ → ℕ} {N W : ℕ} where
   reached-delivery : {M : Meaning} → Reached comp N W M → (n : Name)
       → Reached comp N W (call N W M (deliver n) .after) × (call N W M (deliver n) .after .seats ≡ M .seats)
-  unfolding call unlessRefused componentsAfter
+  unfolding call unlessRefused componentsAfter accept seatsAfter
   reached-delivery {M} g n = by (refusal N W (M .seats) (M .pending) (deliver n)) refl
     where
       same : accept N W M (deliver n) .seats ≡ M .seats
-      unfolding accept seatsAfter
       same = refl
 
       by : (a : ℕ) → refusal N W (M .seats) (M .pending) (deliver n) ≡ a
@@ -99,17 +98,16 @@ module _ {comp : ℕ → ℕ} {N W : ℕ} {M : Meaning} (g : Reached comp N W M)
       components-agree N W (members c (X .seats)) (X .link) (laws .seat) (graph-labels laws (reached-graph r q)) x y m n
 
   crash-components : SameAs comp′ K
-  unfolding componentsAfter
+  unfolding componentsAfter accept seatsAfter linksAfter
   crash-components = by (eqb set 0) refl
     where
       by : (b : Bool) → eqb set 0 ≡ b → SameAs (cond b comp (cut N W set (M .seats) comp)) K
       by true z =
           subst (λ (n : ℕ). SameAs comp (accept N W M (crash n))) (sym (eqb-true set 0 z))
           (subst (SameAs comp) (sym (crash-nobody N W M)) (quiet-components g quiet))
-      by false z x y m n = (λ q. sym (same x) ∙ q ∙ same y, λ q. same x ∙ q ∙ sym (same y))
+      by false z = λ x y m n. (λ q. sym (same x) ∙ q ∙ same y, λ q. same x ∙ q ∙ sym (same y))
         where
           same : (x : ℕ) → cut N W set (M .seats) comp x ≡ left x
-          unfolding accept seatsAfter linksAfter
           same = cut-left g quiet (crash-rows N W (M .seats) (M .pending) set e .opens) set
 
   module _ (ns : List Name) where
@@ -172,8 +170,11 @@ module _ {K J : Meaning} (h : Sound seats width K) (i : Sound seats width J) (lo
       → (componentOf width (member (X .seats)) (X .link) seats x ≡ componentOf width (member (X .seats)) (X .link) seats y)
       ↔ Joined width (membersIn (bytesOf X)) (meaning (bytesOf X) .link) x y
   joined-bytes X s x y m n =
-      let j = components-joined (bytesOf X) (length-bytesOf X) (bytes-bytes X) (bytes-sound s) x y (rw (seats-bytes X s) m) (rw (seats-bytes X s) n) in
-      rw (components-bytes X s) at j
+      let (to, from) = components-joined (bytesOf X) (length-bytesOf X) (bytes-bytes X) (bytes-sound s) x y (rw (seats-bytes X s) m) (rw (seats-bytes X s) n) in
+      (λ q. to (same x ∙ q ∙ sym (same y)), λ j. sym (same x) ∙ from j ∙ same y)
+    where
+      same : (z : ℕ) → componentsIn (bytesOf X) z ≡ componentOf width (member (X .seats)) (X .link) seats z
+      same z = ap (λ (c : ℕ → ℕ). c z) (components-bytes X s)
 
   drained-bytes : Drained (bytesOf K) (bytesOf J)
   drained-bytes = record {

@@ -2,7 +2,7 @@
 -- phase open the record is settled, and a search from any lot is not refused and names the right staying holder. While messages are pending or the
 -- phase is clearing it is refused with 13. Assumes only that its bytes are bytes.
 use Prim.Native.Nat.{ℕ, _≤_}
-use mathlib.Core.Path.{_≡_, sym, ap, _∙_, subst}
+use mathlib.Core.Path.{_≡_, refl, sym, ap, _∙_, subst}
 use mathlib.Core.Logic.{_↔_, _≢_, inl, inr, ⊎-elim}
 use mathlib.Core.Option.{Option}
 use mathlib.Core.Bool.{Bool, true, false}
@@ -37,7 +37,7 @@ use Rattle.find.specs.Find.{FindAnswer, soughtFrom, findIn}
 use Rattle.find.proofs.Scans.{settled-accepted, unsettled-refused, find-refused, accepted-holder}
 use Rattle.check_links.specs.Check.{componentsIn, CheckAnswer, checkIn}
 use Rattle.check_links.specs.Settled.{settled}
-use Rattle.check_links.proofs.Facts.{check-says, yes-says, yes-labels}
+use Rattle.check_links.proofs.Facts.{check-says, yes-labels}
 use Rattle.check_links.proofs.Settled.{unsettled-exactly, is-settled}
 use Rattle.runs.specs.Run.{meant, roster, soughtIn, Demand3}
 use Rattle.runs.proofs.SameLots.{passed, same-phase, fine, same-seat, same-seated, agree}
@@ -106,7 +106,8 @@ module _ {bound : List ℕ → ℕ} {s : Standing (List ℕ)} (D : Demand3 bound
     pub check-yes : checkIn l ≡ record { refused = 0; yes = true }
     check-yes = check-says l (passed D .sized) b (passed D .fine)
         ∙ ap (λ (y : Bool). record { refused = 0; yes = y })
-        (sym (yes-says l (passed D .sized) b (passed D .fine)) ∙ yes-labels l (passed D .sized) b (passed D .fine) C links-graph)
+        (sym (ap (λ (a : CheckAnswer). a .yes) (check-says l (passed D .sized) b (passed D .fine)))
+        ∙ yes-labels l (passed D .sized) b (passed D .fine) C links-graph)
 
     -- two members are in one component of the roster exactly if they are in one by the links
     pub same-components : (x y : ℕ) → T (member (seatsIn l) x) → T (member (seatsIn l) y) → (C x ≡ C y) ↔ (componentsIn l x ≡ componentsIn l y)

@@ -4,13 +4,13 @@ use Prim.Native.Nat.{suc, _+_, _-_, _≤_}
 use mathlib.Core.Path.{_≡_, sym, _∙_}
 use native.Mathlib.Omega.{arith}
 use Rattle.graph.specs.Vector.{width, bit}
-use Rattle.protocol.specs.State.{oneComponent, members}
 use Rattle.record.specs.Layout.{seats}
 use Rattle.record.specs.Meaning.{linkOf, seatsIn, meaning}
 use Rattle.graph.specs.Side.{right}
 use Rattle.record.proofs.Links.{link-read}
 use Rattle.search.specs.inner.LinkCheck.{aheadOf}
 use Rattle.check_links.proofs.Runs.{runOf, run-none, run-found, run-on, run-end}
+use Rattle.check_links.specs.Check.{membersIn}
 use borrow.Author.Needs.{needs}
 use Rattle.check_links.proofs.ahead.Statement.{statement}
 use Rattle.check_links.proofs.ahead.Tie as tie
@@ -18,7 +18,7 @@ use Rattle.check_links.proofs.ahead.Tie as tie
 abbrev Inv-loop : tie.InvT-loop
 Inv-loop rec x k b y₀ counter₀ y counter = (counter ≤ seats)
     × (runOf rec k (bit width k (seatsIn rec .vector x)) (seats - counter) (linkOf y)
-    ≡ aheadOf seats width (members oneComponent (seatsIn rec)) (meaning rec .link) x k)
+    ≡ aheadOf seats width (membersIn rec) (meaning rec .link) x k)
 
 abbrev μ-loop : tie.MeasureT-loop
 μ-loop rec x k b y₀ counter₀ y counter = seats - counter

@@ -6,16 +6,16 @@ use Rattle.base.specs.Loops.{all}
 use Rattle.base.proofs.All.{all-none}
 use Rattle.base.proofs.Stops.{all-stop, all-go, all-end}
 use Rattle.graph.specs.Vector.{width}
-use Rattle.protocol.specs.State.{oneComponent, members}
 use Rattle.record.specs.Layout.{seats}
-use Rattle.record.specs.Meaning.{seatsIn, meaning}
+use Rattle.record.specs.Meaning.{meaning}
 use Rattle.search.specs.inner.LinkCheck.{lotAboves}
+use Rattle.check_links.specs.Check.{membersIn}
 use borrow.Author.Needs.{needs}
 use Rattle.check_links.proofs.all_aboves_fit.Statement.{statement}
 use Rattle.check_links.proofs.all_aboves_fit.Tie as tie
 
 abbrev Inv-loop : tie.InvT-loop
-Inv-loop rec x₀ x = (x ≤ seats) × (all x (lotAboves seats width (members oneComponent (seatsIn rec)) (meaning rec .link)) ≡ true)
+Inv-loop rec x₀ x = (x ≤ seats) × (all x (lotAboves seats width (membersIn rec) (meaning rec .link)) ≡ true)
 
 abbrev μ-loop : tie.MeasureT-loop
 μ-loop rec x₀ x = seats - x

@@ -7,16 +7,16 @@ use Rattle.base.proofs.All.{all-none}
 use Rattle.base.proofs.Stops.{all-stop, all-go, all-end}
 use Rattle.graph.specs.Vector.{width}
 use Rattle.record.specs.Layout.{seats}
-use Rattle.protocol.specs.State.{oneComponent, members}
-use Rattle.record.specs.Meaning.{seatsIn, meaning}
+use Rattle.record.specs.Meaning.{meaning}
 use Rattle.search.specs.inner.LinkCheck.{aboveOk, lotAboves}
 use Rattle.check_links.proofs.Parts.{when-out, when-in}
+use Rattle.check_links.specs.Check.{membersIn}
 use borrow.Author.Needs.{needs}
 use Rattle.check_links.proofs.lot_aboves_fit.Statement.{statement}
 use Rattle.check_links.proofs.lot_aboves_fit.Tie as tie
 
 abbrev Inv-loop : tie.InvT-loop
-Inv-loop rec x k₀ k = (k ≤ width) × (all k (aboveOk seats width (members oneComponent (seatsIn rec)) (meaning rec .link) x) ≡ true)
+Inv-loop rec x k₀ k = (k ≤ width) × (all k (aboveOk seats width (membersIn rec) (meaning rec .link) x) ≡ true)
 
 abbrev μ-loop : tie.MeasureT-loop
 μ-loop rec x k₀ k = width - k

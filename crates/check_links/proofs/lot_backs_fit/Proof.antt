@@ -6,16 +6,16 @@ use Rattle.base.specs.Loops.{all}
 use Rattle.base.proofs.All.{all-none}
 use Rattle.base.proofs.Stops.{all-stop, all-go, all-end}
 use Rattle.record.specs.Layout.{levels}
-use Rattle.protocol.specs.State.{oneComponent, members}
-use Rattle.record.specs.Meaning.{seatsIn, meaning}
+use Rattle.record.specs.Meaning.{meaning}
 use Rattle.search.specs.inner.LinkCheck.{backsOk, lotBacks}
 use Rattle.check_links.proofs.Parts.{when-out, when-in}
+use Rattle.check_links.specs.Check.{membersIn}
 use borrow.Author.Needs.{needs}
 use Rattle.check_links.proofs.lot_backs_fit.Statement.{statement}
 use Rattle.check_links.proofs.lot_backs_fit.Tie as tie
 
 abbrev Inv-loop : tie.InvT-loop
-Inv-loop rec x k₀ k = (k ≤ levels) × (all k (backsOk (members oneComponent (seatsIn rec)) (meaning rec .link) x) ≡ true)
+Inv-loop rec x k₀ k = (k ≤ levels) × (all k (backsOk (membersIn rec) (meaning rec .link) x) ≡ true)
 
 abbrev μ-loop : tie.MeasureT-loop
 μ-loop rec x k₀ k = levels - k
