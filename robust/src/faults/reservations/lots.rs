@@ -46,10 +46,6 @@ wrong_on_bytes! {
             }
             _ => answer,
         };
-    the_check_sees_it shows Difference::Answer { .. } => |before, after, call, answer| match call {
-        Call::Check => seated(before, after, call, |_| true),
-        _ => answer,
-    };
     its_seat_is_free shows Difference::Answer { .. } => |before, after, call, answer| match call {
         Call::Join { seat, .. } | Call::Reserve { seat, .. } => {
             away(before, after, call, |lot| lot == seat)
