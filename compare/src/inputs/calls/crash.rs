@@ -10,12 +10,12 @@ impl Chooser<'_> {
         let named = match self.random.below(32) {
             0 | 1 => 0,
             2 => self.seated(),
-            3 => self.seated() & self.random.next(),
-            4 | 5 => self.seated() & self.random.next() & self.random.next(),
-            6 => return self.random.next(),
-            7..14 => self.some(is_seated),
-            14..16 => self.some(is_seated) | self.some(is_seated),
-            16..24 => self.in_a_row(),
+            3 | 4 => self.seated() & self.random.next(),
+            5..8 => self.seated() & self.random.next() & self.random.next(),
+            8 => return self.random.next(),
+            9..14 => self.some(is_seated),
+            14..17 => self.some(is_seated) | self.some(is_seated),
+            17..24 => self.in_a_row(),
             _ => self.ends_across(),
         };
         // One in some names a seat that has no lot.
