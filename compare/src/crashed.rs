@@ -175,11 +175,6 @@ fn accepted(seats: u64, before: Before) -> Vec<Crash> {
     met.map(|(crash, _)| crash).collect()
 }
 
-/// Whether a record has several components, links and pending MEETs joining lots.
-pub fn has_several(record: &[u8]) -> bool {
-    Joined::of(Before { record }, |_| true).components().len() > 1
-}
-
 /// Whether a crash leaves a link above level 0 of which one end knows nothing. No calls
 /// lead to such a record.
 pub fn leaves_one_sided(record: &[u8], seats: u64) -> bool {

@@ -7,6 +7,7 @@ use crate::lent;
 use crate::lent::place::*;
 use crate::lent::{from_bytes, to_bytes};
 use crate::model::{Found, Message, Model, Refusal};
+use crate::selfcheck;
 use crate::unsettled::Unsettled;
 use std::collections::BTreeSet;
 
@@ -106,28 +107,26 @@ fn a_crash_meets_1_and_2_first() {
     assert_eq!(crash.on_bytes(&mut bytes), Answer::refused(1));
 }
 
-/// As in document 000: a crash of each set of a record of six lots, drained.
+/// Of six lots each set crashes, and then each one more of those that are left: what the
+/// self check asks of a crash holds of all of them.
 #[test]
 fn every_crash_of_a_small_record() {
-    let mut model = Model::open();
     let lots = [(10, 0), (20, 128), (30, 1), (40, 192), (50, 64), (60, 129)];
-    for (seat, (number, vector)) in (0..).zip(lots) {
-        let contact = if seat == 0 { 255 } else { 0 };
-        model.join(seat, number, vector, contact).unwrap();
-    }
-    model.settle();
+    let join = |(seat, (number, vector))| Call::Join {
+        seat,
+        number,
+        vector,
+        contact: if seat == 0 { 255 } else { 0 },
+    };
+    let settle = Call::Bundle { limit: u16::MAX };
+    let mut list: Vec<Call> = (0..).zip(lots).map(join).collect();
+    list.push(settle);
     for seats in 0..1u64 << lots.len() {
-        let crash = Call::Crash { seats };
-        let list = [crash, Call::Bundle { limit: u16::MAX }, Call::Check];
-        let (mut model, mut bytes) = (model.clone(), to_bytes(&model));
-        for call in list {
-            let answer = call.on_model(&mut model);
-            assert_eq!(answer.refusal, 0, "{call:?}");
-            assert_eq!(call.on_bytes(&mut bytes), answer, "{call:?}");
-            assert_eq!(to_bytes(&model), bytes, "{call:?}");
+        for seat in (0..lots.len()).filter(|seat| seats >> seat & 1 == 0) {
+            let other = Call::Crash { seats: 1 << seat };
+            let crashes = [Call::Crash { seats }, settle, other, settle, Call::Check];
+            let list = [&list[..], &crashes].concat();
+            assert_eq!(selfcheck::run_list(&list), Ok(()), "{seats} {seat}");
         }
-        assert!(model.check());
-        let left = lots.len() as u32 - seats.count_ones();
-        assert_eq!(model.counts().lots as u32, left);
     }
 }

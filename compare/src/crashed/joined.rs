@@ -62,3 +62,35 @@ impl Joined {
         first.map(|(_, set)| *set).collect()
     }
 }
+
+#[cfg(test)]
+mod tests {
+    use super::*;
+    use crate::lent;
+    use crate::list;
+    use crate::model::Model;
+    use crate::roster::Roster;
+
+    /// After every call, in both phases.
+    #[test]
+    fn they_are_the_rosters_components() {
+        let mut several = 0;
+        for index in 0..200 {
+            let mut roster = Roster::new();
+            let mut record = lent::to_bytes(&Model::open());
+            for call in list::generate(6, index, 120) {
+                if call.on_bytes(&mut record).refusal == 0 {
+                    roster.accept(call);
+                }
+                let joined = Joined::of(Before { record: &record }, |_| true);
+                for (lot, _) in roster.seated() {
+                    let beside = roster.beside(lot.seat).into_iter();
+                    let beside = beside.fold(0, |set, (lot, _)| set | 1 << lot.seat);
+                    assert_eq!(joined.to(lot.seat), beside, "list {index}, {call:?}");
+                }
+                several += usize::from(joined.components().len() > 1);
+            }
+        }
+        assert!(several > 1_000, "{several}");
+    }
+}

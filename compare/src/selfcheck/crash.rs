@@ -4,10 +4,11 @@
 use super::{holds, Check, MOST_DELIVERIES};
 use crate::graph::{components, links_within, Links};
 use crate::model::{Lot, Message, Model};
+use crate::random::Random;
 use std::collections::BTreeSet;
 
-/// Up to so many lots, what was sent is delivered in a second order too, which may
-/// take long.
+/// Up to so many lots, what was sent is delivered in other orders too, which may take
+/// long.
 const FEW: usize = 12;
 
 pub fn check(seats: u64, before: &Model, after: &Model) -> Check {
@@ -20,10 +21,16 @@ pub fn check(seats: u64, before: &Model, after: &Model) -> Check {
         "a crash does not send what it says",
     )?;
     leaves_graphs(after, |model| model.pending().first().copied())?;
-    match after.counts().lots <= FEW {
-        true => leaves_graphs(after, |model| model.pending().last().copied()),
-        false => Ok(()),
+    if after.counts().lots > FEW {
+        return Ok(());
     }
+    leaves_graphs(after, |model| model.pending().last().copied())?;
+    let mut random = Random::new(seats);
+    leaves_graphs(after, |model| {
+        let pending = model.pending();
+        let place = random.below(pending.len().max(1));
+        pending.iter().nth(place).copied()
+    })
 }
 
 fn is_named(seats: u64, seat: u8) -> bool {
@@ -66,7 +73,7 @@ fn meetings(after: &Model) -> BTreeSet<Message> {
 
 /// Once drained by deliveries alone, in the order given, components by links are those
 /// that the call left, and each is the skip graph of its own lots.
-fn leaves_graphs(after: &Model, next: impl Fn(&Model) -> Option<Message>) -> Check {
+fn leaves_graphs(after: &Model, mut next: impl FnMut(&Model) -> Option<Message>) -> Check {
     let members = after.members();
     let left = components(&members, &after.member_links());
     let mut drained = after.clone();

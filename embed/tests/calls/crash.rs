@@ -147,7 +147,9 @@ fn the_first_row_that_applies_is_given() {
     let mut pending = three_lots();
     pending.reserve(3, 250, 0).unwrap();
     for (seats, number) in [(&[][..], 11), (&[1], 11), (&[3], 8), (&[0, 9], 8)] {
-        refused(pending.as_bytes(), number, |record| record.crash(set(seats)));
+        refused(pending.as_bytes(), number, |record| {
+            record.crash(set(seats))
+        });
     }
     let mut clearing = open.clone();
     clearing.leave(1).unwrap();
