@@ -19,7 +19,6 @@ use Rattle.protocol.specs.pages.Deliver.{rule, deliverySends, applied, delivery
 use Rattle.protocol.specs.Freeing.{unlinked}
 use Rattle.record.specs.Reading.{openRefusal}
 use Rattle.cases.specs.Lists.{qCalls, iCalls, kCalls}
-use Rattle.cases.specs.Small.{small}
 use Rattle.cases.specs.Scans.{Scans}
 use Rattle.cases.proofs.View.{without, viewRefusal, viewAfter, viewCall}
 use Rattle.cases.proofs.Seen.{least, look, seen}

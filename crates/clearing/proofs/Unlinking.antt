@@ -11,7 +11,6 @@ use lib.ListN.{getD, set as put}
 use lib.Seq.{set-getD}
 use borrow.Author.Tests.{lt-ltb, le-ltb}
 use Rattle.base.proofs.Cases.{eq-or-ne}
-use Rattle.base.proofs.Tests.{none-some}
 use Rattle.memory.specs.Bits.{hasBit}
 use Rattle.graph.specs.Side.{Side, left, right, sideNumber, sideOfNumber}
 use Rattle.protocol.specs.Rules.{set as linkTo}
@@ -20,6 +19,7 @@ use Rattle.protocol.specs.Freeing.{unlinked, unlinking}
 use Rattle.protocol.specs.pages.Deliver.{applied}
 use Rattle.protocol.proofs.Calls.{applied-at, applied-frame}
 use Rattle.protocol.proofs.Numbering.{sideNumber-lt}
+use Rattle.protocol.proofs.KeepFreeing.{unlinking-some}
 use Rattle.record.specs.Layout.{seats, levels, linkAt, noLink}
 use Rattle.record.specs.Meaning.{linkByte, bytesOf}
 use Rattle.record.proofs.Values.{NamesSeat}
@@ -63,21 +63,6 @@ module _ (set : ℕ) where
       by true b = refl
       by false true = refl
       by false false = refl
-
-  -- a link that is left is as before
-  pub unlinked-kept : (x y : ℕ) (o : Option ℕ) → cond (hasBit set x) none (unlinked (hasBit set) o) ≡ some y → o ≡ some y
-  unfolding unlinked
-  unlinked-kept x y none e = by (hasBit set x) e
-    where
-      by : (a : Bool) → cond a none none ≡ some y → none ≡ some y
-      by true q = q
-      by false q = q
-  unlinked-kept x y (some z) e = by (hasBit set x) (hasBit set z) e
-    where
-      by : (a b : Bool) → cond a none (cond b none (some z)) ≡ some y → some z ≡ some y
-      by true b q = none-some refl q
-      by false true q = none-some refl q
-      by false false q = q
 
   module _ (s x k : ℕ) (d : Side) (h : x < seats) (g : k < levels) (M : Meaning) (c : Linked M) where
     -- the place of the link of x at level k on side d
@@ -126,7 +111,7 @@ module _ (set : ℕ) where
       relinked : bytesOf (freedTo set s (here + 1) M) ≡ put l (linkAt x k d) (cond (goes x b) noLink b)
       relinked =
           let v : b ≡ linkByte (M .link x k d) = f ∙ ap (λ (m : List ℕ). getD m (linkAt x k d) 0) e ∙ old-byte in
-          relink (unlinking (hasBit set) (M .link) x k d) (λ y q. c x k y d (unlinked-kept x y (M .link x k d) q)) refl
+          relink (unlinking (hasBit set) (M .link) x k d) (λ y q. c x k y d (unlinking-some (hasBit set) (M .link x k d) x y q .0)) refl
           ∙ rw (v, e) (ap (put (bytesOf (freedTo set s here M)) (linkAt x k d)) (unlinked-byte x (M .link x k d) (λ y q. c x k y d q)))
 
       -- none, and kept

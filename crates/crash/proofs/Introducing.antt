@@ -5,7 +5,7 @@ use mathlib.Core.List.{List, [], _∷_}
 use lib.Dec.{T}
 use borrow.Author.Tests.{lt-ltb}
 use Rattle.base.proofs.Tests.{true-T}
-use Rattle.memory.specs.Bits.{setBit}
+use Rattle.memory.specs.Bits.{hasBit, setBit}
 use Rattle.graph.specs.Side.{sideOfNumber}
 use Rattle.graph.specs.Vector.{width}
 use Rattle.protocol.specs.Message.{meet}
@@ -13,13 +13,13 @@ use Rattle.protocol.specs.Numbering.{exists, place}
 use Rattle.protocol.specs.Rules.{toLink}
 use Rattle.protocol.specs.State.{Meaning}
 use Rattle.protocol.specs.pages.Crash.{introduced}
+use Rattle.protocol.proofs.KeepFreeing.{unlinking-some}
 use Rattle.record.specs.Layout.{seats, levels, pendingFrom}
 use Rattle.record.specs.Meaning.{linkOf, meaning, bytesOf}
 use Rattle.record.proofs.Links.{linkOf-some, linkOf-none}
 use Rattle.record.proofs.Sent.{bytes-withMessage}
 use Rattle.clearing.specs.inner.Steps.{Linked, saying, freed}
 use Rattle.clearing.proofs.Telling.{saying-nothing, saying-append, link-named}
-use Rattle.clearing.proofs.Unlinking.{unlinked-kept}
 
 -- MEET at level 0 exists
 meet-exists : (x y : ℕ) → x < seats → y < seats → T (exists seats width (meet x y 0))
@@ -53,4 +53,4 @@ module _ (M : Meaning) (c : Linked M) (x k d y : ℕ) (h : x < seats) (g : k < l
 
 -- links name seats once those of a set are freed
 pub freed-linked : (set : ℕ) (M : Meaning) → Linked M → Linked (freed set M)
-freed-linked set M c x k y d e = c x k y d (unlinked-kept set x y (M .link x k d) e)
+freed-linked set M c x k y d e = c x k y d (unlinking-some (hasBit set) (M .link x k d) x y e .0)

@@ -1,4 +1,4 @@
--- Find on the bytes (document 01, "Find"; document 02, #102 and #104): the refusal number, 1, 2, 3, 8, 13, or 0; the holder and the hops of the
+-- Find on the bytes (document 01, "Find"; document 02, #102, #104 and #106): the refusal number, 1, 2, 3, 8, 13, or 0; the holder and the hops of the
 -- search on the meaning, for the lots that stay. A refused answer has none and 0. Assumes nothing.
 use Prim.Native.Nat.{ℕ}
 use mathlib.Core.Bool.{Bool, not, cond, _&&_}

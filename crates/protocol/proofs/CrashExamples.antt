@@ -2,16 +2,17 @@
 -- the roster keeps. Assumes nothing.
 use Prim.Native.Nat.{ℕ}
 use mathlib.Core.Path.{_≡_, refl}
-use mathlib.Core.Option.{Option, none, some}
-use mathlib.Core.Bool.{Bool, true, false}
+use mathlib.Core.Option.{none, some}
+use mathlib.Core.Bool.{true, false, cond, _&&_}
 use mathlib.Core.List.{List, [], _∷_}
+use lib.Dec.{eqb}
 use Rattle.base.specs.Loops.{any, firstFrom}
 use Rattle.base.specs.Bits.{bitOf}
-use Rattle.graph.specs.Side.{Side, left, right, onSide, sideOf}
+use Rattle.graph.specs.Side.{right, onSide, sideOf}
 use Rattle.graph.specs.Vector.{bit, equalBits, shared}
 use Rattle.graph.specs.Graph.{inList, beside as besideIn, nearer, nearest, graph}
 use Rattle.graph.specs.Components.{names, linksTo, linkedWith, joinedBelow, componentOf}
-use Rattle.protocol.specs.Message.{Msg, meet, ifZero, ifBit, named, sameMsg, among}
+use Rattle.protocol.specs.Message.{meet, ifZero, ifBit, named, sameMsg, among}
 use Rattle.protocol.specs.Numbering.{pairAt, pullAt, sideAt, split, messageAt, somePending}
 use Rattle.protocol.specs.Rules.{toLink, setting, meeting, probing, pulling, parting, passing, seeking, effect}
 use Rattle.protocol.specs.State.{Meaning, member, members, nobody, opened, isPending}
@@ -19,7 +20,7 @@ use Rattle.protocol.specs.Calls.{Call, join, leave, turn, crash, rows, r
 use Rattle.protocol.specs.Calls.{accept, unlessRefused, call}
 use Rattle.protocol.specs.Refusals.{first}
 use Rattle.protocol.specs.Page.{each, at, isTaken, pendingAfter}
-use Rattle.protocol.specs.pages.Deliver.{rule, deliverySends, applied, deliveryLinks}
+use Rattle.protocol.specs.pages.Deliver.{rule, deliverySends, sameSide, applied, deliveryLinks}
 use Rattle.protocol.specs.pages.Turn.{afterTurn, farewell, farewells, turnSends, turnLinks}
 use Rattle.protocol.specs.pages.Crash.{introduced, introductions, cut}
 use Rattle.protocol.specs.Freeing.{unlinked}
@@ -57,6 +58,27 @@ unfolding cut-Q links meaningRun stepsFrom step steps opened nobody call unlessR
     onSide sideOf bit equalBits shared named ifZero ifBit sameMsg among somePending messageAt split pairAt pullAt sideAt bundled bundleOf
     drained leftBy onward smallestFrom smallestOf smaller before orNext joined-Q settled graph nearest nearer besideIn inList member after each introduced introductions unlinked bitOf
 Q-mends = refl
+
+-- a component that lost nobody sends, too: here 200 is one of its own; and of a link without its link back both ends hear
+apart : Meaning
+apart = record { seats = joined-Q .seats; link = graph 3 2 (members (λ x. cond (eqb x 1) 1 0) (joined-Q .seats)); pending = λ m. false }
+
+untouched-sends : same-messages (sends 3 2 apart (crash 2)) (meet 0 2 0 ∷ meet 2 0 0 ∷ meet 2 0 0 ∷ meet 0 2 0 ∷ []) ≡ true
+unfolding apart all-among count-of same-messages meaningRun stepsFrom step steps opened nobody call unlessRefused accept refusal rows first any isPending seatsAfter at sends takes isTaken
+    pendingAfter deliverySends linksAfter deliveryLinks applied rule effect setting meeting probing pulling parting passing seeking toLink
+    onSide sideOf bit equalBits shared named ifZero ifBit sameMsg among somePending messageAt split pairAt pullAt sideAt bundled bundleOf
+    drained leftBy onward smallestFrom smallestOf smaller before orNext joined-Q settled graph nearest nearer besideIn inList member after each introduced introductions unlinked bitOf
+untouched-sends = refl
+
+one-sided : Meaning
+one-sided = record { seats = joined-Q .seats; link = λ x k d. cond (eqb x 0 && (eqb k 1 && sameSide d right)) (some 2) none; pending = λ m. false }
+
+one-sided-sends : same-messages (sends 3 2 one-sided (crash 2)) (meet 0 2 0 ∷ meet 2 0 0 ∷ []) ≡ true
+unfolding one-sided all-among count-of same-messages meaningRun stepsFrom step steps opened nobody call unlessRefused accept refusal rows first any isPending seatsAfter at sends takes isTaken
+    pendingAfter deliverySends linksAfter deliveryLinks applied rule effect setting meeting probing pulling parting passing seeking toLink
+    onSide sideOf bit equalBits shared named ifZero ifBit sameMsg among somePending messageAt split pairAt pullAt sideAt bundled bundleOf
+    drained leftBy onward smallestFrom smallestOf smaller before orNext joined-Q settled graph nearest nearer besideIn inList member after each introduced introductions unlinked bitOf
+one-sided-sends = refl
 
 -- the set 0 sends nothing
 none-sent : sends 3 2 settled (crash 0) ≡ []

@@ -1,5 +1,5 @@
 -- An accepted crash keeps soundness; which MEETs it sends: of each link that is left above level 0 two, to each end about the other. Assumes nothing.
-use Prim.Native.Nat.{ℕ, suc, _≤_, _<_}
+use Prim.Native.Nat.{ℕ, suc, _<_}
 use mathlib.Core.Path.{_≡_, refl, sym, subst}
 use mathlib.Core.Logic.{_⊎_, inl, inr, ⊎-elim}
 use mathlib.Core.Option.{none, some}
@@ -18,7 +18,7 @@ use Rattle.protocol.specs.Freeing.{freeing, unlinking}
 use Rattle.protocol.specs.pages.Crash.{introduced, introductions}
 use Rattle.protocol.specs.Sound.{messageOk, Sound}
 use Rattle.protocol.proofs.Sent.{All, all-at, all-sent, in-each, is-sent}
-use Rattle.protocol.proofs.SoundFacts.{Two, Linked, p-meet, proper-ok, two-sym, pending-after}
+use Rattle.protocol.proofs.SoundFacts.{Two, p-meet, proper-ok, two-sym, pending-after}
 use Rattle.protocol.proofs.KeepFreeing.{left-linked, freed-sound}
 
 -- a MEET of a crash: of a link above level 0, to one end about the other

@@ -1,26 +1,24 @@
 -- A turn with nothing pending keeps soundness, in phase open and in clearing; and to whom leavers send GOING. Assumes nothing.
-use Prim.Native.Nat.{ℕ, _^_, _<_}
-use mathlib.Core.Path.{_≡_, refl, sym, _∙_, ap, subst}
-use mathlib.Core.Option.{Option, none, some}
-use mathlib.Core.Bool.{Bool, true, false, not, cond}
+use Prim.Native.Nat.{ℕ, _<_}
+use mathlib.Core.Path.{_≡_, refl, sym, subst}
+use mathlib.Core.Option.{none, some}
+use mathlib.Core.Bool.{true}
 use mathlib.Core.List.{[], List·Memᴰ, List·Memᴰ·not-nil}
 use lib.Dec.{T}
-use lib.Pow.{pow-pos}
 use Rattle.graph.specs.Side.{Side, left, right, opp}
 use Rattle.graph.specs.Graph.{Links}
-use Rattle.base.proofs.Tests.{T-true, none-some, some-inj}
+use Rattle.base.proofs.Tests.{T-true}
 use Rattle.protocol.specs.Message.{Msg, going}
 use Rattle.base.specs.Loops.{any}
-use Rattle.protocol.specs.Rules.{free}
-use Rattle.protocol.specs.State.{Phase, open-phase, clearing, Seats, Meaning, isFree, taken, seated, leaves}
+use Rattle.protocol.specs.State.{Phase, open-phase, clearing, Seats, Meaning, leaves}
 use Rattle.protocol.specs.Calls.{turn, seatsAfter, sends, takes, linksAfter, accept}
 use Rattle.protocol.specs.pages.Turn.{afterTurn, farewell, farewells, turnSends, turnLinks}
 use Rattle.protocol.specs.Page.{pendingAfter}
 use Rattle.protocol.specs.Freeing.{freeing}
-use Rattle.protocol.specs.Sound.{numberBits, messageOk, Sound}
+use Rattle.protocol.specs.Sound.{messageOk, Sound}
 use Rattle.base.proofs.Any.{any-in}
 use Rattle.protocol.proofs.Sent.{All, all-at, all-sent}
-use Rattle.protocol.proofs.SoundFacts.{Linked, p-going, linked-ok, proper-ok, two-level, link-linked, pending-after}
+use Rattle.protocol.proofs.SoundFacts.{p-going, proper-ok, two-level, link-linked, pending-after}
 use Rattle.protocol.proofs.KeepCalls.{link-kept}
 use Rattle.protocol.proofs.KeepFreeing.{freed-sound}
 

@@ -162,11 +162,11 @@ module _ (comp : ℕ → ℕ) {N W : ℕ} {M : Meaning} (h : Sound N W M) (s c :
     new = rw (at-same s staying (r .state) s refl) tt;
     from = who;
     apart = other c (ok .contact p);
-    contact = at-same s (cond (ltb c N) (comp c) s) comp s refl ∙ rw (lt-ltb c N p);
+    contact = at-same s _ comp s refl ∙ rw (lt-ltb c N p);
   }
     where
       old : (x : ℕ) → x ≢ s → comp′ x ≡ comp x
-      old x n = at-other s (cond (ltb c N) (comp c) s) comp x n
+      old x n = at-other s _ comp x n
 
   confirmed : Sane comp W M open-phase → Sane comp′ W (accept N W M (confirm s c)) open-phase
   unfolding accept linksAfter sends takes seatsAfter

@@ -1,8 +1,8 @@
 -- A crash keeps what every reached meaning has, with the components of the links of the roster's graph that are left. Nothing is pending before it,
 -- so these are the record's own links. Assumes nothing.
-use Prim.Native.Nat.{ℕ, zero, suc, _≤_, _<_}
-use mathlib.Core.Path.{_≡_, refl, sym, _∙_, ap, subst, subst₂, fun-ext}
-use mathlib.Core.Logic.{_↔_, _⊎_, inl, inr}
+use Prim.Native.Nat.{ℕ, zero, suc, _≤_}
+use mathlib.Core.Path.{_≡_, refl, sym, _∙_, ap, subst, fun-ext}
+use mathlib.Core.Logic.{_⊎_, inl, inr}
 use mathlib.Core.Option.{Option, none, some}
 use mathlib.Core.Bool.{Bool, true, false, cond}
 use mathlib.Core.List.{List, [], List·Memᴰ}
@@ -12,26 +12,24 @@ use borrow.Author.Tests.{eqb-true}
 use Rattle.base.specs.Bits.{hasBit}
 use Rattle.base.proofs.Bits.{hasBit-none}
 use Rattle.graph.specs.Side.{Side}
-use Rattle.graph.specs.Graph.{Lots, Links, graph, IsGraph}
+use Rattle.graph.specs.Graph.{Links, graph, IsGraph}
 use Rattle.graph.specs.Constraints.{Joined, same, linked, turned, through, Labels}
 use Rattle.graph.specs.Components.{componentOf, byLinks}
 use Rattle.graph.proofs.Labels.{component-same, components-labels}
 use Rattle.protocol.specs.Message.{Msg, meet}
-use Rattle.protocol.specs.Rules.{SeatState, free}
+use Rattle.protocol.specs.Rules.{free}
 use Rattle.protocol.specs.State.{Phase, open-phase, Seats, Meaning, isSeated, seated, member, members}
 use Rattle.protocol.specs.Calls.{crash, seatsAfter, sends, takes, linksAfter, accept}
 use Rattle.protocol.specs.Page.{pendingAfter}
 use Rattle.protocol.specs.Freeing.{freeing, unlinked, unlinking}
 use Rattle.protocol.specs.pages.Crash.{introductions, cut}
-use Rattle.protocol.specs.Sound.{Sound}
 use Rattle.protocol.proofs.Calls.{after-nothing}
 use Rattle.protocol.proofs.World.{Quiet}
 use Rattle.protocol.proofs.Delivery.{stateOf}
 use Rattle.protocol.proofs.Conn.{Conn, crefl, clink, cmeet, csym, ctrans}
-use Rattle.protocol.proofs.Exact.{Exact}
-use Rattle.protocol.proofs.Invariant.{Invariant, invariant-quiet}
+use Rattle.protocol.proofs.Invariant.{invariant-quiet}
 use Rattle.protocol.proofs.Cut.{Cuts, invariant-cut}
-use Rattle.protocol.proofs.SoundFacts.{seated-below, two-level, link-linked}
+use Rattle.protocol.proofs.SoundFacts.{seated-below, two-level}
 use Rattle.protocol.proofs.KeepFreeing.{unlinking-some, some-unlinking, left-linked}
 use Rattle.protocol.proofs.KeepCrash.{introduction-out, introduction-in}
 use Rattle.protocol.proofs.Reached.{Laws, sound-laws, worldOf, Sane, in-open, Reached, member-open, reached-graph}

@@ -18,11 +18,10 @@ use Rattle.protocol.specs.Page.{pendingAfter}
 use Rattle.protocol.specs.Sound.{Sound}
 use Rattle.protocol.specs.Run.{Logged, Past, Standing, logOf, step, steps, stepsFrom, AllAccepted, Roster, meaningRun, rosterAfter}
 use Rattle.protocol.specs.Run.{rosterOf, pendingOf, RefusedByTable, NothingPending, MeaningDemand3, AllInRange}
-use Rattle.protocol.proofs.Numbering.{none-pending, pending-none}
+use Rattle.protocol.proofs.Numbering.{pending-none}
 use Rattle.protocol.proofs.Delivery.{stateOf, accept-deliver}
 use Rattle.protocol.proofs.World.{Quiet}
 use Rattle.protocol.proofs.Invariant.{invariant-first}
-use Rattle.protocol.proofs.SoundFacts.{pending-exists}
 use Rattle.protocol.proofs.Accepted.{reserve-rows, confirm-rows, join-reserve, give-back-rows, leave-rows, turn-row, crash-rows}
 use Rattle.protocol.proofs.Reserving.{join-confirm, join-in-two}
 use Rattle.protocol.proofs.KeepCalls.{reserve-sound}
