@@ -1,6 +1,7 @@
 /* Lot 100 opens on a scale. Seats are held for lots 200 and 300 while the vet looks at the animals: 200 is confirmed through 100, 300 is given
  * back. One of their messages is delivered by itself, the others are listed and delivered by the bundle, the smallest first. 250 is scanned too
- * early, while messages are pending, again when none is left, and once more when lot 200 is leaving and may not be printed. */
+ * early, while messages are pending, again when none is left, once more when lot 200 is leaving and may not be printed, and a last time when its
+ * scale has died. */
 #include "lots.h"
 #include <inttypes.h>
 #include <stdio.h>
@@ -82,9 +83,12 @@ int main(void)
     refusals |= deliver_all();
     refusals |= lots_check(record, sizeof record, &yes);
     refusals |= lots_find(record, sizeof record, 0, 250, &holder, &hops);
-    printf("refused %d, one skip graph %d, 250 belongs to the lot on seat %d, hops %" PRIu64 "\n", refusals, yes, holder, hops);
+    printf("refused %d, skip graph %d, 250 belongs to the lot on seat %d, hops %" PRIu64 "\n", refusals, yes, holder, hops);
     refusals |= lots_leave(record, sizeof record, 1);
     refusals |= lots_find(record, sizeof record, 0, 250, &holder, &hops);
     printf("refused %d, lot 200 is leaving, 250 belongs to the lot on seat %d, hops %" PRIu64 "\n", refusals, holder, hops);
+    refusals |= lots_crash(record, sizeof record, UINT64_C(1) << 1);
+    refusals |= lots_find(record, sizeof record, 0, 250, &holder, &hops);
+    printf("refused %d, lot 200 is gone, 250 belongs to the lot on seat %d, hops %" PRIu64 "\n", refusals, holder, hops);
     return refusals;
 }

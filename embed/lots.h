@@ -38,11 +38,11 @@ enum lots_refusal {
     LOTS_SEAT_TAKEN = 4,       /* the seat to take is not free: a lot is seated or reserved there */
     LOTS_NUMBER_IN_USE = 5,    /* a seated or reserved lot has the number */
     LOTS_NO_CONTACT = 6,       /* no lot is seated on the contact's seat, or no contact while lots are seated */
-    LOTS_IN_CLEARING = 7,      /* no lot joins, is reserved, is confirmed or leaves in phase clearing */
+    LOTS_IN_CLEARING = 7,      /* no lot joins, is reserved, is confirmed, leaves or crashes in phase clearing */
     LOTS_EMPTY_SEAT = 8,       /* no lot is seated there; to read a lot, none is reserved there either */
     LOTS_ALREADY_LEAVING = 9,  /* the lot is leaving */
     LOTS_NO_SUCH_MESSAGE = 10, /* the five numbers are no pending message */
-    LOTS_MESSAGES_LEFT = 11,   /* no turn while messages are pending */
+    LOTS_MESSAGES_LEFT = 11,   /* no turn and no crash while messages are pending */
     LOTS_NO_SUCH_LEVEL = 12,   /* a level above 8 or a side above 1 */
     LOTS_UNSETTLED = 13,       /* no scan while messages are pending, in clearing, or if the check says no */
     LOTS_NOT_RESERVED = 14     /* no lot is reserved on the seat to confirm or to give back */
@@ -111,19 +111,34 @@ uint8_t lots_bundle(uint8_t *record, size_t length, uint16_t limit,
  * Refusals: 1 wrong size, 2 unsound, 11 messages left. */
 uint8_t lots_turn(uint8_t *record, size_t length);
 
+/* Takes lots out that are gone without having left: `seats` is a set, whose lowest
+ * bit is seat 0 and highest is seat 63. The named seats become free, and links to
+ * them none. Then every link at levels 1 to 8 that is left, in components that lost
+ * nobody too, sends MEET at level 0, to each end about the other. Once all messages
+ * are delivered, the lots that are still joined by links are one skip graph again;
+ * those that are not are several, each for itself. Lots that are leaving may be named.
+ * The set 0 changes nothing, but meets 7 and 11 as any other.
+ * Refusals: 1 wrong size, 2 unsound, 7 clearing, 8 empty seat (a named one is free or
+ * reserved), 11 messages left. */
+uint8_t lots_crash(uint8_t *record, size_t length, uint64_t seats);
+
 /* Looks up a scanned number from the seated lot on a seat of a settled record: phase
  * open, nothing pending, and lots_check would say yes. `holder` is the seat of the
- * staying lot with the largest number not above the scanned one, or LOTS_NO_SEAT
- * if no staying lot has such a number. A lot marked as leaving does not make a scan
- * wait and is never its holder: where the search comes to one, it goes on to the
+ * staying lot with the largest number not above the scanned one among the lots of its
+ * component, those that links join to it directly or through others; LOTS_NO_SEAT if
+ * no staying lot of these has such a number. A lot marked as leaving does not make a
+ * scan wait and is never its holder: where the search comes to one, it goes on to the
  * left until a lot stays or none is left. The lot on `seat` may be a leaving one.
  * `hops` counts the lots that were stepped onto, leaving ones too.
  * Refusals: 1 wrong size, 2 unsound, 3 no such seat, 8 empty seat, 13 unsettled. */
 uint8_t lots_find(const uint8_t *record, size_t length, uint8_t seat,
                   uint64_t number, uint8_t *holder, uint64_t *hops);
 
-/* Whether the links of all seated lots, while clearing of the staying ones, are
- * those of the skip graph: `yes` is 1 or 0.
+/* Whether every component is the skip graph of its own lots: `yes` is 1 or 0. Seated
+ * lots, while clearing staying ones, that are joined by links among them, directly or
+ * through others, are a component. There may be several, after a crash, or while a
+ * newcomer has no link yet: a pending message is no link. While clearing, a staying
+ * lot's link to a leaver makes it no.
  * Refusals: 1 wrong size, 2 unsound. */
 uint8_t lots_check(const uint8_t *record, size_t length, uint8_t *yes);
 

@@ -45,6 +45,7 @@ pub fn library(call: Call, record: &mut [u8]) -> (u8, u64) {
             Call::Deliver(m) => lots_deliver(start, length, m.kind, m.to, m.about, m.level, m.side),
             Call::Bundle { limit } => lots_bundle(start, length, limit, &mut half),
             Call::Turn => lots_turn(start, length),
+            Call::Crash { seats } => lots_crash(start, length, seats),
             Call::Find { seat, number } => {
                 lots_find(start, length, seat, number, &mut byte, &mut long)
             }
@@ -98,6 +99,7 @@ pub fn rust(call: Call, record: &mut [u8]) -> (u8, u64) {
         Call::Deliver(message) => lent::deliver(record, message).map(|()| 0),
         Call::Bundle { limit } => lent::bundle(record, limit).map(u64::from),
         Call::Turn => lent::turn(record).map(|()| 0),
+        Call::Crash { seats } => lent::crash(record, seats).map(|()| 0),
         Call::Find { seat, number } => lent::find(record, seat, number)
             .map(|found| u64::from(found.holder.unwrap_or(255)) + u64::from(found.hops)),
         Call::Check => lent::check(record).map(u64::from),

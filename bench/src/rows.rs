@@ -1,5 +1,8 @@
 //! What is timed: calls, each on an empty, a half full and a full record.
 
+mod crashes;
+mod draining;
+
 use compare::call::{Call, NAMES};
 use compare::graph::{self, Member, LEVELS, SEATS, SIDES};
 use compare::lent::{self, SIZE};
@@ -7,6 +10,8 @@ use compare::model::{Lot, Lots, Message, Model, Phase, State};
 use compare::random::Random;
 use compare::script::REMAINDERS;
 use std::collections::BTreeSet;
+
+pub use draining::DRAIN;
 
 pub struct Row {
     pub call: &'static str,
@@ -27,14 +32,23 @@ pub fn all() -> Vec<Row> {
     for call in CHANGES.iter().chain(&READS) {
         call(&mut rows, [&empty, &half, &full]);
     }
-    rows.extend(draining());
+    rows.extend(draining::draining());
     rows
 }
 
 type Rows = fn(&mut Vec<Row>, [&[u8]; 3]);
 
-const CHANGES: [Rows; 9] = [
-    open, join, reserve, confirm, give_back, leave, deliver, bundle, turn,
+const CHANGES: [Rows; 10] = [
+    open,
+    join,
+    reserve,
+    confirm,
+    give_back,
+    leave,
+    deliver,
+    bundle,
+    turn,
+    crashes::crash,
 ];
 const READS: [Rows; 7] = [
     find,
@@ -201,7 +215,8 @@ fn turn(rows: &mut Vec<Row>, [empty, half, full]: [&[u8]; 3]) {
 }
 
 /// The search with the most hops; the same where half of the lots leave, which it
-/// goes past; and one that a message with seats of the middle makes wait.
+/// goes past, and in a record of two components; and one that a message with seats of
+/// the middle makes wait.
 fn find(rows: &mut Vec<Row>, records: [&[u8]; 3]) {
     for (what, record) in EACH.into_iter().zip(records) {
         let (longest, hops) = longest_search(record);
@@ -215,6 +230,7 @@ fn find(rows: &mut Vec<Row>, records: [&[u8]; 3]) {
     let (longest, hops) = longest_search(&leaving);
     let what = format!("64 lots, past {HALF} leavers, {hops} hops");
     rows.push(row(&what, &leaving, longest));
+    crashes::find(rows);
     let (longest, _) = longest_search(records[2]);
     rows.push(on_one_message(SEATS, HALF as u8, longest));
 }
@@ -243,6 +259,7 @@ fn longest_search(record: &[u8]) -> (Call, u64) {
 
 fn check(rows: &mut Vec<Row>, records: [&[u8]; 3]) {
     on_each(rows, records, Call::Check);
+    crashes::check(rows);
 }
 
 fn read_lot(rows: &mut Vec<Row>, records: [&[u8]; 3]) {
@@ -286,53 +303,6 @@ const FIRST: Message = Message {
     side: 0,
 };
 
-/// The call of the rows that seat 64 lots and deliver all their messages.
-pub const DRAIN: &str = "drain";
-
-/// 64 joins, then the smallest message until none is left: by single deliveries,
-/// which come first, and by bundles.
-fn draining() -> [Row; 3] {
-    let by_bundles = |limit| {
-        move |model: &mut Model| {
-            model.bundle(limit);
-            Call::Bundle { limit }
-        }
-    };
-    let singly = drain(|model| {
-        let smallest = *model.pending().first().expect("a message is pending");
-        model.deliver(smallest).expect("the message is pending");
-        Call::Deliver(smallest)
-    });
-    let deliveries = singly.len() - SEATS;
-    let row = |how, calls: Vec<Call>| Row {
-        call: DRAIN,
-        record: format!("64 joins, {how}"),
-        start: settled(0),
-        length: calls.len(),
-        calls,
-    };
-    [
-        row(format!("{deliveries} deliveries"), singly),
-        row(format!("bundles of {FEW}"), drain(by_bundles(FEW))),
-        row(String::from("one bundle"), drain(by_bundles(u16::MAX))),
-    ]
-}
-
-/// What a scale may do while it is awake.
-const FEW: u16 = 64;
-
-/// The joins, and the calls that `next` makes until nothing is pending.
-fn drain(mut next: impl FnMut(&mut Model) -> Call) -> Vec<Call> {
-    let (mut model, mut calls) = (Model::open(), joins());
-    for join in &calls {
-        join.on_model(&mut model);
-    }
-    while !model.pending().is_empty() {
-        calls.push(next(&mut model));
-    }
-    calls
-}
-
 /// 64 lots join by the first.
 fn joins() -> Vec<Call> {
     let join = |lot: Member| Call::Join {
@@ -372,8 +342,14 @@ pub fn one_remainder() -> Row {
 
 /// Each link is as in the graph of the members.
 fn settled_of(members: &[Member]) -> Vec<u8> {
+    settled_in(members, &vec![0; members.len()])
+}
+
+/// Each link is as in the graph of the members within its component.
+fn settled_in(members: &[Member], components: &[usize]) -> Vec<u8> {
     let mut lots: Lots = [const { None }; SEATS];
-    for (member, links) in members.iter().zip(graph::links(members)) {
+    let links = graph::links_within(members, components);
+    for (member, links) in members.iter().zip(links) {
         lots[usize::from(member.seat)] = Some(Lot {
             number: member.number,
             vector: member.vector,

@@ -34,6 +34,10 @@ pub enum Call {
         limit: u16,
     },
     Turn,
+    /// Bit 0, the lowest, is seat 0.
+    Crash {
+        seats: u64,
+    },
     Find {
         seat: u8,
         number: u64,
@@ -72,7 +76,7 @@ pub const NO_VALUES: Values = [0; 5];
 const NO_SEAT: u8 = 255;
 
 /// The names of the calls, in the order of [`Call::index`].
-pub const NAMES: [&str; 17] = [
+pub const NAMES: [&str; 18] = [
     "open",
     "join",
     "reserve",
@@ -82,6 +86,7 @@ pub const NAMES: [&str; 17] = [
     "deliver",
     "bundle",
     "turn",
+    "crash",
     "find",
     "check",
     "read_lot",
@@ -103,6 +108,7 @@ pub const REFUSALS: [&[u8]; NAMES.len()] = [
     &[1, 2, 10],
     &[1, 2],
     &[1, 2, 11],
+    &[1, 2, 7, 8, 11],
     &[1, 2, 3, 8, 13],
     &[1, 2],
     &[1, 2, 3, 8],
@@ -125,19 +131,20 @@ impl Call {
             Call::Deliver(_) => 6,
             Call::Bundle { .. } => 7,
             Call::Turn => 8,
-            Call::Find { .. } => 9,
-            Call::Check => 10,
-            Call::ReadLot { .. } => 11,
-            Call::ReadLink { .. } => 12,
-            Call::ReadMessage(_) => 13,
-            Call::ReadCounts => 14,
-            Call::Validate => 15,
-            Call::NextMessage(_) => 16,
+            Call::Crash { .. } => 9,
+            Call::Find { .. } => 10,
+            Call::Check => 11,
+            Call::ReadLot { .. } => 12,
+            Call::ReadLink { .. } => 13,
+            Call::ReadMessage(_) => 14,
+            Call::ReadCounts => 15,
+            Call::Validate => 16,
+            Call::NextMessage(_) => 17,
         }
     }
 
     pub fn changes_bytes(self) -> bool {
-        self.index() <= Call::Turn.index()
+        self.index() <= Call::Crash { seats: 0 }.index()
     }
 
     /// Makes the call on lent bytes.
@@ -161,6 +168,7 @@ impl Call {
             Call::Deliver(message) => done(lent::deliver(bytes, message)),
             Call::Bundle { limit } => one(lent::bundle(bytes, limit)),
             Call::Turn => done(lent::turn(bytes)),
+            Call::Crash { seats } => done(lent::crash(bytes, seats)),
             Call::Find { seat, number } => found(lent::find(bytes, seat, number)),
             Call::Check => one(lent::check(bytes)),
             Call::ReadLot { seat } => lot(lent::read_lot(bytes, seat)),
@@ -200,6 +208,7 @@ impl Call {
             Call::Deliver(message) => done(model.deliver(message)),
             Call::Bundle { limit } => one(Ok(model.bundle(limit))),
             Call::Turn => done(model.turn()),
+            Call::Crash { seats } => done(model.crash(seats)),
             Call::Find { seat, number } => found(model.find(seat, number)),
             Call::Check => one(Ok(model.check())),
             Call::ReadLot { seat } => lot(model.lot(seat).map(|lot| LotRead {

@@ -1,6 +1,7 @@
 //! The example and the cases (a) to (l) of document 01, and a few more that its
 //! words and those of document 02 settle.
 
+mod components;
 mod reservations;
 
 use crate::call::{Answer, Call, NO_VALUES};
@@ -234,13 +235,12 @@ fn q_without(links: &[(u8, usize, u8)]) -> Vec<u8> {
 fn a_search_waits_for_the_check() {
     let level_0 = q_without(&[(1, 0, RIGHT)]);
     let level_1 = q_without(&[(0, 1, RIGHT), (2, 1, LEFT)]);
-    // 200 alone, and 300 alone, beside 100.
-    let all = [(0, 0, RIGHT), (1, 0, LEFT), (1, 0, RIGHT), (2, 0, LEFT)];
-    let lists = q_without(&[&all[..], &[(0, 1, RIGHT), (2, 1, LEFT)]].concat());
+    // 200 alone; 100 and 300 know each other at level 1 only.
+    let one_of_two = q_without(&[(0, 0, RIGHT), (1, 0, LEFT), (1, 0, RIGHT), (2, 0, LEFT)]);
     for (mut bytes, way) in [
         (level_0, Unsettled::Level0),
         (level_1, Unsettled::AboveLevel0),
-        (lists, Unsettled::Lists),
+        (one_of_two, Unsettled::OneOfSeveral),
     ] {
         assert_eq!(Unsettled::of_bytes(&bytes), Some(way));
         let mut model = lent::from_bytes(&bytes).expect("the record is sound");

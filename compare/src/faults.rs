@@ -1,9 +1,11 @@
 //! Each fault of document 01's "Faults that pass a first trial", each bundle that
 //! is not #101's, each search that is not #102's or #104's, each meeting that
-//! writes a link wrongly, #103, and each reservation that is not #105's, put into the
-//! model, is caught by a self check on some script or list of calls; or, where these
-//! cannot show it, by the calls on lent bytes on records that no calls lead to.
+//! writes a link wrongly, #103, each reservation that is not #105's, and each crash,
+//! check and search of several components that is not #106's, put into the model, is
+//! caught by a self check on some script or list of calls; or, where these cannot show
+//! it, by the calls on lent bytes on records that no calls lead to.
 
+mod crashes;
 mod reservations;
 
 use crate::graph::SEATS;
@@ -184,7 +186,11 @@ fn ways_shown(wrong: WrongFind) -> BTreeSet<Option<Unsettled>> {
 
 #[test]
 fn searches_on_records_that_no_calls_lead_to() {
-    let by_check = [Unsettled::Level0, Unsettled::AboveLevel0, Unsettled::Lists];
+    let by_check = [
+        Unsettled::Level0,
+        Unsettled::AboveLevel0,
+        Unsettled::OneOfSeveral,
+    ];
     let shown: [(WrongFind, &[Option<Unsettled>]); 5] = [
         (WrongFind::CheckNotAsked, &by_check.map(Some)),
         (
@@ -192,7 +198,10 @@ fn searches_on_records_that_no_calls_lead_to() {
             &Unsettled::ALL.map(Some),
         ),
         (WrongFind::LeaverUnsettles, &[None]),
-        (WrongFind::OnlyLevel0Asked, &[Some(Unsettled::AboveLevel0)]),
+        (
+            WrongFind::OnlyLevel0Asked,
+            &[Unsettled::AboveLevel0, Unsettled::OneOfSeveral].map(Some),
+        ),
         (WrongFind::HalfOfThePending, &[Some(Unsettled::Pending)]),
     ];
     for (wrong, ways) in shown {

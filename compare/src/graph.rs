@@ -1,9 +1,14 @@
-//! The graph of the members, twice: from document 01's lists, and by the
-//! Constraints of document 000, section 3.4.
+//! The graph of the members, twice: from document 01's lists, made within each
+//! component (document 02, #106), and by the Constraints of document 000, section
+//! 3.4.
 //!
 //! Nothing here knows how links come about; the model is held against it.
 
+mod components;
+
 use std::collections::BTreeMap;
+
+pub use components::{components, links_within};
 
 /// Bits of a membership vector.
 pub const BITS: usize = 8;
@@ -141,13 +146,9 @@ impl<'a> Held<'a> {
         }
     }
 
-    /// Constraints 1 to 4 at levels 0 to 8, 5 and 6 at 0 to 7, and one level-0
-    /// list. A link to a seat that is no member's breaks Constraint 1 or 2.
-    pub fn is_skip_graph(&self) -> bool {
-        self.constraints_hold() && self.one_level_0_list()
-    }
-
-    /// Constraints 1 to 6, of any number of level-0 lists.
+    /// Constraints 1 to 4 at levels 0 to 8, 5 and 6 at 0 to 7: by Theorem 5 of
+    /// document 000, whether every component is a skip graph. A link to a seat that
+    /// is no member's breaks Constraint 1 or 2.
     pub fn constraints_hold(&self) -> bool {
         let mut every = 0..self.members.len();
         // 5 and 6 walk along the links, which 1 and 2 keep from going round.
@@ -197,23 +198,6 @@ impl<'a> Held<'a> {
         None
     }
 
-    /// Every member is reached from the first one along level 0.
-    fn one_level_0_list(&self) -> bool {
-        if self.members.is_empty() {
-            return true;
-        }
-        let reached = |side| {
-            let mut count = 0;
-            let mut at = self.next(0, 0, side);
-            while let Some(y) = at {
-                count += 1;
-                at = self.next(y, 0, side);
-            }
-            count
-        };
-        reached(Side::Left) + 1 + reached(Side::Right) == self.members.len()
-    }
-
     fn next(&self, x: usize, level: usize, side: Side) -> Option<usize> {
         self.links[x][level][side as usize].and_then(|seat| self.place_of(seat))
     }
@@ -240,13 +224,11 @@ mod tests {
         (0..count).map(member).collect()
     }
 
-    /// Two graphs side by side: the members below and above a number.
-    fn split(members: &[Member], at: u64) -> Vec<Links> {
-        let half = |x: &Member| -> Vec<Member> {
-            let same = |y: &&Member| (y.number < at) == (x.number < at);
-            members.iter().filter(same).copied().collect()
-        };
-        members.iter().map(|x| links_of(x, &half(x))).collect()
+    /// Each member in one of so many components.
+    fn split(members: &[Member], into: usize, random: &mut Random) -> Vec<Links> {
+        let component = |_: &Member| random.below(into);
+        let components: Vec<usize> = members.iter().map(component).collect();
+        links_within(members, &components)
     }
 
     /// Points a link to any seat, one of no member too, or to none; one time in
@@ -262,31 +244,31 @@ mod tests {
         }
     }
 
+    /// Theorem 5, by the answer and whether there are several components.
     #[test]
     fn constraints_agree_with_the_definition() {
         let mut random = Random::new(1);
-        let (mut yes, mut no) = (0, 0);
+        let mut met = [[0; 2]; 2];
         for _ in 0..40_000 {
             let members = some_members(&mut random);
-            let right = links(&members);
-            let mut held = match random.below(3) {
-                0 => split(&members, random.below(20) as u64),
-                _ => right.clone(),
-            };
+            let into = random.pick(&[1, 1, 2, 3, 9]);
+            let mut held = split(&members, into, &mut random);
             for _ in 0..random.below(3) {
                 if !members.is_empty() {
                     disturb(&mut held, &mut random);
                 }
             }
-            let says = Held::new(&members, &held).is_skip_graph();
-            assert_eq!(says, held == right, "{members:?} {held:?}");
-            if says {
-                yes += 1;
-            } else {
-                no += 1;
-            }
+            let says = Held::new(&members, &held).constraints_hold();
+            let components = components(&members, &held);
+            let each_is_a_graph = held == links_within(&members, &components);
+            assert_eq!(says, each_is_a_graph, "{members:?} {held:?}");
+            let several = components.iter().any(|&first| first != components[0]);
+            met[usize::from(says)][usize::from(several)] += 1;
         }
-        assert!(yes > 5_000 && no > 5_000);
+        assert!(
+            met.as_flattened().iter().all(|&count| count > 3_000),
+            "{met:?}"
+        );
     }
 
     #[test]

@@ -11,6 +11,7 @@
 mod bundle;
 mod bytes;
 mod check;
+mod crash;
 mod joining;
 mod layout;
 mod next;
@@ -29,6 +30,7 @@ use record::{entries_mut, entry_mut, number_of, parts_mut, send, take_away, Reco
 use sound::{seats, Sound};
 
 pub use bytes::{from_bytes, messages, to_bytes};
+pub use crash::crash;
 pub use joining::{confirm, give_back, join, reserve};
 pub use layout::{message_at, place_of, SIZE};
 
@@ -36,7 +38,7 @@ pub use layout::{message_at, place_of, SIZE};
 pub mod place {
     pub use super::layout::{
         link_at, ENTRIES_AT, ENTRY, GOING, LINKS_AT, NO_LINK, NUMBER_AT, PENDING, PENDING_AT,
-        PHASE_AT, PLACES, STATE_AT, VECTOR_AT,
+        PHASE_AT, PLACES, PROBE, STATE_AT, VECTOR_AT,
     };
 }
 
@@ -145,13 +147,18 @@ fn begin_clearing(bytes: &mut Bytes, leaving: u64) {
 
 fn end_clearing(bytes: &mut Bytes, leaving: u64) {
     bytes[PHASE_AT] = Phase::Open as u8;
+    free(bytes, leaving);
+}
+
+/// Frees the seats of a set, and takes away the links to them.
+fn free(bytes: &mut Bytes, gone: u64) {
     for (seat, entry) in entries_mut(bytes).iter_mut().enumerate() {
-        if leaving >> seat & 1 == 1 {
+        if gone >> seat & 1 == 1 {
             *entry = FREE;
             continue;
         }
         for link in &mut entry[LINKS_AT..] {
-            let freed = is_seat(*link) && leaving >> (*link % 64) & 1 == 1;
+            let freed = is_seat(*link) && gone >> (*link % 64) & 1 == 1;
             *link = if freed { NO_LINK } else { *link };
         }
     }
@@ -167,7 +174,7 @@ pub fn find(bytes: &[u8], start: u8, scanned: u64) -> Result<Found, Refusal> {
     Ok(sound.record.search(start, scanned))
 }
 
-/// Whether the members form one skip graph, by Constraints 1 to 6.
+/// Whether every component of the members is a skip graph, by Constraints 1 to 6.
 /// Refusals: 1, 2.
 pub fn check(bytes: &[u8]) -> Result<bool, Refusal> {
     let sound = sound::test(bytes)?;
@@ -175,7 +182,7 @@ pub fn check(bytes: &[u8]) -> Result<bool, Refusal> {
     if sound.record.is_clearing() {
         members &= !sound.leaving;
     }
-    Ok(check::is_graph(sound.record, members))
+    Ok(check::are_graphs(sound.record, members))
 }
 
 /// Reads a lot, a reserved one too. Refusals: 1, 2, 3, 8.
@@ -270,7 +277,7 @@ fn must_be_seated(record: Record, seat: u8) -> Result<(), Refusal> {
 fn must_be_settled(sound: &Sound) -> Result<(), Refusal> {
     let record = sound.record;
     let at_rest = sound.pending == 0 && !record.is_clearing();
-    match at_rest && check::is_graph(record, sound.seated) {
+    match at_rest && check::are_graphs(record, sound.seated) {
         true => Ok(()),
         false => Err(Refusal::Unsettled),
     }

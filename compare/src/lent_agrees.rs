@@ -77,7 +77,7 @@ fn on_scripts() {
 #[test]
 fn on_lists() {
     let mut accepted = [0; NAMES.len()];
-    for index in 0..60 {
+    for index in 0..90 {
         let mut model = Model::open();
         let mut bytes = to_bytes(&model);
         for call in list::generate(4, index, 100) {

@@ -2,11 +2,12 @@
 //! `lots`.
 //!
 //! - [`model`] is the record: lots, links, pending messages and the calls.
-//! - [`graph`] is what the links must come to: the lists of the members, and
-//!   Constraints 1 to 6 of document 000.
+//! - [`graph`] is what the links must come to: the lists of the members, within each
+//!   component, and Constraints 1 to 6 of document 000.
 //! - [`lent`] is the calls on lent bytes; [`call`] is a call with its answer, and
 //!   [`inputs`] makes records and calls from a seed; [`unsettled`] tells apart
-//!   why a search is refused, [`reserved`] what calls meet of reserved lots.
+//!   why a search is refused, [`reserved`] what calls meet of reserved lots,
+//!   [`crashed`] what they meet of crashes and of several components.
 //! - [`text`] is the command language of the program `lots`.
 //! - [`roster`] is document 01's roster with its table of refusals; [`scan`] is
 //!   what a search has to answer, by numbers and states.
@@ -27,8 +28,10 @@
 //! assert_eq!(model.find(0, 250).unwrap().holder, Some(1));
 //! ```
 
+mod before;
 pub mod call;
 pub mod child;
+pub mod crashed;
 pub mod graph;
 pub mod inputs;
 pub mod lent;

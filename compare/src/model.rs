@@ -5,6 +5,8 @@
 //! that applies, and then changes nothing. Rows 1 and 2 speak of lent memory:
 //! a model has no size, and [`Model::from_parts`] is where it could be unsound.
 
+mod clearing;
+mod crash;
 mod fault;
 mod joining;
 mod message;
@@ -12,6 +14,10 @@ mod refusal;
 mod sound;
 #[cfg(test)]
 mod wrong_bundle;
+#[cfg(test)]
+mod wrong_check;
+#[cfg(test)]
+mod wrong_crash;
 #[cfg(test)]
 mod wrong_find;
 #[cfg(test)]
@@ -23,7 +29,7 @@ mod wrong_reserved;
 #[cfg(test)]
 mod wrong_reserving;
 
-use crate::graph::{Held, Links, Member, Side, LEVELS, SEATS, SIDES};
+use crate::graph::{Held, Links, Member, Side, LEVELS, SEATS};
 use crate::rules::{Entries, Rules};
 use crate::search::Search;
 use std::collections::BTreeSet;
@@ -36,6 +42,10 @@ pub use crate::search::Found;
 pub(crate) use fault::Fault;
 #[cfg(test)]
 pub(crate) use wrong_bundle::WrongBundle;
+#[cfg(test)]
+pub(crate) use wrong_check::WrongCheck;
+#[cfg(test)]
+pub(crate) use wrong_crash::WrongCrash;
 #[cfg(test)]
 pub(crate) use wrong_find::WrongFind;
 #[cfg(test)]
@@ -149,6 +159,26 @@ impl Model {
         }
     }
 
+    fn must_be_drained(&self) -> Result<(), Refusal> {
+        match self.pending.is_empty() {
+            true => Ok(()),
+            false => Err(Refusal::MessagesLeft),
+        }
+    }
+
+    /// Frees seats, and takes away the links to them.
+    fn free(&mut self, is_gone: impl Fn(u8, &Lot) -> bool) {
+        for (seat, lot) in (0..).zip(&mut self.lots) {
+            lot.take_if(|lot| is_gone(seat, lot));
+        }
+        let free: Vec<bool> = self.lots.iter().map(Option::is_none).collect();
+        for lot in self.lots.iter_mut().flatten() {
+            for link in lot.links.iter_mut().flatten() {
+                link.take_if(|seat| free[usize::from(*seat)]);
+            }
+        }
+    }
+
     /// What the delivery of a pending message would do.
     pub fn effect(&self, message: Message) -> Effect {
         Rules::effect(self, message)
@@ -211,42 +241,6 @@ impl Model {
         smallest.is_some_and(|message| self.deliver(message).is_ok())
     }
 
-    /// Goes from open with leavers to clearing, and from clearing to open.
-    /// Refusals: 11.
-    pub fn turn(&mut self) -> Result<(), Refusal> {
-        if !self.pending.is_empty() {
-            return Err(Refusal::MessagesLeft);
-        }
-        match self.phase {
-            Phase::Open => self.begin_clearing(),
-            Phase::Clearing => self.end_clearing(),
-        }
-        Ok(())
-    }
-
-    fn begin_clearing(&mut self) {
-        let leavers = || self.seated().filter(|(_, lot)| lot.state == State::Leaving);
-        if leavers().next().is_none() {
-            return;
-        }
-        let sends: Vec<Message> = leavers().flat_map(|(_, lot)| goings(&lot.links)).collect();
-        self.pending.extend(sends);
-        self.phase = Phase::Clearing;
-    }
-
-    fn end_clearing(&mut self) {
-        for lot in &mut self.lots {
-            lot.take_if(|lot| lot.state == State::Leaving);
-        }
-        let free: Vec<bool> = self.lots.iter().map(Option::is_none).collect();
-        for lot in self.lots.iter_mut().flatten() {
-            for link in lot.links.iter_mut().flatten() {
-                link.take_if(|seat| free[usize::from(*seat)]);
-            }
-        }
-        self.phase = Phase::Open;
-    }
-
     /// The search of document 000 from level 8, past lots that are leaving, on a
     /// settled record. Refusals: 3, 8, 13.
     pub fn find(&self, start: u8, scanned: u64) -> Result<Found, Refusal> {
@@ -274,10 +268,13 @@ impl Model {
         self.phase == Phase::Open && self.pending.is_empty() && self.check()
     }
 
-    /// Whether the members form one skip graph, by Constraints 1 to 6.
+    /// Whether every component of the members is a skip graph, by Constraints 1 to 6.
     pub fn check(&self) -> bool {
         let links = self.member_links();
-        Held::new(&self.members(), &links).is_skip_graph()
+        let says = Held::new(&self.members(), &links).constraints_hold();
+        #[cfg(test)]
+        let says = self.wrong_check(says);
+        says
     }
 
     /// Reads a lot, a reserved one too. Refusals: 3, 8.
@@ -399,18 +396,6 @@ impl Entries for Model {
     fn has(&self, fault: Fault) -> bool {
         self.has_fault(fault)
     }
-}
-
-/// What a leaver with these links sends: the receiver has it on the other side.
-fn goings(links: &Links) -> Vec<Message> {
-    let mut sends = Vec::new();
-    for (level, pair) in (0u8..).zip(links) {
-        for side in SIDES {
-            let going = |to| Message::going(to, level, side.away());
-            sends.extend(pair[side as usize].map(going));
-        }
-    }
-    sends
 }
 
 fn must_be_seat(seat: u8) -> Result<(), Refusal> {

@@ -3,23 +3,16 @@
 
 mod unsound;
 
+use crate::before::{Before, Clearing, Pending, FREE, LEAVING, RESERVED, STAYING};
 use crate::call::{Answer, Call, NAMES, REFUSALS};
 use crate::graph::SEATS;
-use crate::lent::place::{ENTRIES_AT, ENTRY, NUMBER_AT, PENDING_AT, PHASE_AT, STATE_AT, VECTOR_AT};
-use crate::model::{State, NO_CONTACT};
+use crate::model::NO_CONTACT;
 use std::collections::BTreeSet;
 
 pub use unsound::Unsound;
 
 /// The name of a call, as in [`NAMES`].
 type Name = &'static str;
-type Clearing = bool;
-type Pending = bool;
-
-const FREE: u8 = 0;
-const STAYING: u8 = State::Staying as u8;
-const LEAVING: u8 = State::Leaving as u8;
-const RESERVED: u8 = State::Reserved as u8;
 
 #[derive(Clone, Copy, PartialEq, Eq, PartialOrd, Ord, Debug)]
 pub enum Met {
@@ -179,16 +172,9 @@ pub fn met(call: Call, answer: Answer, record: &[u8]) -> Vec<Met> {
     met
 }
 
-/// The record before a call.
-struct Before<'a> {
-    record: &'a [u8],
-}
-
 impl Before<'_> {
     fn answered(&self, name: Name, refusal: u8) -> Met {
-        let clearing = self.record[PHASE_AT] == 1;
-        let pending = self.record[PENDING_AT..].iter().any(|&byte| byte != 0);
-        Met::Answered(name, refusal, clearing, pending)
+        Met::Answered(name, refusal, self.is_clearing(), self.has_pending())
     }
 
     fn beside(&self, call: Call, answer: Answer) -> Option<Beside> {
@@ -199,7 +185,7 @@ impl Before<'_> {
             Call::Leave { .. } => Some(Beside::Leave),
             Call::Deliver(message) => Some(Beside::Delivery(message.kind)),
             Call::Bundle { .. } => (value > 0).then_some(Beside::Bundle),
-            Call::Turn if self.record[PHASE_AT] == 1 => Some(Beside::TurnToOpen),
+            Call::Turn if self.is_clearing() => Some(Beside::TurnToOpen),
             Call::Turn if self.count(LEAVING) > 0 => Some(Beside::TurnToClearing),
             Call::Turn => Some(Beside::IdleTurn),
             Call::Find { .. } if value == NO_CONTACT.into() => Some(Beside::NoHolder),
@@ -261,24 +247,6 @@ impl Before<'_> {
 
     fn reserves_0(&self) -> bool {
         let mut reserved = (0..SEATS as u8).filter(|&seat| self.state(seat) == RESERVED);
-        reserved.any(|seat| self.number(seat) == 0 && self.entry(seat)[VECTOR_AT] == 0)
-    }
-
-    fn count(&self, state: u8) -> usize {
-        let seats = 0..SEATS as u8;
-        seats.filter(|&seat| self.state(seat) == state).count()
-    }
-
-    fn state(&self, seat: u8) -> u8 {
-        self.entry(seat)[STATE_AT]
-    }
-
-    fn number(&self, seat: u8) -> u64 {
-        let number = self.entry(seat)[NUMBER_AT..VECTOR_AT].iter();
-        number.fold(0, |number, &byte| number << 8 | u64::from(byte))
-    }
-
-    fn entry(&self, seat: u8) -> &[u8] {
-        &self.record[ENTRIES_AT + ENTRY * usize::from(seat)..][..ENTRY]
+        reserved.any(|seat| self.number(seat) == 0 && self.vector(seat) == 0)
     }
 }

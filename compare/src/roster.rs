@@ -1,21 +1,31 @@
 //! Document 01's roster, kept from each call's arguments and whether it was
 //! refused, and from nothing else; and the table of refusals read on it. Since
-//! document 02, #105, it keeps reservations too.
+//! document 02, #105, it keeps reservations too, since #106 each lot's component.
+
+mod components;
 
 use crate::call::{Answer, Call};
 use crate::graph::{Member, LEVELS, SEATS};
 use crate::model::{Message, Model, Phase, Refusal, State, NO_CONTACT};
+use components::Component;
 use std::collections::{BTreeMap, BTreeSet};
 
 struct Lot {
     number: u64,
     vector: u8,
     state: State,
+    /// None of a reserved lot.
+    component: Option<Component>,
 }
 
 pub struct Roster {
     lots: BTreeMap<u8, Lot>,
     phase: Phase,
+    /// How many components there have been.
+    components: Component,
+    /// A crash leaves the components as they were, which is wrong.
+    #[cfg(test)]
+    pub(crate) never_cut: bool,
 }
 
 impl Default for Roster {
@@ -29,6 +39,9 @@ impl Roster {
         Roster {
             lots: BTreeMap::new(),
             phase: Phase::Open,
+            components: 0,
+            #[cfg(test)]
+            never_cut: false,
         }
     }
 
@@ -47,6 +60,7 @@ impl Roster {
             }
             (Refusal::InClearing, Call::Join { .. } | Call::Leave { .. }) => clearing,
             (Refusal::InClearing, Call::Reserve { .. } | Call::Confirm { .. }) => clearing,
+            (Refusal::InClearing, Call::Crash { .. }) => clearing,
             (Refusal::SeatTaken, Call::Join { seat, .. } | Call::Reserve { seat, .. }) => {
                 !self.is_free(seat)
             }
@@ -58,6 +72,9 @@ impl Roster {
             }
             (Refusal::EmptySeat, Call::ReadLink { seat, .. }) => !self.is_seated(seat),
             (Refusal::EmptySeat, Call::ReadLot { seat }) => self.is_free(seat),
+            (Refusal::EmptySeat, Call::Crash { seats }) => {
+                named(seats).any(|seat| !self.is_seated(seat))
+            }
             // With nothing pending in phase open, the check of calls' records says yes.
             (Refusal::Unsettled, Call::Find { .. }) => clearing || !pending.is_empty(),
             (Refusal::NumberInUse, Call::Join { number, .. } | Call::Reserve { number, .. }) => {
@@ -73,7 +90,7 @@ impl Roster {
                 self.state(seat) == Some(State::Leaving)
             }
             (Refusal::NoSuchMessage, Call::Deliver(message)) => !pending.contains(&message),
-            (Refusal::MessagesLeft, Call::Turn) => !pending.is_empty(),
+            (Refusal::MessagesLeft, Call::Turn | Call::Crash { .. }) => !pending.is_empty(),
             _ => false,
         }
     }
@@ -81,35 +98,56 @@ impl Roster {
     /// Takes an accepted call in.
     pub fn accept(&mut self, call: Call) {
         match call {
-            Call::Open => *self = Roster::new(),
+            Call::Open => self.open(),
             Call::Join {
                 seat,
                 number,
                 vector,
-                ..
-            } => self.add(seat, number, vector, State::Staying),
+                contact,
+            } => {
+                self.reserve(seat, number, vector);
+                self.confirm(seat, contact);
+            }
             Call::Reserve {
                 seat,
                 number,
                 vector,
-            } => self.add(seat, number, vector, State::Reserved),
-            Call::Confirm { seat, .. } => self.mark(seat, State::Staying),
+            } => self.reserve(seat, number, vector),
+            Call::Confirm { seat, contact } => self.confirm(seat, contact),
             Call::GiveBack { seat } => {
                 self.lots.remove(&seat);
             }
             Call::Leave { seat } => self.mark(seat, State::Leaving),
             Call::Turn => self.turn(),
+            Call::Crash { seats } => self.crash(seats),
             _ => {}
         }
     }
 
-    fn add(&mut self, seat: u8, number: u64, vector: u8, state: State) {
+    fn open(&mut self) {
+        *self = Roster {
+            #[cfg(test)]
+            never_cut: self.never_cut,
+            ..Roster::new()
+        };
+    }
+
+    fn reserve(&mut self, seat: u8, number: u64, vector: u8) {
         let lot = Lot {
             number,
             vector,
-            state,
+            state: State::Reserved,
+            component: None,
         };
         self.lots.insert(seat, lot);
+    }
+
+    fn confirm(&mut self, seat: u8, contact: u8) {
+        let component = self.component_through(contact);
+        let lot = self.lots.get_mut(&seat);
+        let lot = lot.expect("the call names a lot");
+        lot.state = State::Staying;
+        lot.component = Some(component);
     }
 
     fn mark(&mut self, seat: u8, state: State) {
@@ -185,6 +223,11 @@ impl Roster {
     fn is_seated(&self, seat: u8) -> bool {
         matches!(self.state(seat), Some(State::Staying | State::Leaving))
     }
+}
+
+/// The seats of a set.
+fn named(seats: u64) -> impl Iterator<Item = u8> {
+    (0..SEATS as u8).filter(move |seat| seats >> seat & 1 == 1)
 }
 
 /// Row 3: a seat above 63, or a contact that is neither a seat nor 255.

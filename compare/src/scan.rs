@@ -1,15 +1,17 @@
 //! What a search of a settled record has to answer, by the numbers, vectors and
-//! states of its seated lots alone. No link is read: the lots of a level with the same
-//! first bits are one list, and a walk along it passes those between.
+//! states of the seated lots of its start's component alone. No link is read but to
+//! tell which lots these are: those of a level with the same first bits are one list,
+//! and a walk along it passes those between.
 
-use crate::graph::{first_bits, Member, LEVELS};
+use crate::graph::{components, first_bits, Member, LEVELS};
 use crate::lent;
 use crate::model::{Found, Model, State};
 
 /// A search from a lot, told in its parts.
 #[derive(Clone, Copy, PartialEq, Eq, Debug)]
 pub struct Scan {
-    /// The staying lot with the largest number not above the scanned one.
+    /// The staying lot with the largest number not above the scanned one, of the
+    /// start's component.
     pub holder: Option<u8>,
     /// Of the walk; fewer than the lots.
     pub moves: u32,
@@ -21,7 +23,8 @@ pub struct Scan {
 }
 
 impl Scan {
-    /// From the lot on a seat of these; none if there is no such lot.
+    /// From the lot on a seat of these, which are one component; none if there is no
+    /// such lot.
     pub fn of(lots: &[(Member, State)], start: u8, scanned: u64) -> Option<Scan> {
         let mut members = lots.iter().map(|(member, _)| member);
         let start = members.find(|member| member.seat == start)?;
@@ -39,15 +42,16 @@ impl Scan {
         })
     }
 
+    /// Of a settled record, whose members are its seated lots.
     pub fn of_model(model: &Model, start: u8, scanned: u64) -> Option<Scan> {
-        let lots = model.seated().map(|(seat, lot)| {
-            let (number, vector) = (lot.number, lot.vector);
-            let member = Member {
-                seat,
-                number,
-                vector,
-            };
-            (member, lot.state)
+        let members: Vec<Member> = model.members();
+        let components = components(&members, &model.member_links());
+        let place = members.iter().position(|member| member.seat == start)?;
+        let both = members.into_iter().zip(&components);
+        let beside = both.filter(|(_, component)| **component == components[place]);
+        let lots = beside.filter_map(|(member, _)| {
+            let lot = model.lot(member.seat).ok()?;
+            Some((member, lot.state))
         });
         Scan::of(&lots.collect::<Vec<_>>(), start, scanned)
     }

@@ -1,14 +1,16 @@
 //! Runs a script, or a list of calls, on the model and checks the model as it
 //! goes: against the roster and the table after every line or call, and against
-//! the graph of the members; bundles against single deliveries, and joins against
-//! reservations.
+//! the graph of the members, made within each component; bundles against single
+//! deliveries, joins against reservations, and crashes against what is left once all
+//! is delivered.
 
 mod bundles;
+mod crash;
 mod joining;
 mod searches;
 
 use crate::call::{Answer, Call};
-use crate::graph::{self, Links, Member};
+use crate::graph::{components, links_within, Links, Member};
 use crate::model::{Message, Model, Refusal};
 use crate::reach::{Mark, Reach};
 use crate::roster::Roster;
@@ -79,12 +81,18 @@ pub(crate) fn run_on(model: Model, input: &[u8]) -> Result<Run, Failure> {
 
 /// Runs a list of calls on a fresh model.
 pub fn run_list(list: &[Call]) -> Result<(), Failure> {
-    run_list_on(Model::open(), list)
+    run_list_beside(Roster::new(), Model::open(), list)
 }
 
 /// Runs a list of calls on a given empty model.
+#[cfg(test)]
 pub(crate) fn run_list_on(model: Model, list: &[Call]) -> Result<(), Failure> {
-    let mut checked = Checked::new(model);
+    run_list_beside(Roster::new(), model, list)
+}
+
+/// Runs a list of calls on a given empty model beside a given empty roster.
+pub(crate) fn run_list_beside(roster: Roster, model: Model, list: &[Call]) -> Result<(), Failure> {
+    let mut checked = Checked { model, roster };
     (1..).zip(list).try_for_each(|(line, &call)| {
         let before = checked.model.clone();
         let answer = call.on_model(&mut checked.model);
@@ -164,6 +172,7 @@ impl Checked {
             Call::Deliver(message) => self.delivery(message, before),
             Call::Bundle { limit } => bundles::check_call(before, limit, answer, &self.model),
             Call::Find { seat, number } => self.search(seat, number, answer),
+            Call::Crash { seats } => crash::check(seats, before, &self.model),
             _ => joining::check(call, before, &self.model),
         }
     }
@@ -198,30 +207,35 @@ impl Checked {
             self.model.members() == members,
             "the members are not the roster's",
         )?;
-        let right = self.reads_as_graph(&members);
         if self.model.pending().is_empty() {
-            holds(right, "settled links are not the graph of the members")?;
+            holds(
+                self.reads_as(&members, &self.roster.links()),
+                "settled links are not the graph of the members",
+            )?;
         }
+        let components = components(&members, &self.model.member_links());
+        let right = self.reads_as(&members, &links_within(&members, &components));
         holds(
             self.model.check() == right,
             "the check is not the definition's",
         )
     }
 
-    /// Whether each link of each member reads as in the graph of the members.
-    fn reads_as_graph(&self, members: &[Member]) -> bool {
-        let reads = |(member, links): (&Member, Links)| {
+    /// Whether each link of each member reads as one of these, in the order of the
+    /// members.
+    fn reads_as(&self, members: &[Member], links: &[Links]) -> bool {
+        let reads = |(member, links): (&Member, &Links)| {
             (0u8..).zip(links).all(|(level, pair)| {
                 (0u8..)
                     .zip(pair)
-                    .all(|(side, link)| self.model.link(member.seat, level, side) == Ok(link))
+                    .all(|(side, &link)| self.model.link(member.seat, level, side) == Ok(link))
             })
         };
-        members.iter().zip(graph::links(members)).all(reads)
+        members.iter().zip(links).all(reads)
     }
 
     fn search(&self, start: u8, scanned: u64, answer: Answer) -> Check {
-        let lots = self.roster.seated();
+        let lots = self.roster.beside(start);
         let scan = Scan::of(&lots, start, scanned).ok_or("a search started from no lot")?;
         let right = Answer::found(scan.found());
         let [holder, hops, ..] = right.values;

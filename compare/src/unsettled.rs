@@ -1,7 +1,7 @@
 //! The ways in which a sound record is not settled, each a reason to refuse a
 //! search with 13.
 
-use crate::graph::{self, Held};
+use crate::graph::{components, links_within};
 use crate::lent;
 use crate::model::{Model, Phase};
 
@@ -12,12 +12,13 @@ pub enum Unsettled {
     /// The phase is clearing, nothing is pending.
     Clearing,
     PendingInClearing,
-    /// The check alone says no: a link at level 0 is wrong.
+    /// The check alone says no, all lots are one component, and a link at level 0 is
+    /// wrong.
     Level0,
-    /// A link is wrong, but none at level 0.
+    /// The same, and no link at level 0 is wrong.
     AboveLevel0,
-    /// Constraints 1 to 6 hold, in more than one level-0 list.
-    Lists,
+    /// The check alone says no: of several components one is no skip graph, or more.
+    OneOfSeveral,
 }
 
 impl Unsettled {
@@ -27,7 +28,7 @@ impl Unsettled {
         Unsettled::PendingInClearing,
         Unsettled::Level0,
         Unsettled::AboveLevel0,
-        Unsettled::Lists,
+        Unsettled::OneOfSeveral,
     ];
 
     /// Of the bytes of a sound record; none if it is settled.
@@ -43,14 +44,15 @@ impl Unsettled {
 
     fn by_links(model: &Model) -> Option<Unsettled> {
         let (members, held) = (model.members(), model.member_links());
-        let right = graph::links(&members);
+        let components = components(&members, &held);
+        let right = links_within(&members, &components);
         let mut both = right.iter().zip(&held);
         if right == held {
             None
+        } else if components.iter().any(|&other| other != components[0]) {
+            Some(Unsettled::OneOfSeveral)
         } else if both.all(|(right, held)| right[0] == held[0]) {
             Some(Unsettled::AboveLevel0)
-        } else if Held::new(&members, &held).constraints_hold() {
-            Some(Unsettled::Lists)
         } else {
             Some(Unsettled::Level0)
         }

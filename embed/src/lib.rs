@@ -1,8 +1,8 @@
 //! A record of lots in lent memory, whose calls are proved.
 //!
 //! The record holds 64 seats, a phase and the pending messages. Lots join, at once
-//! or reserved first, and leave, messages between them are delivered in any order,
-//! and a scanned number is looked up from any seated lot. The work is done by the
+//! or reserved first, leave or crash, messages between them are delivered in any
+//! order, and a scanned number is looked up from any seated lot. The work is done by the
 //! static library `lots_library`, written and proved in Rattle; this crate lends it
 //! bytes and gives its answers types. It allocates nothing.
 //!

@@ -1,5 +1,6 @@
 //! The record and its calls.
 
+mod crash;
 mod joining;
 
 use crate::pending::{next_in, PendingMessages};
@@ -224,8 +225,9 @@ impl<B: AsRef<[u8]>> Record<B> {
     }
 
     /// Looks up a scanned number from the seated lot on a seat: the holder is the
-    /// staying lot with the largest number not above it, none if no staying lot has
-    /// such a number.
+    /// staying lot with the largest number not above it, of those that links join to
+    /// the start directly or through others; none if no staying lot of these has such
+    /// a number.
     ///
     /// Every accepted scan gives the right holder. It waits for a settled record:
     /// phase open, nothing pending, and [`check`](Record::check) would say yes.
@@ -266,8 +268,12 @@ impl<B: AsRef<[u8]>> Record<B> {
         Ok(Found { holder, hops })
     }
 
-    /// Whether the links of all seated lots, while clearing of the staying ones, are
-    /// those of the skip graph: Constraints 1 to 6 hold, in one level-0 list.
+    /// Whether every component is the skip graph of its own lots: Constraints 1 to 6
+    /// hold. Seated lots, while clearing staying ones, that are joined by links among
+    /// them, directly or through others, are a component.
+    ///
+    /// There may be several components, after a [`crash`](Record::crash), or while a
+    /// newcomer has no link yet: a pending message is no link.
     ///
     /// Refusals: 1 wrong size, 2 unsound.
     ///
@@ -276,9 +282,13 @@ impl<B: AsRef<[u8]>> Record<B> {
     ///
     /// let mut record = Record::new();
     /// record.join(0, 100, 0, None)?;
-    /// assert!(record.check()?);
     /// record.join(1, 200, 128, Some(0))?;
+    /// assert!(record.check()?);
+    /// // Lot 100 knows lot 200, which does not know lot 100 yet.
+    /// record.bundle(1)?;
     /// assert!(!record.check()?);
+    /// record.bundle(50)?;
+    /// assert!(record.check()?);
     /// # Ok::<(), lots_record::Refusal>(())
     /// ```
     #[doc(alias = "lots_check")]

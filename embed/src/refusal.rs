@@ -33,7 +33,7 @@ pub enum Refusal {
     /// 6: no lot is seated on the contact's seat, or there is no contact while lots
     /// are seated.
     NoContact = 6,
-    /// 7: no lot joins, is reserved, is confirmed or leaves in phase clearing.
+    /// 7: no lot joins, is reserved, is confirmed, leaves or crashes in phase clearing.
     InClearing = 7,
     /// 8: no lot is seated there; to read a lot, none is reserved there either.
     EmptySeat = 8,
@@ -41,7 +41,7 @@ pub enum Refusal {
     AlreadyLeaving = 9,
     /// 10: these five numbers are no pending message.
     NoSuchMessage = 10,
-    /// 11: no turn while messages are pending.
+    /// 11: no turn and no crash while messages are pending.
     MessagesLeft = 11,
     /// 12: a level above 8 or a side above 1.
     NoSuchLevel = 12,

@@ -38,6 +38,8 @@ extern "C" {
 
     pub fn lots_turn(record: *mut u8, length: usize) -> u8;
 
+    pub fn lots_crash(record: *mut u8, length: usize, seats: u64) -> u8;
+
     pub fn lots_find(
         record: *const u8,
         length: usize,

@@ -1,9 +1,13 @@
 //! Faults put into a library, each caught. The faulty ones here are the calls on
 //! lent bytes with something wrong; the real library takes no part.
 
+#[macro_use]
+mod on_bytes;
+
 mod behaviour;
 mod blind;
 mod bundles;
+mod crashes;
 mod holders;
 mod meetings;
 mod reservations;
@@ -15,7 +19,7 @@ use crate::round::{self, opened};
 use crate::sys::{Make, Outcome};
 use crate::tally::Tally;
 use compare::call::Call;
-use compare::graph;
+use compare::graph::{components, links_within};
 use compare::lent::from_bytes;
 use compare::lent::place::{link_at, ENTRIES_AT, ENTRY, NO_LINK};
 use std::ops::Range;
@@ -42,11 +46,13 @@ fn right(memory: &mut [u8], record: Range<usize>, call: Call, _: u64) -> Outcome
     }
 }
 
-/// Sets the links of the members of a sound record as in their graph, at some
-/// levels.
+/// Sets the links of the members of a sound record as in the graph of each component,
+/// at some levels.
 fn put_right(bytes: &mut [u8], levels: Range<usize>) {
-    let members = from_bytes(bytes).expect("the record is sound").members();
-    for (member, links) in members.iter().zip(graph::links(&members)) {
+    let model = from_bytes(bytes).expect("the record is sound");
+    let members = model.members();
+    let components = components(&members, &model.member_links());
+    for (member, links) in members.iter().zip(links_within(&members, &components)) {
         for level in levels.clone() {
             for (side, link) in links[level].into_iter().enumerate() {
                 let at = ENTRIES_AT + ENTRY * usize::from(member.seat) + link_at(level, side);

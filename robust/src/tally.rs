@@ -1,11 +1,14 @@
 //! How often each call met each answer.
 
+mod cases;
+mod crashed;
 pub(crate) mod leavers;
 mod reserved;
 mod searches;
 
 use compare::call::{Answer, Call, NAMES, REFUSALS};
 use compare::model::Refusal;
+use crashed::Crashed;
 use leavers::Leavers;
 use reserved::Reserved;
 use searches::Searches;
@@ -50,6 +53,7 @@ pub struct Tally {
     searches: Searches,
     leavers: Leavers,
     reserved: Reserved,
+    crashed: Crashed,
     /// Calls that were made on the model too.
     pub on_model: u64,
 }
@@ -59,6 +63,7 @@ impl Tally {
     pub fn count(&mut self, call: Call, answer: Answer, record: &[u8], source: Source) {
         self.calls[call.index()][usize::from(answer.refusal)] += 1;
         self.reserved.count(call, answer, record, source);
+        self.crashed.count(call, answer, record, source);
         if let Call::Find { seat, number } = call {
             match answer.refusal {
                 0 => self.leavers.count(seat, number, record, source),
@@ -107,6 +112,7 @@ impl Tally {
         gaps.extend(self.searches.gaps());
         gaps.extend(self.leavers.gaps());
         gaps.extend(self.reserved.gaps());
+        gaps.extend(self.crashed.gaps());
         gaps
     }
 }
@@ -138,7 +144,8 @@ impl fmt::Display for Tally {
             write!(f, "  {case}: {count}")?;
         }
         writeln!(f)?;
-        write!(f, "{}{}{}", self.searches, self.leavers, self.reserved)
+        write!(f, "{}{}", self.searches, self.leavers)?;
+        write!(f, "{}{}", self.reserved, self.crashed)
     }
 }
 
@@ -156,9 +163,9 @@ mod tests {
             tally.gaps()
         };
         let searches = Searches::default().gaps().len() + Leavers::default().gaps().len();
-        let reserved = Reserved::default().gaps().len();
+        let cases = Reserved::default().gaps().len() + Crashed::default().gaps().len();
         let allowed: usize = REFUSALS.iter().map(|rows| rows.len() + 1).sum();
-        let all = allowed + CASES.len() + searches + reserved;
+        let all = allowed + CASES.len() + searches + cases;
         assert_eq!(count(Call::Turn, Answer::refused(11)).len(), all - 1);
         let yes = Answer::accepted([1, 0, 0, 0, 0]);
         assert_eq!(count(Call::Check, yes).len(), all - 3);

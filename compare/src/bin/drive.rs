@@ -4,9 +4,10 @@
 
 use compare::call::Call;
 use compare::child::{self, End, Output, Running};
+use compare::crashed;
 use compare::list;
 use compare::reach::{self, Mark};
-use compare::reserved::{self, Met};
+use compare::reserved;
 use compare::script::{self, fixed, Script};
 use compare::selfcheck::{self, Failure, Run, Searches};
 use compare::{shrink, text};
@@ -138,7 +139,8 @@ impl Totals {
 struct Lists {
     lists: usize,
     calls: usize,
-    met: BTreeSet<Met>,
+    reserved: BTreeSet<reserved::Met>,
+    crashed: BTreeSet<crashed::Met>,
 }
 
 impl Lists {
@@ -148,7 +150,8 @@ impl Lists {
         let Err(failure) = selfcheck::run_list(list) else {
             self.lists += 1;
             self.calls += list.len();
-            self.met.extend(list::met(list));
+            self.reserved.extend(list::met(list, reserved::met));
+            self.crashed.extend(list::met(list, crashed::met));
             return true;
         };
         println!(
@@ -198,9 +201,12 @@ fn drive(options: &Options) -> io::Result<ExitCode> {
     print_reached(("marks", "scripts"), &reach::all(), of_fixed, of_generated);
     println!("searches of fixed scripts: {}", fixed.searches);
     println!("searches of generated scripts: {}", generated.searches);
-    let (of_fixed, of_generated) = (&fixed_lists.met, &lists.met);
+    let (of_fixed, of_generated) = (&fixed_lists.reserved, &lists.reserved);
     let what = ("cases of reserved lots", "lists");
     print_reached(what, &reserved::all(), of_fixed, of_generated);
+    let (of_fixed, of_generated) = (&fixed_lists.crashed, &lists.crashed);
+    let what = ("cases of crashes and components", "lists");
+    print_reached(what, &crashed::all(), of_fixed, of_generated);
     let calls = fixed_lists.calls + lists.calls;
     println!(
         "{lines} lines, {deliveries} deliveries, {calls} calls of lists, {seconds:.1} seconds"

@@ -1,5 +1,6 @@
 //! Calls with arguments that mostly mean something in a given record.
 
+mod crash;
 mod joining;
 
 use super::{entry_at, is_reserved, is_seated, state};
@@ -28,6 +29,8 @@ pub enum Style {
     Closing,
     /// Reservations, confirmed or given back, while all else goes on.
     Reserving,
+    /// Lots crash, mostly in records at rest, while others join and leave.
+    Crashing,
 }
 
 #[derive(Clone, Copy)]
@@ -43,13 +46,14 @@ enum Name {
     /// A bundle of all.
     Settle,
     Turn,
+    Crash,
     Find,
     Check,
     Read,
 }
 
 impl Style {
-    pub const ALL: [Style; 7] = [
+    pub const ALL: [Style; 8] = [
         Style::Busy,
         Style::Draining,
         Style::Turning,
@@ -57,24 +61,26 @@ impl Style {
         Style::Scanning,
         Style::Closing,
         Style::Reserving,
+        Style::Crashing,
     ];
 
     fn weights(self) -> [(Name, usize); NAMES.len()] {
         let weights = match self {
-            Style::Busy => [1, 120, 15, 12, 4, 40, 150, 15, 0, 10, 20, 10, 30],
-            Style::Draining => [0, 4, 2, 2, 1, 2, 400, 20, 0, 10, 10, 10, 20],
-            Style::Turning => [1, 20, 6, 6, 4, 40, 200, 40, 0, 90, 10, 20, 20],
-            Style::Asking => [1, 10, 4, 2, 2, 5, 50, 5, 0, 10, 100, 80, 150],
-            Style::Scanning => [0, 15, 4, 3, 2, 1, 5, 0, 60, 20, 400, 10, 10],
-            Style::Closing => [0, 15, 4, 3, 2, 60, 5, 0, 60, 10, 400, 10, 10],
-            Style::Reserving => [1, 20, 90, 60, 40, 20, 60, 10, 20, 30, 20, 10, 30],
+            Style::Busy => [1, 120, 15, 12, 4, 40, 150, 15, 0, 10, 6, 20, 10, 30],
+            Style::Draining => [0, 4, 2, 2, 1, 2, 400, 20, 0, 10, 8, 10, 10, 20],
+            Style::Turning => [1, 20, 6, 6, 4, 40, 200, 40, 0, 90, 10, 10, 20, 20],
+            Style::Asking => [1, 10, 4, 2, 2, 5, 50, 5, 0, 10, 10, 100, 80, 150],
+            Style::Scanning => [0, 20, 4, 3, 2, 1, 5, 0, 60, 20, 10, 400, 10, 10],
+            Style::Closing => [0, 20, 4, 3, 2, 60, 5, 0, 60, 10, 8, 400, 10, 10],
+            Style::Reserving => [2, 20, 90, 60, 40, 20, 60, 10, 20, 30, 6, 20, 10, 30],
+            Style::Crashing => [0, 160, 10, 8, 3, 15, 30, 10, 90, 15, 30, 50, 20, 20],
         };
         std::array::from_fn(|index| (NAMES[index], weights[index]))
     }
 }
 
 /// In the order of the weights.
-const NAMES: [Name; 13] = [
+const NAMES: [Name; 14] = [
     Name::Open,
     Name::Join,
     Name::Reserve,
@@ -85,6 +91,7 @@ const NAMES: [Name; 13] = [
     Name::Bundle,
     Name::Settle,
     Name::Turn,
+    Name::Crash,
     Name::Find,
     Name::Check,
     Name::Read,
@@ -115,6 +122,9 @@ pub fn call(bytes: &[u8], style: Style, pools: &Pools, random: &mut Random) -> C
         },
         Name::Settle => Call::Bundle { limit: u16::MAX },
         Name::Turn => Call::Turn,
+        Name::Crash => Call::Crash {
+            seats: chooser.crashed(),
+        },
         Name::Find => Call::Find {
             seat: chooser.seat(),
             number: chooser.number(),

@@ -38,11 +38,12 @@ pub fn sound_record(pools: &Pools, random: &mut Random) -> Vec<u8> {
 }
 
 /// As [`sound_record`], in phase open with the links of the graph and nothing
-/// pending; some lots may be leaving, or all.
+/// pending; some lots may be leaving, or all, and there may be several components.
 pub fn settled_record(pools: &Pools, random: &mut Random) -> Vec<u8> {
     let clearing = false;
     let (mut lots, reserved) = some_lots(pools, random);
-    link_members(&mut lots, clearing);
+    let components = random.pick(&[1, 1, 2, 3, 8]);
+    link_components(&mut lots, components, clearing, random);
     written(&lots, &reserved, clearing)
 }
 
@@ -74,7 +75,7 @@ fn some_lots(pools: &Pools, random: &mut Random) -> (Vec<Lot>, Vec<Member>) {
     (lots, reserved)
 }
 
-/// Links that are the graph of the members, two graphs of a part of them each,
+/// Links that are the graph of the members, several graphs of a part of them each,
 /// nearly one of these, or any that fit.
 fn link(lots: &mut [Lot], clearing: bool, random: &mut Random) {
     let changes = match random.below(4) {
@@ -83,16 +84,13 @@ fn link(lots: &mut [Lot], clearing: bool, random: &mut Random) {
         2 => 1 + random.below(8),
         _ => lots.len() * LEVELS,
     };
-    let split = match random.below(6) {
-        0 | 1 => None,
-        2 => Some(random.below(lots.len() + 1)),
-        _ => Some(lots.len()),
+    let components = match random.below(8) {
+        0 | 1 => 0,
+        2 => 2,
+        3 => 2 + random.below(4),
+        _ => 1,
     };
-    if let Some(at) = split {
-        let (one, other) = lots.split_at_mut(at);
-        link_members(one, clearing);
-        link_members(other, clearing);
-    }
+    link_components(lots, components, clearing, random);
     for _ in 0..changes {
         if !lots.is_empty() {
             let (x, level) = (random.below(lots.len()), random.below(LEVELS));
@@ -102,18 +100,30 @@ fn link(lots: &mut [Lot], clearing: bool, random: &mut Random) {
     }
 }
 
-fn link_members(lots: &mut [Lot], clearing: bool) {
-    link_as_graph(lots, |_| true);
+/// Each lot into one of so many components, which are graphs; into none if there are
+/// to be none.
+fn link_components(lots: &mut [Lot], components: usize, clearing: bool, random: &mut Random) {
+    if components == 0 {
+        return;
+    }
+    let component = |_: &Lot| random.below(components);
+    let components: Vec<usize> = lots.iter().map(component).collect();
+    link_as_graphs(lots, &components, |_| true);
     if clearing {
-        link_as_graph(lots, |lot| !lot.leaving);
+        link_as_graphs(lots, &components, |lot| !lot.leaving);
     }
 }
 
-fn link_as_graph(lots: &mut [Lot], is_member: fn(&Lot) -> bool) {
-    let members = lots.iter().filter(|lot| is_member(lot));
-    let members: Vec<Member> = members.map(|lot| lot.member).collect();
+fn link_as_graphs(lots: &mut [Lot], components: &[usize], is_member: fn(&Lot) -> bool) {
+    let both = lots
+        .iter()
+        .zip(components)
+        .filter(|(lot, _)| is_member(lot));
+    let (members, components): (Vec<Member>, Vec<usize>) = both
+        .map(|(lot, component)| (lot.member, *component))
+        .unzip();
     let linked = lots.iter_mut().filter(|lot| is_member(lot));
-    for (lot, links) in linked.zip(graph::links(&members)) {
+    for (lot, links) in linked.zip(graph::links_within(&members, &components)) {
         lot.links = links;
     }
 }

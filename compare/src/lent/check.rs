@@ -1,10 +1,9 @@
-//! The check: whether the links of the members are those of their graph.
+//! The check: whether every component of the members is the graph of its lots.
 //!
-//! Constraints 1 to 6 with one level-0 list say the same (`graph` tests that).
-//! They are tested from link to link, without a table: the links of members
-//! name members that link back, a right link above level 0 is the first lot to
-//! the right on the level below that has the next bit, and at most one member
-//! has no left link at level 0.
+//! Constraints 1 to 6 say the same (`graph` tests that). They are tested from link
+//! to link, without a table: the links of members name members that link back, and
+//! a right link above level 0 is the first lot to the right on the level below that
+//! has the next bit. How many components there are is nowhere asked.
 
 use super::layout::*;
 use super::record::Record;
@@ -12,11 +11,9 @@ use crate::graph::{Side, BITS, LEVELS, SEATS, SIDES};
 use crate::rules::Entries;
 
 /// Bit s of `members` is set if the lot on seat s is one.
-pub fn is_graph(record: Record, members: u64) -> bool {
+pub fn are_graphs(record: Record, members: u64) -> bool {
     let lots = || (0..SEATS as u8).filter(|lot| is_in(members, *lot));
-    let starts = lots().filter(|lot| link(record, *lot, 0, Side::Left) == NO_LINK);
-    starts.count() <= 1
-        && lots().all(|lot| links_back(record, members, lot))
+    lots().all(|lot| links_back(record, members, lot))
         && lots().all(|lot| right_links_follow(record, lot))
 }
 

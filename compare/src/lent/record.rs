@@ -103,8 +103,14 @@ pub fn entry_mut(bytes: &mut Bytes, seat: u8) -> &mut Entry {
 #[inline]
 pub fn send(bytes: &mut Bytes, message: Message) {
     if let Some(place) = place_of(message) {
-        bytes[PENDING_AT + place / 8] |= 1 << (place % 8);
+        send_at(bytes, place);
     }
+}
+
+/// Makes the message of a place pending.
+#[inline]
+pub fn send_at(bytes: &mut Bytes, place: usize) {
+    bytes[PENDING_AT + place / 8] |= 1 << (place % 8);
 }
 
 #[inline]

@@ -1,8 +1,10 @@
 //! Lists that are the same in every run, with their answers as they follow from
-//! document 02's words (#105). Together they meet all that is told apart of reserved
-//! lots.
+//! document 02's words (#105, #106). Together they meet all that is told apart of
+//! reserved lots, and of crashes and several components.
 
+mod crashes;
 mod long;
+mod steps;
 
 use crate::call::{Answer, Call, NO_VALUES};
 use crate::graph::SEATS;
@@ -14,6 +16,12 @@ pub type Answered = Vec<(Call, Answer)>;
 
 /// Every fixed list, with a name for reports.
 pub fn lists() -> Vec<(&'static str, Answered)> {
+    let mut lists = of_reservations();
+    lists.extend(crashes::lists());
+    lists
+}
+
+fn of_reservations() -> Vec<(&'static str, Answered)> {
     vec![
         ("a first lot", first_lot()),
         ("only reserved lots, one joins", one_joins()),
@@ -212,8 +220,9 @@ fn all_seats() -> Answered {
 mod tests {
     use super::*;
     use crate::model::Model;
-    use crate::{lent, list, reserved, selfcheck};
+    use crate::{crashed, lent, list, reserved, selfcheck};
     use std::collections::BTreeSet;
+    use std::fmt::Debug;
 
     #[test]
     fn answers_are_those_that_stand_beside_the_calls() {
@@ -236,14 +245,31 @@ mod tests {
     }
 
     #[test]
-    fn all_of_reserved_lots_is_met() {
-        let mut met = BTreeSet::new();
+    fn checks_pass() {
         for (name, list) in lists() {
-            let list = calls(&list);
-            assert_eq!(selfcheck::run_list(&list), Ok(()), "{name}");
-            met.extend(list::met(&list));
+            assert_eq!(selfcheck::run_list(&calls(&list)), Ok(()), "{name}");
         }
-        let left: Vec<_> = reserved::all().difference(&met).copied().collect();
+    }
+
+    fn all_is_met<M: Ord + Copy + Debug>(
+        all: BTreeSet<M>,
+        tell: impl Fn(Call, Answer, &[u8]) -> Vec<M>,
+    ) {
+        let lists = lists().into_iter();
+        let met = lists.flat_map(|(_, list)| list::met(&calls(&list), &tell));
+        let met: BTreeSet<M> = met.collect();
+        let left: Vec<_> = all.difference(&met).copied().collect();
         assert!(left.is_empty(), "not met: {left:?}");
+        assert!(met.is_subset(&all), "{met:?}");
+    }
+
+    #[test]
+    fn all_of_reserved_lots_is_met() {
+        all_is_met(reserved::all(), reserved::met);
+    }
+
+    #[test]
+    fn all_of_crashes_is_met() {
+        all_is_met(crashed::all(), crashed::met);
     }
 }

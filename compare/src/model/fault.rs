@@ -1,11 +1,16 @@
 //! The faults of document 01's "Faults that pass a first trial", bundles that
 //! are not #101's, searches that are refused otherwise than #102 says, meetings
 //! that write a link wrongly, #103, searches that meet leaving lots otherwise
-//! than #104 says, and reservations that are not #105's. Only a test can switch one
-//! on, to see that it is caught.
+//! than #104 says, reservations that are not #105's, and crashes, checks and searches
+//! of several components that are not #106's. Only a test can switch one on, to see
+//! that it is caught.
 
 #[cfg(test)]
 use super::wrong_bundle::WrongBundle;
+#[cfg(test)]
+use super::wrong_check::WrongCheck;
+#[cfg(test)]
+use super::wrong_crash::WrongCrash;
 #[cfg(test)]
 use super::wrong_find::WrongFind;
 #[cfg(test)]
@@ -40,6 +45,13 @@ pub(crate) enum Fault {
     Reserved(WrongReserved),
     #[cfg(test)]
     Reserving(WrongReserving),
+    #[cfg(test)]
+    Crash(WrongCrash),
+    #[cfg(test)]
+    Check(WrongCheck),
+    /// Among all lots, not those of the start's component.
+    #[cfg(test)]
+    SeeksAmongAll,
 }
 
 impl Model {
@@ -54,7 +66,7 @@ impl Model {
         Model { fault, ..self }
     }
 
-    /// What a model with a fault of #105 makes of a call; none without one.
+    /// What a model with a fault of #105 or #106 makes of a call; none without one.
     #[cfg(test)]
     pub(crate) fn wrong_call(&mut self, call: Call) -> Option<Answer> {
         let mut fault = self.fault;
@@ -66,6 +78,14 @@ impl Model {
             Some(Fault::Reserving(wrong)) => {
                 self.fault = None;
                 self.with_reserving(wrong, call)
+            }
+            Some(Fault::Crash(wrong)) => {
+                self.fault = None;
+                self.with_crash(*wrong, call)
+            }
+            Some(Fault::SeeksAmongAll) => {
+                self.fault = None;
+                self.seek_among_all(call)
             }
             _ => return None,
         };

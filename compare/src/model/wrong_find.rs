@@ -1,7 +1,7 @@
 //! Searches that are not refused as document 02, #102, says.
 
 use super::{Model, Phase, Refusal, State};
-use crate::graph;
+use crate::graph::{components, links_within};
 use crate::lent::place::GOING;
 use crate::lent::place_of;
 
@@ -45,8 +45,9 @@ impl Model {
     }
 
     fn level_0_is_right(&self) -> bool {
-        let right = graph::links(&self.members());
-        let mut both = right.iter().zip(self.member_links());
+        let (members, held) = (self.members(), self.member_links());
+        let right = links_within(&members, &components(&members, &held));
+        let mut both = right.iter().zip(held);
         both.all(|(right, held)| right[0] == held[0])
     }
 

@@ -1,6 +1,6 @@
 //! The ways in which a reserved lot makes a record unsound, alone.
 
-use super::{FREE, RESERVED};
+use crate::before::{FREE, RESERVED};
 use crate::graph::SEATS;
 use crate::lent::place::*;
 use crate::lent::{self, message_at};

@@ -3,6 +3,7 @@
 mod bundle;
 mod cases;
 mod common;
+mod crash;
 mod limits;
 mod pending;
 mod refusals;

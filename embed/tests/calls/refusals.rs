@@ -9,7 +9,7 @@ type Call = fn(&mut Record<&mut [u8]>) -> Result<(), Refusal>;
 
 /// Every call but open, with arguments that Q accepts, or else refuses with 8, 10 or
 /// 14: a later row than 1 and 2.
-const CALLS: [Call; 17] = [
+const CALLS: [Call; 18] = [
     |record| record.join(3, 400, 0, Some(0)),
     |record| record.reserve(3, 400, 0),
     |record| record.confirm(3, Some(0)),
@@ -18,6 +18,7 @@ const CALLS: [Call; 17] = [
     |record| record.deliver(NO_MESSAGE),
     |record| record.bundle(1).map(drop),
     |record| record.turn(),
+    |record| record.crash(1 << 9),
     |record| record.find(9, 250).map(drop),
     |record| record.check().map(drop),
     |record| record.lot(9).map(drop),
@@ -192,10 +193,11 @@ fn unsettled() -> Vec<Vec<u8>> {
         three_lots().as_bytes().to_vec(),
         clearing().as_bytes().to_vec(),
         cleared.as_bytes().to_vec(),
-        // A link at level 0, both at level 1, and all: three lists.
+        // A link at level 0, both at level 1, and all at level 0: 200 is a component
+        // of its own, and the other is no skip graph.
         without(&level_0[..1]),
         without(&[left, right]),
-        without(&[&level_0[..], &[left, right]].concat()),
+        without(&level_0),
     ]
 }
 
@@ -248,6 +250,7 @@ fn no_such_message() {
 #[test]
 fn messages_left() {
     refused(three_lots().as_bytes(), 11, |record| record.turn());
+    refused(three_lots().as_bytes(), 11, |record| record.crash(1));
     refused(clearing().as_bytes(), 11, |record| record.turn());
 }
 

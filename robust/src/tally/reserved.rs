@@ -1,7 +1,8 @@
 //! What calls met of reserved lots, by where the record comes from, and the ways in
 //! which reserved lots made a record unsound.
 
-use super::leavers::{Source, SOURCES};
+use super::cases::Cases;
+use super::leavers::Source;
 use compare::call::{Answer, Call};
 use compare::reserved::{self, Met, Unsound};
 use std::collections::BTreeMap;
@@ -9,16 +10,15 @@ use std::fmt;
 
 #[derive(Clone, PartialEq, Eq, Debug, Default)]
 pub struct Reserved {
-    met: [BTreeMap<Met, u64>; SOURCES.len()],
+    met: Cases<Met>,
     unsound: BTreeMap<Unsound, u64>,
 }
 
 impl Reserved {
     /// Takes in a call of a record.
     pub fn count(&mut self, call: Call, answer: Answer, record: &[u8], source: Source) {
-        for met in reserved::met(call, answer, record) {
-            *self.met[source as usize].entry(met).or_default() += 1;
-        }
+        let met = reserved::met(call, answer, record);
+        self.met.count(met, source);
         if answer.refusal == 2 {
             if let Some(way) = Unsound::of_bytes(record) {
                 *self.unsound.entry(way).or_default() += 1;
@@ -28,12 +28,7 @@ impl Reserved {
 
     /// What was never met.
     pub fn gaps(&self) -> Vec<String> {
-        let mut gaps = Vec::new();
-        for (source, counts) in SOURCES.iter().zip(&self.met) {
-            let never = reserved::all().into_iter();
-            let never = never.filter(|met| !counts.contains_key(met));
-            gaps.extend(never.map(|met| format!("calls of {source} never met {met:?}")));
-        }
+        let mut gaps = self.met.gaps(&reserved::all());
         let never = Unsound::ALL.iter();
         let never = never.filter(|way| !self.unsound.contains_key(way));
         gaps.extend(never.map(|way| format!("no record was unsound by {way:?}")));
@@ -44,16 +39,7 @@ impl Reserved {
 /// A line for each source with the rarest case, and one for unsound records.
 impl fmt::Display for Reserved {
     fn fmt(&self, f: &mut fmt::Formatter) -> fmt::Result {
-        let all = reserved::all().len();
-        for (source, counts) in SOURCES.iter().zip(&self.met) {
-            let cases = counts.len();
-            write!(f, "reserved lots of {source:17} {cases} of {all} cases")?;
-            let rarest = counts.iter().min_by_key(|(_, count)| **count);
-            if let Some((met, count)) = rarest {
-                write!(f, ", the rarest {met:?}: {count}")?;
-            }
-            writeln!(f)?;
-        }
+        self.met.write(f, "reserved lots", &reserved::all())?;
         write!(f, "unsound by reserved lots")?;
         for (way, count) in &self.unsound {
             write!(f, "  {way:?}: {count}")?;

@@ -1,57 +1,30 @@
 //! Lists in which much else goes on beside reserved lots: deliveries of all messages,
 //! clearings.
 
+use super::steps::Steps;
 use super::*;
-use crate::model::Model;
 
-/// A list with a model beside it.
-struct Steps {
-    model: Model,
-    steps: Answered,
-}
-
-impl Steps {
-    /// Some lots are reserved; then 100, 200 and 300 join on seats 0 to 2.
-    fn with_reserved(reserved: &[Call]) -> Steps {
-        let mut steps = Steps {
-            model: Model::open(),
-            steps: Answered::new(),
-        };
-        reserved.iter().for_each(|&call| steps.say(call, OK));
-        steps.say_all(&[
-            (join(0, 100, 0, NO_CONTACT), OK),
-            (join(1, 200, 128, 0), OK),
-            (join(2, 300, 64, 0), OK),
-        ]);
-        steps
-    }
-
-    fn say(&mut self, call: Call, answer: Answer) {
-        call.on_model(&mut self.model);
-        self.steps.push((call, answer));
-    }
-
-    fn say_all(&mut self, steps: &[(Call, Answer)]) {
-        for &(call, answer) in steps {
-            self.say(call, answer);
-        }
-    }
-
-    /// Delivers the smallest message until none is pending.
-    fn drain(&mut self) {
-        while let Some(&message) = self.model.pending().first() {
-            self.say(Call::Deliver(message), OK);
-        }
-    }
+/// Some lots are reserved; then 100, 200 and 300 join on seats 0 to 2.
+fn with_reserved(reserved: &[Call]) -> Steps {
+    let mut steps = Steps::new();
+    reserved.iter().for_each(|&call| steps.say(call, OK));
+    steps.say_all(&[
+        (join(0, 100, 0, NO_CONTACT), OK),
+        (join(1, 200, 128, 0), OK),
+        (join(2, 300, 64, 0), OK),
+    ]);
+    steps
 }
 
 /// What the others do does not see a reserved lot: deliveries of all kinds,
 /// searches, the check, turns.
 pub(super) fn beside_a_graph() -> Answered {
-    let mut steps = Steps::with_reserved(&[reserve(3, 250, 64)]);
+    let mut steps = with_reserved(&[reserve(3, 250, 64)]);
     steps.say_all(&[
-        (Call::Check, gives([0])),
+        // Nobody has a link yet, then the first lot alone has one.
+        (Call::Check, gives([1])),
         (Call::Bundle { limit: 2 }, gives([2])),
+        (Call::Check, gives([0])),
     ]);
     steps.drain();
     steps.say_all(&[
@@ -88,7 +61,7 @@ pub(super) fn beside_a_graph() -> Answered {
 /// In phase open and in clearing, with messages pending and without.
 pub(super) fn asked_in_each_phase() -> Answered {
     let reserved = [3, 4, 5, 6].map(|seat| reserve(seat, 1_000 + u64::from(seat), seat));
-    let mut steps = Steps::with_reserved(&reserved);
+    let mut steps = with_reserved(&reserved);
     steps.ask_in_open(3);
     steps.drain();
     steps.ask_in_open(4);
@@ -160,7 +133,7 @@ impl Steps {
 /// Through a leaving lot, with much done between reserving and confirming; a search
 /// then ends at the newcomer.
 pub(super) fn join_in_two_steps() -> Answered {
-    let mut steps = Steps::with_reserved(&[reserve(63, u64::MAX, 255)]);
+    let mut steps = with_reserved(&[reserve(63, u64::MAX, 255)]);
     steps.drain();
     steps.say_all(&[(leave(1), OK), (confirm(63, 1), OK)]);
     steps.drain();

@@ -1,15 +1,15 @@
 //! Reservations, confirmations and returns that send, write, leave or refuse
 //! otherwise; turns and joins that touch reservations.
 
-use super::*;
-use crate::faults::caught;
+use crate::faults::on_bytes::*;
 use crate::judge::Difference;
 use compare::call::NO_VALUES;
 use compare::graph::Side;
 use compare::model::NO_CONTACT;
+use std::ops::Range;
 
 // What is sent and written.
-wrong! {
+wrong_on_bytes! {
     a_reservation_sends shows Difference::Byte { at: PENDING_AT.., .. } =>
         |before, after, call, answer| {
             let first = seats_in(before, STAYING).next();
@@ -70,7 +70,7 @@ wrong! {
 }
 
 // What a return leaves, and what others free.
-wrong! {
+wrong_on_bytes! {
     a_return_changes_nothing shows Difference::Byte { rust: FREE, library: RESERVED, .. } =>
         |before, after, call, answer| left(before, after, call, answer, 0..ENTRY);
     a_return_leaves_the_number shows Difference::Byte { rust: 0, .. } =>
@@ -107,7 +107,7 @@ wrong! {
 }
 
 // Refusals.
-wrong! {
+wrong_on_bytes! {
     a_reservation_in_clearing shows Difference::Answer { .. } => |_, after, call, answer| {
         match (call, answer.refusal) {
             (Call::Reserve { .. }, 7) => in_phase_open(after, call),

@@ -1,10 +1,9 @@
 //! Reserved lots that are taken for seated ones, or their seats for free ones.
 
-use super::*;
-use crate::faults::caught;
+use crate::faults::on_bytes::*;
 use crate::judge::Difference;
 
-wrong! {
+wrong_on_bytes! {
     counted shows Difference::Answer { .. } => |before, after, call, answer| match call {
         Call::ReadCounts => seated(before, after, call, |_| true),
         _ => answer,
@@ -47,10 +46,6 @@ wrong! {
             }
             _ => answer,
         };
-    the_check_sees_it shows Difference::Answer { .. } => |before, after, call, answer| match call {
-        Call::Check => seated(before, after, call, |_| true),
-        _ => answer,
-    };
     its_seat_is_free shows Difference::Answer { .. } => |before, after, call, answer| match call {
         Call::Join { seat, .. } | Call::Reserve { seat, .. } => {
             away(before, after, call, |lot| lot == seat)
