@@ -1,5 +1,5 @@
 -- Links of and to a set of seats made none one after the other, and the start and the end of freeing. Assumes nothing.
-use Prim.Native.Nat.{ℕ, zero, suc, _+_, _*_, _/_, _<_}
+use Prim.Native.Nat.{ℕ, zero, suc, _+_, _*_, _/_, _≤_, _<_}
 use mathlib.Core.Path.{_≡_, refl, sym, ap, _∙_}
 use mathlib.Core.Logic.{_⊎_, inl, inr, ⊎-elim}
 use mathlib.Core.Option.{Option, none, some}
@@ -10,6 +10,7 @@ use lib.Dec.{ltb}
 use lib.ListN.{getD, set as put}
 use lib.Seq.{set-getD}
 use borrow.Author.Tests.{lt-ltb, le-ltb}
+use Rattle.base.specs.Loops.{all}
 use Rattle.base.proofs.Cases.{eq-or-ne}
 use Rattle.memory.specs.Bits.{hasBit}
 use Rattle.graph.specs.Side.{Side, left, right, sideNumber, sideOfNumber}
@@ -22,6 +23,8 @@ use Rattle.protocol.proofs.Numbering.{sideNumber-lt}
 use Rattle.protocol.proofs.KeepFreeing.{unlinking-some}
 use Rattle.record.specs.Layout.{seats, levels, linkAt, noLink}
 use Rattle.record.specs.Meaning.{linkByte, bytesOf}
+use Rattle.record.specs.inner.Entry.{bareAt}
+use Rattle.record.proofs.Bare.{bare-byte}
 use Rattle.record.proofs.Values.{NamesSeat}
 use Rattle.record.proofs.Places.{side-sideNumber}
 use Rattle.record.proofs.Round.{read-link}
@@ -134,6 +137,27 @@ module _ (set : ℕ) where
     uncut-link zero b q e f t = uncut s x k left h g M c e b f t
     uncut-link (suc zero) b q e f t = uncut s x k right h g M c e b f t
     uncut-link (suc (suc d)) b q e f t = absurd (omega arith)
+
+  -- a lot without links: none of its bytes changes, level by level
+  module _ (x : ℕ) (h : x < seats) (M : Meaning) (c : Linked M) (l : List ℕ) (bare : all levels (bareAt l x) ≡ true) where
+    none-goes : (k : ℕ) (d : Side) → k < levels → goes x (getD l (linkAt x k d) 0) ≡ false
+    none-goes k d g = rw (bare-byte l x bare k d g)
+
+    pub unlinked-to : (k : ℕ) → k ≤ levels → l ≡ bytesOf (freedTo set (x + 1) (linkPlace x 0 0) M) → l ≡ bytesOf (freedTo set (x + 1) (linkPlace x k 0) M)
+    unlinked-to zero g e = e
+    unlinked-to (suc k) g e =
+        let a = unlinked-to k (omega arith) e in
+        let b = uncut-link (x + 1) x k h (omega arith) M c 0 (getD l (linkAt x k left) 0) (omega arith) a refl (none-goes k left (omega arith)) in
+        let n : linkPlace x k 0 + 1 ≡ linkPlace x k 1 = omega arith in
+        let d = uncut-link (x + 1) x k h (omega arith) M c 1 (getD l (linkAt x k right) 0) (omega arith)
+        (b ∙ ap (λ (i : ℕ). bytesOf (freedTo set (x + 1) i M)) n) refl (none-goes k right (omega arith)) in
+        let m : linkPlace x k 1 + 1 ≡ linkPlace x (suc k) 0 = omega arith in
+        d ∙ ap (λ (i : ℕ). bytesOf (freedTo set (x + 1) i M)) m
+
+    pub unlinked-seat : l ≡ bytesOf (freedTo set (x + 1) (linkPlace x 0 0) M) → l ≡ bytesOf (freedTo set (x + 1) (linkPlace (x + 1) 0 0) M)
+    unlinked-seat e =
+        let n : linkPlace x levels 0 ≡ linkPlace (x + 1) 0 0 = omega arith in
+        unlinked-to levels (omega arith) e ∙ ap (λ (i : ℕ). bytesOf (freedTo set (x + 1) i M)) n
 
   -- before the first seat, and after the last
   pub freedTo-none : (M : Meaning) → bytesOf (freedTo set 0 0 M) ≡ bytesOf M

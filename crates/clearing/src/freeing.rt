@@ -14,6 +14,7 @@ use record::LEVELS;
 use record::NONE;
 use record::SEATS;
 use record::fields::Change;
+use record::lots::no_links;
 
 // Whether seat s is in the set.
 pub fn in_set(set: u64, s: usize) -> bool
@@ -53,6 +54,17 @@ fn unlink_lot(rec: &mut [u8], set: u64, x: usize)
     }
 }
 
+// The same; a seat without links, as every free one is, is passed over at once.
+fn unlink_seat(rec: &mut [u8], set: u64, x: usize)
+    requires { ⌜ (length (now rec) ≡ size) × (x < seats) ⌝ }
+    ensures { λ _. ⌜ Step (freedTo set (x + 1) (linkPlace x 0 0)) (freedTo set (x + 1) (linkPlace (x + 1) 0 0)) (now (rec .entry)) (now (rec .exit)) ⌝ }
+{
+    if no_links(rec, x) {
+        return;
+    }
+    unlink_lot(rec, set, x);
+}
+
 // State, number and vector of seat s as opened if it is freed.
 fn clear_seat(rec: &mut [u8], set: u64, s: usize)
     requires { ⌜ (length (now rec) ≡ size) × (s < seats) ⌝ }
@@ -70,6 +82,6 @@ pub fn free_seats(rec: &mut [u8], set: u64)
 {
     for s in 0..SEATS {
         clear_seat(rec, set, s);
-        unlink_lot(rec, set, s);
+        unlink_seat(rec, set, s);
     }
 }

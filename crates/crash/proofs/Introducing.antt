@@ -1,12 +1,17 @@
--- MEET between the two ends of a link, and that links still name seats once some are freed. Assumes nothing.
-use Prim.Native.Nat.{ℕ, _≤_, _<_}
-use mathlib.Core.Path.{_≡_, sym, ap, _∙_}
+-- MEET between the two ends of a link, that a seat without links sends none, and that links still name seats once some are freed. Assumes nothing.
+use Prim.Native.Nat.{ℕ, suc, _≤_, _<_}
+use mathlib.Core.Path.{_≡_, refl, sym, ap, _∙_}
+use mathlib.Core.Option.{Option, none, some}
+use mathlib.Core.Bool.{true}
 use mathlib.Core.List.{List, [], _∷_}
+use native.Mathlib.Omega.{arith}
 use lib.Dec.{T}
+use lib.ListN.{getD}
 use borrow.Author.Tests.{lt-ltb}
+use Rattle.base.specs.Loops.{all}
 use Rattle.base.proofs.Tests.{true-T}
 use Rattle.memory.specs.Bits.{hasBit, setBit}
-use Rattle.graph.specs.Side.{sideOfNumber}
+use Rattle.graph.specs.Side.{Side, left, right, sideOfNumber}
 use Rattle.graph.specs.Vector.{width}
 use Rattle.protocol.specs.Message.{meet}
 use Rattle.protocol.specs.Numbering.{exists, place}
@@ -14,12 +19,17 @@ use Rattle.protocol.specs.Rules.{toLink}
 use Rattle.protocol.specs.State.{Meaning}
 use Rattle.protocol.specs.pages.Crash.{introduced}
 use Rattle.protocol.proofs.KeepFreeing.{unlinking-some}
-use Rattle.record.specs.Layout.{seats, levels, pendingFrom}
-use Rattle.record.specs.Meaning.{linkOf, meaning, bytesOf}
+use Rattle.protocol.proofs.ReachedTurn.{each-nothing}
+use Rattle.record.specs.Layout.{seats, levels, noLink, linkAt, pendingFrom}
+use Rattle.record.specs.Meaning.{linkOf, linkByte, meaning, bytesOf}
+use Rattle.record.specs.inner.Entry.{bareAt}
+use Rattle.record.proofs.Bare.{bare-byte}
+use Rattle.record.proofs.Round.{read-link}
 use Rattle.record.proofs.Links.{linkOf-some, linkOf-none}
 use Rattle.record.proofs.Sent.{bytes-withMessage}
 use Rattle.clearing.specs.inner.Steps.{Linked, saying, freed}
 use Rattle.clearing.proofs.Telling.{saying-nothing, saying-append, link-named}
+use Rattle.crash.specs.inner.Steps.{levelIntroductions, lotIntroductions}
 
 -- MEET at level 0 exists
 meet-exists : (x y : ℕ) → x < seats → y < seats → T (exists seats width (meet x y 0))
@@ -50,6 +60,23 @@ module _ (M : Meaning) (c : Linked M) (x k d y : ℕ) (h : x < seats) (g : k < l
   pub introduce-none : seats ≤ y → l ≡ bytesOf (saying M (introduced (M .link) x k (sideOfNumber d)))
   unfolding introduced toLink
   introduce-none p = rw (link-named M c x k d y h g e f, linkOf-none y p) (e ∙ sym (ap bytesOf (saying-nothing M)))
+
+-- a seat without links has nobody to introduce
+module _ (M : Meaning) (c : Linked M) (x : ℕ) (h : x < seats) {l : List ℕ} (e : l ≡ bytesOf M) (bare : all levels (bareAt l x) ≡ true) where
+  bare-link : (k : ℕ) (d : Side) → k < levels → M .link x k d ≡ none
+  bare-link k d g = by (M .link x k d) (λ y q. c x k y d q)
+      (sym (read-link M x h k d g (λ y q. c x k y d q)) ∙ ap (λ (m : List ℕ). getD m (linkAt x k d) 0) (sym e) ∙ bare-byte l x bare k d g)
+    where
+      by : (o : Option ℕ) → ((y : ℕ) → o ≡ some y → y < seats) → linkByte o ≡ noLink → o ≡ none
+      by none f q = refl
+      by (some y) f q = absurd (omega (arith, f y refl))
+
+  pub introduce-bare : l ≡ bytesOf (saying M (lotIntroductions (M .link) x))
+  unfolding introduced toLink
+  introduce-bare =
+      let none-sent = each-nothing width (levelIntroductions (M .link) x) (λ k g.
+      rw (bare-link (suc k) left (omega arith), bare-link (suc k) right (omega arith))) in
+      e ∙ sym (ap bytesOf (ap (saying M) none-sent ∙ saying-nothing M))
 
 -- links name seats once those of a set are freed
 pub freed-linked : (set : ℕ) (M : Meaning) → Linked M → Linked (freed set M)

@@ -29,6 +29,7 @@ use record::SEATS;
 use record::lots::is_clearing;
 use record::lots::is_seated;
 use record::lots::link;
+use record::lots::no_links;
 use record::refusals::EMPTY_SEAT;
 use record::refusals::IN_CLEARING;
 use record::refusals::MESSAGES_LEFT;
@@ -78,13 +79,24 @@ fn introduce_links(rec: &mut [u8], x: usize)
     }
 }
 
+// The same; a seat without links, as every free one is, is passed over at once.
+fn introduce_seat(rec: &mut [u8], x: usize)
+    requires { ⌜ (length (now rec) ≡ size) × (x < seats) ⌝ }
+    ensures { λ _. ⌜ Step same (λ M. saying M (lotIntroductions (M .link) x)) (now (rec .entry)) (now (rec .exit)) ⌝ }
+{
+    if no_links(rec, x) {
+        return;
+    }
+    introduce_links(rec, x);
+}
+
 // And of every lot.
 fn introduce_all(rec: &mut [u8])
     requires { ⌜ length (now rec) ≡ size ⌝ }
     ensures { λ _. ⌜ Step same (λ M. saying M (introductions seats width (M .link))) (now (rec .entry)) (now (rec .exit)) ⌝ }
 {
     for x in 0..SEATS {
-        introduce_links(rec, x);
+        introduce_seat(rec, x);
     }
 }
 

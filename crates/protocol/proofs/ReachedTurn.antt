@@ -40,8 +40,8 @@ abbrev pub turned : (N W : ℕ) → Meaning → Phase → Meaning
 turned N W M p =
     record { seats = afterTurn N p (M .seats); link = turnLinks p (M .seats) (M .link); pending = pendingAfter (turnSends N W p M) none (M .pending) }
 
--- no leavers: nobody sends
-each-nothing : (n : ℕ) (f : ℕ → List Msg) → ((i : ℕ) → i < n → f i ≡ []) → each n f ≡ []
+-- nobody sends: lists of nothing; so without leavers
+pub each-nothing : (n : ℕ) (f : ℕ → List Msg) → ((i : ℕ) → i < n → f i ≡ []) → each n f ≡ []
 unfolding each
 each-nothing zero f h = refl
 each-nothing (suc n) f h = rw (each-nothing n f (λ i l. h i (omega arith)), h n (omega arith))

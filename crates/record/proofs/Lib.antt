@@ -22,3 +22,4 @@ pub mod Call
 pub mod Accepted
 pub mod Bundle
 pub mod Determined
+pub mod Bare

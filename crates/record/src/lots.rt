@@ -4,12 +4,14 @@ ghost use mathlib.Core.Path.{_≡_};
 ghost use Prim.Native.Nat.{_<_};
 ghost use lib.Dec.{leb};
 ghost use lib.ListN.{length};
+ghost use Rattle.base.specs.Loops.{all};
 ghost use Rattle.graph.specs.Side.{onSide, sideOf, sideOfNumber};
 ghost use Rattle.graph.specs.Vector.{width, shared};
 ghost use Rattle.protocol.specs.State.{isClearing, taken, seated, stays, leaves, held, member};
 ghost use Rattle.protocol.specs.Sound.{pairOk};
 ghost use Rattle.record.specs.Layout.{seats, levels, size};
 ghost use Rattle.record.specs.Meaning.{seatsIn, meaning, linkOf};
+ghost use Rattle.record.specs.inner.Entry.{bareAt};
 
 // Whether the phase is clearing.
 pub fn is_clearing(rec: &[u8]) -> bool
@@ -34,6 +36,18 @@ pub fn is_taken(rec: &[u8], s: usize) -> bool
     ensures { λ r. ⌜ r ≡ taken (seatsIn (now (rec .entry))) s ⌝ }
 {
     crate::state(rec, s) != crate::FREE
+}
+
+// Whether seat s has no link: the bytes of its links are looked at eight at a time.
+pub fn no_links(rec: &[u8], s: usize) -> bool
+    requires { ⌜ (length (now rec) ≡ size) × (s < seats) ⌝ }
+    ensures { λ r. ⌜ r ≡ all levels (bareAt (now (rec .entry)) s) ⌝ }
+{
+    memory::full_run(
+        rec,
+        crate::ENTRIES + crate::ENTRY * s + crate::LINKS_AT,
+        crate::LINKS,
+    )
 }
 
 // Whether a staying lot sits on seat s.

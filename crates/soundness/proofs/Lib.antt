@@ -2,7 +2,6 @@
 pub mod Numbers
 pub mod Buckets
 pub mod Kept
-pub mod Unlinked
 pub mod LinkByte
 pub mod Refusal
 pub mod PendingPasses

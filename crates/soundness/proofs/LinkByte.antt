@@ -18,7 +18,8 @@ use Rattle.protocol.specs.Sound.{pairOk, linkOk}
 use Rattle.record.specs.Layout.{seats, levels, states, noLink, stateAt, linkAt}
 use Rattle.record.specs.Meaning.{seatsIn}
 use Rattle.record.specs.Sound.{asOpened, linkFits}
-use Rattle.soundness.specs.inner.Parts.{unlinked, seatFits}
+use Rattle.record.specs.inner.Entry.{bareAt}
+use Rattle.soundness.specs.inner.Parts.{seatFits}
 
 pub link-byte : (l : List ℕ) (x k : ℕ) (d : Side) (b : ℕ) → b ≡ getD l (linkAt x k d) 0
     → linkFits l x k d ≡ eqb b noLink || (ltb b seats && linkOk width (seatsIn l) x k d b)
@@ -43,7 +44,7 @@ link-ok r x k y d e = rw e (by (seated r y) (not (eqb x y)) (leb k (shared width
 
 -- a seat without a lot passes exactly if it has no links
 pub empty-links : (l : List ℕ) (x : ℕ) → seated (seatsIn l) x ≡ false
-    → all levels (λ k. linkFits l x k left && linkFits l x k right) ≡ all levels (unlinked l x)
+    → all levels (λ k. linkFits l x k left && linkFits l x k right) ≡ all levels (bareAt l x)
 unfolding linkFits linkOk pairOk
 empty-links l x e = all-same levels _ _ (λ k h. ap₂ _&&_ (one k left) (one k right))
   where

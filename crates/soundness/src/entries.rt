@@ -11,15 +11,14 @@ ghost use Rattle.protocol.specs.State.{taken};
 ghost use Rattle.record.specs.Layout.{seats, levels, size};
 ghost use Rattle.record.specs.Meaning.{seatsIn};
 ghost use Rattle.record.specs.Sound.{phaseFits, asOpened, numbersDiffer};
-ghost use Rattle.soundness.specs.inner.Parts.{HasNumbers, unlinked, differ, seatFits};
+ghost use Rattle.soundness.specs.inner.Parts.{HasNumbers, differ, seatFits};
 ghost use Rattle.soundness.specs.inner.Buckets.{buckets, sameNumber, Kept};
 use record::ENTRIES;
 use record::ENTRY;
-use record::LINKS;
-use record::LINKS_AT;
 use record::NUMBER_AT;
 use record::SEATS;
 use record::lots::is_taken;
+use record::lots::no_links;
 
 // How many phases and states there are.
 const PHASES: u8 = 2;
@@ -37,14 +36,6 @@ pub fn phase_fits(rec: &[u8]) -> bool
     ensures { λ r. ⌜ r ≡ phaseFits (now (rec .entry)) ⌝ }
 {
     record::phase(rec) < PHASES
-}
-
-// Whether seat s has no link.
-pub fn no_links(rec: &[u8], s: usize) -> bool
-    requires { ⌜ (length (now rec) ≡ size) × (s < seats) ⌝ }
-    ensures { λ r. ⌜ r ≡ all levels (unlinked (now (rec .entry)) s) ⌝ }
-{
-    memory::full_run(rec, ENTRIES + ENTRY * s + LINKS_AT, LINKS)
 }
 
 // Whether number, vector and links of seat s are as open writes them.

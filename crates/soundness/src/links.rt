@@ -12,7 +12,6 @@ ghost use Rattle.record.specs.Layout.{seats, levels, size};
 ghost use Rattle.record.specs.Meaning.{seatsIn};
 ghost use Rattle.record.specs.Sound.{linkFits, linksFit};
 ghost use Rattle.soundness.specs.inner.Parts.{HasNumbers, seatFits};
-use crate::entries::no_links;
 use graph::LEFT;
 use graph::RIGHT;
 use graph::on_side;
@@ -20,6 +19,7 @@ use record::LEVELS;
 use record::NONE;
 use record::SEATS;
 use record::lots::is_seated;
+use record::lots::no_links;
 use record::lots::shares;
 
 // Whether seat y may be the link of the lot on seat x at level k on side d. That y is another seat shows by its number.

@@ -23,8 +23,8 @@ abbrev μ-loop : tie.MeasureT-loop
 loop-holds : tie.Need-loop-holds Inv-loop μ-loop
 loop-holds c = (search needs, refl, λ M f e. e ∙ sym (ap bytesOf (saying-none M (lotIntroductions (M .link)))))
 
-introduce-links-requires : tie.Need-introduce-links-requires Inv-loop μ-loop
-introduce-links-requires c κs = omega arith
+introduce-seat-requires : tie.Need-introduce-seat-requires Inv-loop μ-loop
+introduce-seat-requires c κs = omega arith
 
 add-x : tie.Need-add-x Inv-loop μ-loop
 add-x c = search needs
@@ -36,7 +36,7 @@ loop-again : tie.Need-loop-again Inv-loop μ-loop
 loop-again c =
     let a = c .before .before .before .before .before in
     let x = a .loop .x in
-    let b = c .before .before .introduce-links in (
+    let b = c .before .before .introduce-seat in (
       search needs,
       b .kept .0 ∙ a .loop .inv .1,
       λ M f e.
@@ -60,7 +60,7 @@ introduce-all-spec =
     Inv-loop
     μ-loop
     loop-holds
-    introduce-links-requires
+    introduce-seat-requires
     add-x
     loop-less
     loop-again

@@ -6,19 +6,14 @@ use mathlib.Core.List.{List}
 use lib.Dec.{eqb, ltb}
 use lib.ListN.{getD}
 use Rattle.base.specs.Loops.{all}
-use Rattle.graph.specs.Side.{left, right}
 use Rattle.protocol.specs.State.{taken}
-use Rattle.record.specs.Layout.{seats, states, noLink, stateAt, linkAt}
+use Rattle.record.specs.Layout.{seats, states, stateAt}
 use Rattle.record.specs.Meaning.{seatsIn}
 use Rattle.record.specs.Sound.{phaseFits, asOpened, numbersDiffer, linksFit}
 
 -- a has the number of each taken seat
 abbrev pub HasNumbers : (l a : List ℕ) → Type 0
 HasNumbers l a = (s : ℕ) → s < seats → taken (seatsIn l) s ≡ true → getD a s 0 ≡ seatsIn l .number s
-
--- seat s has no link at level k
-abbrev pub unlinked : (l : List ℕ) (s k : ℕ) → Bool
-unlinked l s k = eqb (getD l (linkAt s k left) 0) noLink && eqb (getD l (linkAt s k right) 0) noLink
 
 -- x and y are not two taken seats with one number
 abbrev pub differ : (l : List ℕ) (x y : ℕ) → Bool

@@ -23,8 +23,8 @@ loop-holds c = (search needs, refl, λ M f e. e ∙ sym (freedTo-none (c .before
 clear-seat-requires : tie.Need-clear-seat-requires Inv-loop μ-loop
 clear-seat-requires c κs = omega arith
 
-unlink-lot-requires : tie.Need-unlink-lot-requires Inv-loop μ-loop
-unlink-lot-requires c κs = omega arith
+unlink-seat-requires : tie.Need-unlink-seat-requires Inv-loop μ-loop
+unlink-seat-requires c κs = omega arith
 
 add-s : tie.Need-add-s Inv-loop μ-loop
 add-s c = search needs
@@ -36,7 +36,7 @@ loop-again : tie.Need-loop-again Inv-loop μ-loop
 loop-again c =
     let a = c .before .before .before .before .before .before .before .before .before in
     let b = c .before .before .before .before .before .before .clear-seat in
-    let d = c .before .before .unlink-lot in
+    let d = c .before .before .unlink-seat in
     (search needs, d .kept .0 ∙ b .kept .0 ∙ a .loop .inv .1, λ M f e. d .ensures M f (b .ensures M f (a .loop .inv .2 M f e)))
 
 same-length : tie.Need-same-length Inv-loop μ-loop
@@ -56,7 +56,7 @@ free-seats-spec =
     μ-loop
     loop-holds
     clear-seat-requires
-    unlink-lot-requires
+    unlink-seat-requires
     add-s
     loop-less
     loop-again

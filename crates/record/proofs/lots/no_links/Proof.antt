@@ -1,9 +1,9 @@
--- `soundness::entries::no_links` meets its contract. Assumes nothing.
+-- `record::lots::no_links` meets its contract. Assumes nothing.
 use mathlib.Core.Path.{_∙_}
 use borrow.Author.Needs.{needs}
-use Rattle.soundness.proofs.Unlinked.{links-full}
-use Rattle.soundness.proofs.entries.no_links.Statement.{statement}
-use Rattle.soundness.proofs.entries.no_links.Tie as tie
+use Rattle.record.proofs.Bare.{links-full}
+use Rattle.record.proofs.lots.no_links.Statement.{statement}
+use Rattle.record.proofs.lots.no_links.Tie as tie
 
 mul-full-run : tie.Need-mul-full-run
 mul-full-run c = search needs
