@@ -27,17 +27,14 @@ use Rattle.protocol.specs.Freeing.{unlinked}
 use Rattle.protocol.specs.Order.{orNext, before, smaller, smallestOf, smallestFrom}
 use Rattle.protocol.specs.Bundle.{onward, bundleOf, leftBy}
 use Rattle.protocol.specs.Run.{stepsFrom, logOf, step, steps, meaningRun, rosterAfter, rosterOf}
-use Rattle.protocol.proofs.Examples.{all-among, count-of, same-messages, bundled, drained, joined-Q, links, after}
+use Rattle.protocol.proofs.Examples.{all-among, count-of, same-messages, bundled, drained, joined-Q, settled-Q, links, after}
 
--- Q: lots 100, 200, 300 with vectors 00, 10, 01, linked as in their graph; lot 200 dead; marked as leaving, and the phase clearing
-settled : Meaning
-settled = record { seats = joined-Q .seats; link = graph 3 2 (members (λ x. 0) (joined-Q .seats)); pending = λ m. false }
-
+-- Q, settled, without lot 200; with 200 marked as leaving, and then the phase clearing
 cut-Q : Meaning
-cut-Q = after settled (crash 2)
+cut-Q = after settled-Q (crash 2)
 
 left-Q : Meaning
-left-Q = after settled (leave 1)
+left-Q = after settled-Q (leave 1)
 
 cleared-Q : Meaning
 cleared-Q = after left-Q turn
@@ -55,7 +52,7 @@ two-joined = meaningRun 3 2 (join 0 100 0 255 ∷ join 1 200 2 0 ∷ []) .now
 
 -- lots 100, 200, 300 with vectors 00, 01, 10
 other-vectors : Seats
-other-vectors = record { phase = settled .seats .phase; state = settled .seats .state; number = settled .seats .number; vector = λ x. x }
+other-vectors = record { phase = settled-Q .seats .phase; state = settled-Q .seats .state; number = settled-Q .seats .number; vector = λ x. x }
 
 -- the roster's components after a list
 components : List Call → List ℕ
@@ -72,18 +69,18 @@ four = meet 0 2 0 ∷ meet 2 0 0 ∷ meet 2 0 0 ∷ meet 0 2 0 ∷ []
 record Evaluated : Type 0 where
   -- in Q without 200 the link of level 1 between 100 and 300 is left, and its ends are to meet; drained, these are linked at level 0, too
   left : links cut-Q ≡ none ∷ none ∷ none ∷ none ∷ some 2 ∷ some 0 ∷ none ∷ none ∷ none ∷ []
-  sent : same-messages (sends 3 2 settled (crash 2)) four ≡ true
+  sent : same-messages (sends 3 2 settled-Q (crash 2)) four ≡ true
   mends : links (drained 9 cut-Q) ≡ some 2 ∷ none ∷ none ∷ some 0 ∷ some 2 ∷ some 0 ∷ none ∷ none ∷ none ∷ []
   -- a component that lost nobody sends, too; and of a link without its link back both ends hear
   untouched : same-messages (sends 3 2 apart (crash 2)) four ≡ true
   both-ends : same-messages (sends 3 2 one-sided (crash 2)) (meet 0 2 0 ∷ meet 2 0 0 ∷ []) ≡ true
   -- the set 0 sends nothing
-  none-sent : sends 3 2 settled (crash 0) ≡ []
+  none-sent : sends 3 2 settled-Q (crash 0) ≡ []
   -- the components: a newcomer is in its contact's; without 200 its neighbours are one, by level 1; with the other vectors two; the set 0 keeps them
   newcomers : components (join 0 100 0 255 ∷ join 1 200 2 0 ∷ join 2 300 1 0 ∷ []) ≡ 0 ∷ 0 ∷ 0 ∷ []
-  one-left : componentsAfter 3 2 (settled .seats) (λ x. 0) (crash 2) 2 ≡ 0
+  one-left : componentsAfter 3 2 (settled-Q .seats) (λ x. 0) (crash 2) 2 ≡ 0
   two-left : componentsAfter 3 2 other-vectors (λ x. 0) (crash 2) 2 ≡ 2
-  kept : componentsAfter 3 2 (settled .seats) (λ x. 7) (crash 0) 2 ≡ 7
+  kept : componentsAfter 3 2 (settled-Q .seats) (λ x. 7) (crash 0) 2 ≡ 7
   -- refused while messages are pending, the set 0 too; for a free seat before that; in clearing before both. A leaver may be named
   pending : (refused joined-Q 2 ≡ 11) × (refused two-joined 0 ≡ 11)
   free-seat : refused two-joined 6 ≡ 8
@@ -91,7 +88,7 @@ record Evaluated : Type 0 where
   leaver : refused left-Q 2 ≡ 0
 
 evaluated : Evaluated
-unfolding settled cut-Q left-Q cleared-Q apart one-sided two-joined other-vectors components refused four
+unfolding settled-Q cut-Q left-Q cleared-Q apart one-sided two-joined other-vectors components refused four
     links all-among count-of same-messages joined-Q after bundled drained bundleOf leftBy onward smallestFrom smallestOf smaller
     before orNext componentsAfter cut componentOf joinedBelow linkedWith linksTo names firstFrom rosterOf rosterAfter logOf
     graph nearest nearer besideIn inList member introduced introductions unlinked bitOf afterTurn farewell farewells turnSends turnLinks

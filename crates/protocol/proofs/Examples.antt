@@ -9,11 +9,12 @@ use lib.Dec.{eqb}
 use lib.ListN.{length}
 use Rattle.graph.specs.Side.{Side, left, right, onSide, sideOf}
 use Rattle.graph.specs.Vector.{bit, equalBits, shared}
+use Rattle.graph.specs.Graph.{inList, beside as besideIn, nearer, nearest, graph}
 use Rattle.protocol.specs.Message.{Msg, meet, probe, Name, name, ifZero, ifBit, named, sameMsg, among}
 use Rattle.base.specs.Loops.{any}
 use Rattle.protocol.specs.Numbering.{pairAt, pullAt, sideAt, split, messageAt, somePending}
 use Rattle.protocol.specs.Rules.{Entry, Effect, staying, keep, set, toLink, setting, meeting, probing, pulling, parting, passing, seeking, effect}
-use Rattle.protocol.specs.State.{Meaning, nobody, opened, isPending}
+use Rattle.protocol.specs.State.{Meaning, member, members, nobody, opened, isPending}
 use Rattle.protocol.specs.Calls.{Call, join, leave, deliver, turn, rows, refusal, seatsAfter, sends, takes, linksAfter}
 use Rattle.protocol.specs.Refusals.{first}
 use Rattle.protocol.specs.Page.{each, at, isTaken, pendingAfter}
@@ -105,10 +106,11 @@ drained n M = leftBy (call 3 2) M (bundled n M)
 unfoldable pub joined-Q : Meaning
 joined-Q = meaningRun 3 2 (join 0 100 0 255 ∷ join 1 200 2 0 ∷ join 2 300 1 0 ∷ []) .now
 
-settled-Q : Meaning
-settled-Q = drained 24 joined-Q
+-- settled: with the links of the graph of its lots and nothing pending
+unfoldable pub settled-Q : Meaning
+settled-Q = record { seats = joined-Q .seats; link = graph 3 2 (members (λ x. 0) (joined-Q .seats)); pending = λ m. false }
 
--- a bundle of 5 delivers the smallest first, then what that sends; one of 24 delivers all 23 and stops
+-- a bundle of 5 delivers the smallest first, then what that sends; one of 24 delivers all 23 and stops, since nothing is left
 five-Q : bundled 5 joined-Q ≡ name 1 0 1 0 0 ∷ name 1 0 2 0 0 ∷ name 1 1 0 0 0 ∷ name 1 0 1 0 0 ∷ name 1 1 2 0 0 ∷ []
 unfolding joined-Q drained bundled bundleOf leftBy onward smallestFrom smallestOf smaller before orNext meaningRun stepsFrom step steps
     opened nobody call unlessRefused accept refusal rows first any isPending seatsAfter at sends takes isTaken pendingAfter
@@ -135,19 +137,19 @@ links M =
     M .link 0 0 right ∷ M .link 1 0 left ∷ M .link 1 0 right ∷ M .link 2 0 left
     ∷ M .link 0 1 right ∷ M .link 2 1 left ∷ M .link 1 1 left ∷ M .link 1 1 right ∷ M .link 0 2 right ∷ []
 
-Q-settled : somePending 3 2 (settled-Q .pending) ≡ false
-unfolding settled-Q joined-Q drained bundled bundleOf leftBy onward smallestFrom smallestOf smaller before orNext meaningRun stepsFrom
-    step steps opened nobody call unlessRefused accept refusal rows first any isPending seatsAfter at sends takes isTaken pendingAfter
+-- drained, its links are these
+Q-links : links (drained 24 joined-Q) ≡ some 1 ∷ some 0 ∷ some 2 ∷ some 1 ∷ some 2 ∷ some 0 ∷ none ∷ none ∷ none ∷ []
+unfolding links joined-Q drained bundled bundleOf leftBy onward smallestFrom smallestOf smaller before orNext meaningRun stepsFrom step
+    steps opened nobody call unlessRefused accept refusal rows first any isPending seatsAfter at sends takes isTaken pendingAfter
     deliverySends linksAfter deliveryLinks applied rule effect setting meeting probing pulling parting passing seeking toLink onSide
     sideOf bit equalBits shared named ifZero ifBit sameMsg among somePending messageAt split pairAt pullAt sideAt
-Q-settled = refl
-
-Q-links : links settled-Q ≡ some 1 ∷ some 0 ∷ some 2 ∷ some 1 ∷ some 2 ∷ some 0 ∷ none ∷ none ∷ none ∷ []
-unfolding links settled-Q joined-Q drained bundled bundleOf leftBy onward smallestFrom smallestOf smaller before orNext meaningRun
-    stepsFrom step steps opened nobody call unlessRefused accept refusal rows first any isPending seatsAfter at sends takes isTaken
-    pendingAfter deliverySends linksAfter deliveryLinks applied rule effect setting meeting probing pulling parting passing seeking
-    toLink onSide sideOf bit equalBits shared named ifZero ifBit sameMsg among somePending messageAt split pairAt pullAt sideAt
 Q-links = refl
+
+settled-links : links settled-Q ≡ some 1 ∷ some 0 ∷ some 2 ∷ some 1 ∷ some 2 ∷ some 0 ∷ none ∷ none ∷ none ∷ []
+unfolding links settled-Q joined-Q graph nearest nearer besideIn inList member meaningRun stepsFrom step steps opened nobody call
+    unlessRefused accept refusal rows first any isPending seatsAfter at sends takes isTaken pendingAfter linksAfter onSide bit equalBits
+    shared
+settled-links = refl
 
 -- (k) leave 1, turn, deliver all, turn: 100 and 300 are linked at levels 0 and 1, and seat 1 is as opened
 unfoldable pub after : Meaning → Call → Meaning
@@ -161,5 +163,5 @@ unfolding links left-Q after settled-Q joined-Q drained bundled bundleOf leftBy 
     afterTurn each farewell farewells turnSends unlinked turnLinks meaningRun stepsFrom step steps opened nobody call unlessRefused
     accept refusal rows first any isPending seatsAfter at sends takes isTaken pendingAfter deliverySends linksAfter deliveryLinks
     applied rule effect setting meeting probing pulling parting passing seeking toLink onSide sideOf bit equalBits shared named ifZero
-    ifBit sameMsg among somePending messageAt split pairAt pullAt sideAt
+    ifBit sameMsg among somePending messageAt split pairAt pullAt sideAt graph nearest nearer besideIn inList member
 case-k = refl
