@@ -143,7 +143,8 @@ module _ (set : ℕ) where
     none-goes : (k : ℕ) (d : Side) → k < levels → goes x (getD l (linkAt x k d) 0) ≡ false
     none-goes k d g = rw (bare-byte l x bare k d g)
 
-    pub unlinked-to : (k : ℕ) → k ≤ levels → l ≡ bytesOf (freedTo set (x + 1) (linkPlace x 0 0) M) → l ≡ bytesOf (freedTo set (x + 1) (linkPlace x k 0) M)
+    unlinked-to : (k : ℕ) → k ≤ levels → l ≡ bytesOf (freedTo set (x + 1) (linkPlace x 0 0) M)
+        → l ≡ bytesOf (freedTo set (x + 1) (linkPlace x k 0) M)
     unlinked-to zero g e = e
     unlinked-to (suc k) g e =
         let a = unlinked-to k (omega arith) e in

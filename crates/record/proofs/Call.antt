@@ -54,6 +54,15 @@ pub refused-same : (l : List ℕ) (c : Call) (n : ℕ) → called l c .refused �
 unfolding called unlessRefused
 refused-same l c n e = rw e
 
+-- a call that leaves the bytes as they are where it is accepted leaves every byte
+pub call-idle : (l : List ℕ) (c : Call) → (callRefusal l c ≡ 0 → bytesOf (accept seats width (meaning l) c) ≡ l) → called l c .after ≡ l
+unfolding called unlessRefused
+call-idle l c h = by (callRefusal l c) refl
+  where
+    by : (n : ℕ) → callRefusal l c ≡ n → unlessRefused n l (bytesOf (accept seats width (meaning l) c)) ≡ l
+    by zero e = h e
+    by (suc n) e = refl
+
 -- on any sound bytes: the table's refusal number, the meaning after, and sound bytes after
 module _ (l : List ℕ) (z : length l ≡ size) (b : AreBytes l) (s : sound l ≡ true) where
   fine : Sound seats width (meaning l)

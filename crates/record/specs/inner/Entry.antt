@@ -1,5 +1,5 @@
--- The state, number and vector of an entry written; a seat without links; and an entry that is lent alone, a part of the record that begins in its middle: what the writing
--- of a link leaves of it, and of the record that it is a part of. Assumes nothing.
+-- The state, number and vector of an entry written; a seat without links; and an entry that is lent alone, a part of the record that begins in its
+-- middle: what the writing of a link leaves of it, and of the record that it is a part of. Assumes nothing.
 use Prim.Native.Nat.{ℕ}
 use mathlib.Core.Path.{_≡_}
 use mathlib.Core.Bool.{Bool, _&&_}
