@@ -65,8 +65,7 @@ tCut = tCalls ++ crash 2 ∷ []
 
 -- on any bytes l that open accepts
 pub record Crashes (l : List ℕ) : Type 0 where
-  -- lot 200 is gone, and lot 100 has no link at level 0 and the one to 300 at level 1, whose ends are to meet: each end sends
-  -- both
+  -- lot 200 is gone, and lot 100 has no link at level 0 and the one to 300 at level 1, whose ends are to meet; each of them sends both MEETs
   pub cut : Lot100 l qCut 255 (meet 0 2 0 ∷ meet 2 0 0 ∷ meet 2 0 0 ∷ meet 0 2 0 ∷ [])
   pub freed : readLot (bytesRun l qCut .now) 1 ≡ lot 8 0 0 0
   pub above : LinksOf (bytesRun l qCut .now) 0 1 255 2
@@ -93,7 +92,7 @@ halfLinked = linked 0 0 right 2 ∷ linked 2 0 left 0 ∷ []
 abbrev pub wholeLinked : List LinkOf
 wholeLinked = linked 0 1 right 2 ∷ linked 2 1 left 0 ∷ halfLinked
 
--- on records that no call makes
+-- on small records, field by field
 pub record Components : Type 0 where
   -- no links at all: each lot is a component of its own, and a skip graph
   pub alone : checkIn (smallBytes open-phase three [] []) .yes ≡ true
