@@ -155,6 +155,17 @@ mod tests {
     use crate::round::opened;
     use compare::lent::{self, place::PHASE_AT};
 
+    /// Lots 100, 200 and 300 with vector 0 on seats 0 to 2, settled.
+    pub(super) fn three_lots() -> Vec<u8> {
+        let mut record = opened();
+        for (seat, contact) in [(0, 255), (1, 0), (2, 0)] {
+            let number = 100 + 100 * u64::from(seat);
+            lent::join(&mut record, seat, number, 0, contact).expect("the seat is free");
+        }
+        lent::bundle(&mut record, u16::MAX).expect("the record is sound");
+        record
+    }
+
     #[test]
     fn gaps_are_answers_that_the_table_allows_and_others() {
         let (mut tally, record) = (Tally::default(), opened());

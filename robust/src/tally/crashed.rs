@@ -45,7 +45,7 @@ impl fmt::Display for Crashed {
 #[cfg(test)]
 mod tests {
     use super::*;
-    use crate::round::opened;
+    use crate::tally::tests::three_lots;
     use compare::lent;
     use compare::lent::place::{link_at, ENTRIES_AT, ENTRY, NO_LINK};
 
@@ -58,17 +58,6 @@ mod tests {
         let closed = before.into_iter().filter(|gap| !gaps.contains(gap));
         let prefix = "calls of a record of calls never met ";
         closed.map(|gap| gap.replace(prefix, "")).collect()
-    }
-
-    /// Lots 100, 200 and 300 with vector 0 on seats 0 to 2, settled.
-    fn three_lots() -> Vec<u8> {
-        let mut record = opened();
-        for (seat, contact) in [(0, 255), (1, 0), (2, 0)] {
-            let number = 100 + 100 * u64::from(seat);
-            lent::join(&mut record, seat, number, 0, contact).expect("the seat is free");
-        }
-        lent::bundle(&mut record, u16::MAX).expect("the record is sound");
-        record
     }
 
     #[test]

@@ -92,19 +92,8 @@ impl fmt::Display for Leavers {
 #[cfg(test)]
 mod tests {
     use super::*;
-    use crate::round::opened;
+    use crate::tally::tests::three_lots;
     use compare::lent;
-
-    /// Lots 100, 200 and 300 on seats 0 to 2, settled.
-    fn three_lots() -> Vec<u8> {
-        let mut record = opened();
-        for (seat, contact) in [(0, 255), (1, 0), (2, 0)] {
-            let number = 100 + 100 * u64::from(seat);
-            lent::join(&mut record, seat, number, 0, contact).expect("the seat is free");
-        }
-        lent::bundle(&mut record, u16::MAX).expect("the record is sound");
-        record
-    }
 
     /// Which of the cases a search meets, and no gap is left but for the others.
     fn met(record: &[u8], seat: u8, number: u64) -> Vec<&'static str> {
