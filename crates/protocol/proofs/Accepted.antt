@@ -34,6 +34,10 @@ has-seat N s e = ltb-true s N (not-false (ltb s N) e)
 pub named-seat : (N s c : ℕ) → (noSeat N s || noSuchContact N c) ≡ false → s < N
 named-seat N s c e = has-seat N s (or-false (noSeat N s) (noSuchContact N c) e)
 
+-- both seats exist
+pub two-seats : (N a b : ℕ) → (noSeat N a || noSeat N b) ≡ false → (a < N) × (b < N)
+two-seats N a b e = (has-seat N a (or-false (noSeat N a) (noSeat N b) e), has-seat N b (or-false-snd (noSeat N a) (noSeat N b) e))
+
 module _ (N W : ℕ) (r : Seats) (p : Msg → Bool) where
   -- 1 and 2 are the record's, 12 is the reading's
   abbrev pub Free : Call → ℕ → Type 0
@@ -177,8 +181,7 @@ module _ (N W : ℕ) (r : Seats) (p : Msg → Bool) where
       by false f = absurd (f tt)
 
   pub record Merges (a b : ℕ) : Type 0 where
-    pub seat-first : a < N
-    pub seat-second : b < N
+    pub seats : (a < N) × (b < N)
     pub opens : r .phase ≡ open-phase
     pub first-seated : T (seated r a)
     pub second-seated : T (seated r b)
@@ -188,11 +191,9 @@ module _ (N W : ℕ) (r : Seats) (p : Msg → Bool) where
   unfolding refusal rows
   merge-rows a b e =
       let rs = rows N W r p (merge a b) in
-      let there : (noSeat N a || noSeat N b) ≡ false = no-row rs noSuchSeat tt e in
       let lots : (empty r a || empty r b) ≡ false = no-row rs emptySeat tt e in
       record {
-        seat-first = has-seat N a (or-false (noSeat N a) (noSeat N b) there);
-        seat-second = has-seat N b (or-false-snd (noSeat N a) (noSeat N b) there);
+        seats = two-seats N a b (no-row rs noSuchSeat tt e);
         opens = phase-open (r .phase) (false-not (no-row rs inClearing tt e));
         first-seated = true-T (not-false (seated r a) (or-false (empty r a) (empty r b) lots));
         second-seated = true-T (not-false (seated r b) (or-false-snd (empty r a) (empty r b) lots));
