@@ -14,3 +14,5 @@ pub mod Right
 pub mod Bundles
 pub mod Made
 pub mod Drained
+pub mod Together
+pub mod Merged

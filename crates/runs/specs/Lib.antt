@@ -3,3 +3,4 @@ pub mod Typed
 pub mod Tied
 pub mod Run
 pub mod Drained
+pub mod Merged
