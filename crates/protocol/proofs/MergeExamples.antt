@@ -29,11 +29,12 @@ record Evaluated : Type 0 where
   back : components (λ x. x) 2 0 ≡ 2 ∷ 1 ∷ 2 ∷ []
   all : components (λ x. cond (eqb x 0) 0 2) 0 1 ≡ 0 ∷ 0 ∷ 0 ∷ []
   one : components (λ x. cond (eqb x 1) 1 0) 0 2 ≡ 0 ∷ 1 ∷ 0 ∷ []
-  -- accepted while messages are pending; refused for the same lot
+  -- accepted while messages are pending; refused for the same lot, and before that for a seat without one
   pending : refused joined-Q 0 1 ≡ 0
   itself : refused settled-Q 1 1 ≡ 15
+  nobody-there : refused opened 1 1 ≡ 8
 
 evaluated : Evaluated
 unfolding settled-Q joined-Q components refused componentsAfter united sends refusal rows first meaningRun stepsFrom step steps opened nobody call
     unlessRefused accept any isPending seatsAfter at takes isTaken pendingAfter linksAfter
-evaluated = record { sent = refl; two = refl; back = refl; all = refl; one = refl; pending = refl; itself = refl }
+evaluated = record { sent = refl; two = refl; back = refl; all = refl; one = refl; pending = refl; itself = refl; nobody-there = refl }
