@@ -27,13 +27,14 @@ uniting-over {a} {b} {x} {y} In R S f ia ib ix iy = by
     by (inr (inr (r, s))) = inr (inr (f x b ix ib r, f a y ia iy s))
 
 module _ (a b : ℕ) (c : ℕ → ℕ) where
-  united-other : {x : ℕ} → eqb (c x) (c b) ≡ false → united a b c x ≡ c x
-  unfolding united
-  united-other e = rw e
-
+  -- who was in b's component is in a's
   united-in : {x : ℕ} → c x ≡ c b → united a b c x ≡ c a
   unfolding united
   united-in {x} e = rw (eq-eqb (c x) (c b) e)
+
+  united-other : {x : ℕ} → eqb (c x) (c b) ≡ false → united a b c x ≡ c x
+  unfolding united
+  united-other e = rw e
 
   united-first : united a b c a ≡ c a
   unfolding united
