@@ -30,7 +30,7 @@ module _ (a b : ℕ) (c : ℕ → ℕ) where
   -- who was in b's component is in a's
   united-in : {x : ℕ} → c x ≡ c b → united a b c x ≡ c a
   unfolding united
-  united-in {x} e = rw (eq-eqb (c x) (c b) e)
+  united-in {x} e = ap (λ (t : Bool). cond t (c a) (c x)) (eq-eqb (c x) (c b) e)
 
   united-other : {x : ℕ} → eqb (c x) (c b) ≡ false → united a b c x ≡ c x
   unfolding united
