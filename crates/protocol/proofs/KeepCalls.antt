@@ -1,5 +1,5 @@
--- An accepted join, reservation, confirmation, return, leave or merge keeps soundness; and what seats before and after share if lots stay as they are. A join is
--- a reservation and its confirmation. Assumes nothing.
+-- An accepted join, reservation, confirmation, return, leave or merge keeps soundness; and what seats before and after share if lots stay as they are. A
+-- join is a reservation and its confirmation. Assumes nothing.
 use Prim.Native.Nat.{ℕ, _^_, _<_, zero-le}
 use mathlib.Core.Path.{_≡_, refl, sym, _∙_, subst}
 use mathlib.Core.Logic.{_⊎_, inl, inr, _≢_}

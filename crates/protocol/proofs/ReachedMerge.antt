@@ -17,8 +17,8 @@ use Rattle.protocol.proofs.Reached.{Laws, sound-laws, worldOf, Sane, in
 use Rattle.protocol.proofs.ReachedCalls.{meets-sent}
 
 -- what is of one component in one sense is in another, for lots
-pub uniting-over : {a b x y : ℕ} (In : ℕ → Type 0) (R S : ℕ → ℕ → Type 0) → ((v w : ℕ) → In v → In w → R v w → S v w) → In a → In b → In x → In y
-    → Uniting a b R x y → Uniting a b S x y
+pub uniting-over : {a b x y : ℕ} (In : ℕ → Type 0) (R S : ℕ → ℕ → Type 0) → ((v w : ℕ) → In v → In w → R v w → S v w)
+    → In a → In b → In x → In y → Uniting a b R x y → Uniting a b S x y
 uniting-over {a} {b} {x} {y} In R S f ia ib ix iy = by
   where
     by : Uniting a b R x y → Uniting a b S x y

@@ -36,7 +36,8 @@ use Rattle.runs.proofs.Made.{components-bytes, joined-bytes}
 use Rattle.runs.proofs.Right.{seats-bytes}
 
 -- right after a crash the roster's components are those of the links
-module _ {comp : ℕ → ℕ} {M : Meaning} (g : Reached comp seats width M) (set : ℕ) (e : refusal seats width (M .seats) (M .pending) (crash set) ≡ 0) where
+module _ {comp : ℕ → ℕ} {M : Meaning} (g : Reached comp seats width M) (set : ℕ)
+    (e : refusal seats width (M .seats) (M .pending) (crash set) ≡ 0) where
   quiet : Quiet (stateOf M)
   quiet = nothing-left (g .sound) (crash-rows seats width (M .seats) (M .pending) set e .quiet)
 

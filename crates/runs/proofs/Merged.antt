@@ -99,11 +99,13 @@ module _ {comp : ℕ → ℕ} {X : Meaning} {b : List ℕ} (m : Made comp X b) w
 
   module _ (q : Quiet (stateOf X)) where
     -- with nothing pending those of the links
-    made-joined : (x y : ℕ) → T (member (X .seats) x) → T (member (X .seats) y) → (comp x ≡ comp y) ↔ Joined width (membersIn b) (meaning b .link) x y
+    made-joined : (x y : ℕ) → T (member (X .seats) x) → T (member (X .seats) y)
+        → (comp x ≡ comp y) ↔ Joined width (membersIn b) (meaning b .link) x y
     made-joined x y t u =
         let (to, from) = quiet-components (m .reached) q x y t u in
         let (on, back) = joined-bytes X (m .reached .sound) x y t u in
-        subst (λ (l : List ℕ). (comp x ≡ comp y) ↔ Joined width (membersIn l) (meaning l .link) x y) (sym (m .bytes)) (λ e. on (to e), λ j. from (back j))
+        subst (λ (l : List ℕ). (comp x ≡ comp y) ↔ Joined width (membersIn l) (meaning l .link) x y) (sym (m .bytes))
+        (λ e. on (to e), λ j. from (back j))
 
     -- and each is the skip graph of its own lots
     made-graph : IsGraph seats width (membersIn b) (meaning b .link)
@@ -175,7 +177,8 @@ module _ {comp : ℕ → ℕ} {M : Meaning} {before : List ℕ} (m : Made comp M
     within tied ks y =
         let i = made-deliveries m ks in
         let r = delivered-seats m ks in
-        j .bytes ∙ ap bytesOf (same-meaning (i .reached) one (ap (λ (s : Seats). s .phase) r ∙ ok .opens) (lots ∙ sym r) (made-quiet i y) (made-quiet j z))
+        let opens = ap (λ (s : Seats). s .phase) r ∙ ok .opens in
+        j .bytes ∙ ap bytesOf (same-meaning (i .reached) one opens (lots ∙ sym r) (made-quiet i y) (made-quiet j z))
         ∙ sym (i .bytes)
       where
         one : Reached comp seats width J
