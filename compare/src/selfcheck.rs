@@ -86,12 +86,6 @@ pub fn run_list(list: &[Call]) -> Result<(), Failure> {
     run_list_beside(Roster::new(), Model::open(), list)
 }
 
-/// Runs a list of calls on a given empty model.
-#[cfg(test)]
-pub(crate) fn run_list_on(model: Model, list: &[Call]) -> Result<(), Failure> {
-    run_list_beside(Roster::new(), model, list)
-}
-
 /// Runs a list of calls on a given empty model beside a given empty roster.
 pub(crate) fn run_list_beside(roster: Roster, model: Model, list: &[Call]) -> Result<(), Failure> {
     let mut checked = Checked { model, roster };
