@@ -5,16 +5,13 @@ use mathlib.Core.Option.{Option, none, some}
 use mathlib.Core.Bool.{true}
 use mathlib.Core.List.{List, [], _∷_}
 use native.Mathlib.Omega.{arith}
-use lib.Dec.{T}
 use lib.ListN.{getD}
-use borrow.Author.Tests.{lt-ltb}
 use Rattle.base.specs.Loops.{all}
-use Rattle.base.proofs.Tests.{true-T}
 use Rattle.memory.specs.Bits.{hasBit, setBit}
 use Rattle.graph.specs.Side.{Side, left, right, sideOfNumber}
 use Rattle.graph.specs.Vector.{width}
 use Rattle.protocol.specs.Message.{meet}
-use Rattle.protocol.specs.Numbering.{exists, place}
+use Rattle.protocol.specs.Numbering.{place}
 use Rattle.protocol.specs.Rules.{toLink}
 use Rattle.protocol.specs.State.{Meaning}
 use Rattle.protocol.specs.pages.Crash.{introduced}
@@ -26,15 +23,10 @@ use Rattle.record.specs.inner.Entry.{bareAt}
 use Rattle.record.proofs.Bare.{bare-byte}
 use Rattle.record.proofs.Round.{read-link}
 use Rattle.record.proofs.Links.{linkOf-some, linkOf-none}
-use Rattle.record.proofs.Sent.{bytes-withMessage}
+use Rattle.record.proofs.Sent.{meet-exists, bytes-withMessage}
 use Rattle.clearing.specs.inner.Steps.{Linked, saying, freed}
 use Rattle.clearing.proofs.Telling.{saying-nothing, saying-append, link-named}
 use Rattle.crash.specs.inner.Steps.{levelIntroductions, lotIntroductions}
-
--- MEET at level 0 exists
-meet-exists : (x y : ℕ) → x < seats → y < seats → T (exists seats width (meet x y 0))
-unfolding exists
-meet-exists x y h g = true-T {b = exists seats width (meet x y 0)} (rw (lt-ltb x seats h, lt-ltb y seats g))
 
 -- one to each end
 module _ (M : Meaning) (x y : ℕ) (h : x < seats) (g : y < seats) where

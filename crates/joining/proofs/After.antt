@@ -11,7 +11,6 @@ use borrow.Author.Tests.{lt-ltb, le-ltb}
 use Rattle.graph.specs.Vector.{width}
 use Rattle.base.proofs.Cases.{lt-or-ge}
 use Rattle.protocol.specs.Message.{Msg, meet}
-use Rattle.protocol.specs.Numbering.{exists}
 use Rattle.protocol.specs.Rules.{SeatState, staying, leaving}
 use Rattle.protocol.specs.State.{Meaning, seated}
 use Rattle.protocol.specs.Page.{pendingAfter}
@@ -27,7 +26,7 @@ use Rattle.record.specs.inner.Entry.{filled}
 use Rattle.record.proofs.Form.{Form}
 use Rattle.record.proofs.Round.{bytes-meaning}
 use Rattle.record.proofs.Update.{withState, withPending, bytes-withState}
-use Rattle.record.proofs.Sent.{bytes-withMessage}
+use Rattle.record.proofs.Sent.{meet-exists, bytes-withMessage}
 use Rattle.record.proofs.Entry.{withLot, bytes-withLot-unlinked}
 use Rattle.record.proofs.Accepted.{Accepted}
 use Rattle.joining.specs.inner.Newcomer.{greeted}
@@ -42,9 +41,8 @@ filled-bytes {l} f h s t n v p e =
 -- the contact's MEET
 pub greeted-bytes : (M : Meaning) (s c : ℕ) → s < seats
     → bytesOf (withPending M (pendingAfter (greeting seats s c) none (M .pending))) ≡ greeted (bytesOf M) s c
-unfolding exists
 greeted-bytes M s c p = ⊎-elim
-    (λ h. rw (lt-ltb c seats h) (bytes-withMessage M (meet c s 0) (rw (lt-ltb c seats h, lt-ltb s seats p) tt)))
+    (λ h. rw (lt-ltb c seats h) (bytes-withMessage M (meet c s 0) (meet-exists c s h p)))
     (λ h. rw (le-ltb c seats h) (ap (λ (q : Msg → Bool). bytesOf (withPending M q)) (after-nothing (M .pending))))
     (lt-or-ge c seats)
 

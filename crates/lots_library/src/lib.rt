@@ -4,7 +4,7 @@
 ghost use mathlib.Core.Path.{_≡_};
 ghost use Rattle.protocol.specs.Message.{name};
 ghost use Rattle.protocol.specs.Calls.{join as joining, reserve as reserving, confirm as confirming, giveBack as givingBack};
-ghost use Rattle.protocol.specs.Calls.{leave as leaving, deliver as delivering, turn as turning, crash as crashing};
+ghost use Rattle.protocol.specs.Calls.{leave as leaving, deliver as delivering, turn as turning, crash as crashing, merge as merging};
 ghost use Rattle.record.specs.Reading.{recordRefusal, openRefusal, openBytes, readLot, readLink, readMessage, readCounts};
 ghost use Rattle.record.specs.Call.{called};
 ghost use Rattle.record.specs.Bundle.{bundled};
@@ -130,6 +130,14 @@ pub extern "C" fn lots_crash(rec: &mut [u8], seats: u64) -> u8
     ensures { λ r. ⌜ record { refused = r; after = now (rec .exit) } ≡ called (now (rec .entry)) (crashing seats) ⌝ }
 {
     number_of(crash::crash(rec, seats))
+}
+
+// Sends the lot on one seat MEET about the lot on another at level 0, so that their components become one. Refused: 1, 2, 3, 7, 8, 15.
+#[no_mangle]
+pub extern "C" fn lots_merge(rec: &mut [u8], first: u8, second: u8) -> u8
+    ensures { λ r. ⌜ record { refused = r; after = now (rec .exit) } ≡ called (now (rec .entry)) (merging first second) ⌝ }
+{
+    number_of(merge::merge(rec, first, second))
 }
 
 // The staying lot that a scanned number belongs to, searched from the lot on a seat among those of its component: its seat, or 255 for none, and the

@@ -6,13 +6,13 @@ use mathlib.Core.Bool.{Bool, true, false, not, cond, _&&_, _||_}
 use lib.Dec.{T, eqb, ltb}
 use borrow.Author.Tests.{ltb-true, lt-ltb, le-ltb, not-false, eq-eqb}
 use Rattle.base.specs.Bits.{hasBit}
-use Rattle.base.proofs.Tests.{true-T, and-T}
+use Rattle.base.proofs.Tests.{true-T, and-T, true-false}
 use Rattle.protocol.specs.Message.{Msg, Name, named}
 use Rattle.protocol.specs.Numbering.{somePending}
 use Rattle.protocol.specs.State.{open-phase, Seats, isClearing, noSeat, taken, seated, empty, leaves, held, isPending}
-use Rattle.protocol.specs.Calls.{Call, join, reserve, confirm, giveBack, leave, deliver, turn, crash, rows, refusal}
+use Rattle.protocol.specs.Calls.{Call, join, reserve, confirm, giveBack, leave, deliver, turn, crash, merge, rows, refusal}
 use Rattle.protocol.specs.Refusals.{wrongSize, unsound, noSuchLevel, noSuchSeat, seatTaken, numberInUse, noContact, inClearing, emptySeat}
-use Rattle.protocol.specs.Refusals.{alreadyLeaving, noSuchMessage, messagesLeft, notReserved, appliesIn, first}
+use Rattle.protocol.specs.Refusals.{alreadyLeaving, noSuchMessage, messagesLeft, notReserved, sameLot, appliesIn, first}
 use Rattle.protocol.specs.pages.Join.{noSuchContact, inUse, lacksContact}
 use Rattle.protocol.specs.pages.Crash.{namesEmpty}
 use Rattle.protocol.proofs.Calls.{no-row}
@@ -23,12 +23,20 @@ or-false : (a b : Bool) → (a || b) ≡ false → a ≡ false
 or-false true b e = e
 or-false false b e = refl
 
+or-false-snd : (a b : Bool) → (a || b) ≡ false → b ≡ false
+or-false-snd true b e = true-false refl e
+or-false-snd false b e = e
+
 -- seat and contact can be named: the seat exists
 pub has-seat : (N s : ℕ) → noSeat N s ≡ false → s < N
 has-seat N s e = ltb-true s N (not-false (ltb s N) e)
 
 pub named-seat : (N s c : ℕ) → (noSeat N s || noSuchContact N c) ≡ false → s < N
 named-seat N s c e = has-seat N s (or-false (noSeat N s) (noSuchContact N c) e)
+
+-- both seats exist
+pub two-seats : (N a b : ℕ) → (noSeat N a || noSeat N b) ≡ false → (a < N) × (b < N)
+two-seats N a b e = (has-seat N a (or-false (noSeat N a) (noSeat N b) e), has-seat N b (or-false-snd (noSeat N a) (noSeat N b) e))
 
 module _ (N W : ℕ) (r : Seats) (p : Msg → Bool) where
   -- 1 and 2 are the record's, 12 is the reading's
@@ -45,6 +53,7 @@ module _ (N W : ℕ) (r : Seats) (p : Msg → Bool) where
   rows-free (deliver n) = (refl, refl, refl)
   rows-free turn = (refl, refl, refl)
   rows-free (crash set) = (refl, refl, refl)
+  rows-free (merge a b) = (refl, refl, refl)
 
   -- what the rows of a join, of reserving and of confirming say in common
   not-used : (n : ℕ) → inUse N r n ≡ false → (x : ℕ) → x < N → T (taken r x) → r .number x ≢ n
@@ -170,3 +179,23 @@ module _ (N W : ℕ) (r : Seats) (p : Msg → Bool) where
       by : (b : Bool) → (T (not b) → ⊥) → T b
       by true f = tt
       by false f = absurd (f tt)
+
+  pub record Merges (a b : ℕ) : Type 0 where
+    pub seats : (a < N) × (b < N)
+    pub opens : r .phase ≡ open-phase
+    pub first-seated : T (seated r a)
+    pub second-seated : T (seated r b)
+    pub apart : a ≢ b
+
+  pub merge-rows : (a b : ℕ) → refusal N W r p (merge a b) ≡ 0 → Merges a b
+  unfolding refusal rows
+  merge-rows a b e =
+      let rs = rows N W r p (merge a b) in
+      let lots : (empty r a || empty r b) ≡ false = no-row rs emptySeat tt e in
+      record {
+        seats = two-seats N a b (no-row rs noSuchSeat tt e);
+        opens = phase-open (r .phase) (false-not (no-row rs inClearing tt e));
+        first-seated = true-T (not-false (seated r a) (or-false (empty r a) (empty r b) lots));
+        second-seated = true-T (not-false (seated r b) (or-false-snd (empty r a) (empty r b) lots));
+        apart = λ q. true-false (eq-eqb a b q) (no-row rs sameLot tt e);
+      }

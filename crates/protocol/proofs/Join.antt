@@ -1,5 +1,5 @@
--- The invariant of phase open goes over into a world that has the old lots as they were, with the old links and messages: one with the same lots, and
--- one with a newcomer, tied to its contact's component by the MEET just sent. Assumes nothing.
+-- The invariant of phase open goes over into a world that has the old lots, with the old links and messages: one with the same lots, and one in which
+-- the MEET just sent ties two lots: a newcomer and its contact, or two components that become one. Assumes nothing.
 use Prim.Native.Nat.{ℕ, suc, _≤_, _<_}
 use mathlib.Core.Path.{_≡_, refl, sym, _∙_, ap, subst}
 use mathlib.Core.Logic.{_⊎_, inl, inr, _≢_}
@@ -16,17 +16,18 @@ use Rattle.protocol.proofs.Conn.{Conn, crefl, clink, cmeet, csym, ctran
 use Rattle.protocol.proofs.Segment.{Segment, out, home, pullb, pullf, Done, joined, todo}
 use Rattle.protocol.proofs.Invariant.{Invariant}
 
--- the old lots are there as they were
+-- the old lots are there as they were, those of one component in one
 pub record Has (G G′ : World) : Type 0 where
   pub agree : Agree (G .Seated) G G′
   pub still : (x : ℕ) → G .Seated x → G′ .Seated x
+  pub within : (x y : ℕ) → G .Seated x → G .Seated y → G .comp x ≡ G .comp y → G′ .comp x ≡ G′ .comp y
 
 -- the old links, and the old messages
 pub record Keeps (S S′ : State) : Type 0 where
   pub same-link : (x k : ℕ) (d : Side) → S′ .link x k d ≡ S .link x k d
   pub kept : (n : Msg) → S .pend n → S′ .pend n
 
-zero-pair : (G : World) {x y : ℕ} → G .Seated x → G .Seated y → G .comp x ≡ G .comp y → Pair G 0 x y
+pub zero-pair : (G : World) {x y : ℕ} → G .Seated x → G .Seated y → G .comp x ≡ G .comp y → Pair G 0 x y
 zero-pair G sx sy e = record { fst = sx; snd = sy; same = e; bits = omega arith }
 
 way-seated : {G : World} {S : State} {x k y : ℕ} {d : Side} → Proper G S → (w : WayBack G S x k d y) → G .Seated (w .lot)
@@ -48,7 +49,8 @@ module _ {G G′ : World} (g : Has G G′) where
   lt-over sx sy l = agree-lt (g .agree) sx sy l
 
   pub pair-over : {k x y : ℕ} → Pair G k x y → Pair G′ k x y
-  pair-over {k} {x} {y} p = agree-pair (g .agree) (p .fst) (p .snd) (g .still x (p .fst)) (g .still y (p .snd)) p
+  pair-over {k} {x} {y} p =
+      agree-pair (g .agree) (p .fst) (p .snd) (g .still x (p .fst)) (g .still y (p .snd)) (g .within x y (p .fst) (p .snd) (p .same)) p
 
   ok-over : {m : Msg} → Ok G m → Ok G′ m
   ok-over (ok-meet p q) = ok-meet (pair-over p) q
@@ -135,43 +137,38 @@ invariant-same g b i =
     invariant-over g (record { same-link = λ x k d. refl; kept = λ n p. p }) (λ m p. ok-over g (i .proper .pend-ok p))
     (record { conn = λ p. i .whole .conn (pair-over b p) }) i
 
--- one lot more, on the seat s, in the component of its contact c
-pub record Grows (G G′ : World) (s c : ℕ) : Type 0 where
+-- x and y are one lot, or two of one component
+abbrev pub Near : World → (x y : ℕ) → Type 0
+Near G x y = (x ≡ y) ⊎ Pair G 0 x y
+
+-- a and b are in one component, and what else is in one with them was in the one's or the other's
+pub record Ties (G G′ : World) (a b : ℕ) : Type 0 where
   pub has : Has G G′
-  pub new : G′ .Seated s
-  pub from : (x : ℕ) → G′ .Seated x → G .Seated x ⊎ (x ≡ s)
-  pub apart : c ≢ s
-  pub contact : G′ .comp s ≡ G .comp c
+  pub pair : Pair G′ 0 a b
+  pub apart : a ≢ b
+  pub from : (x y : ℕ) → Pair G′ 0 x y → Near G x y ⊎ ((Near G x a × Near G b y) ⊎ (Near G x b × Near G a y))
 
--- the contact c is to meet s
-pub record Meets (S S′ : State) (c s : ℕ) : Type 0 where
+-- a is to meet b
+pub record Meets (S S′ : State) (a b : ℕ) : Type 0 where
   pub keeps : Keeps S S′
-  pub hello : S′ .pend (meet c s 0)
-  pub only : (n : Msg) → S′ .pend n → S .pend n ⊎ (n ≡ meet c s 0)
+  pub hello : S′ .pend (meet a b 0)
+  pub only : (n : Msg) → S′ .pend n → S .pend n ⊎ (n ≡ meet a b 0)
 
-pub invariant-join : {G G′ : World} {s c : ℕ} {S S′ : State} → Grows G G′ s c → Meets S S′ c s → G .Seated c → Invariant G S
-    → Invariant G′ S′
-invariant-join {G} {G′} {s} {c} {S} {S′} g j sc i = invariant-over (g .has) (j .keeps) (λ m p. ok (j .only m p)) whole i
+pub invariant-tied : {G G′ : World} {a b : ℕ} {S S′ : State} → Ties G G′ a b → Meets S S′ a b → Invariant G S → Invariant G′ S′
+invariant-tied {G} {G′} {a} {b} {S} {S′} g j i = invariant-over (g .has) (j .keeps) (λ m p. ok (j .only m p)) whole i
   where
-    same : (x : ℕ) → G .Seated x → G′ .comp x ≡ G .comp x
-    same = g .has .agree .component
-
-    ok : {m : Msg} → S .pend m ⊎ (m ≡ meet c s 0) → Ok G′ m
+    ok : {m : Msg} → S .pend m ⊎ (m ≡ meet a b 0) → Ok G′ m
     ok (inl p) = ok-over (g .has) (i .proper .pend-ok p)
-    ok (inr e) = subst (Ok G′) (sym e) (ok-meet (zero-pair G′ (g .has .still c sc) (g .new) (same c sc ∙ sym (g .contact))) (g .apart))
+    ok (inr e) = subst (Ok G′) (sym e) (ok-meet (g .pair) (g .apart))
 
-    -- two lots that were there, and one of the contact's component and the newcomer
-    both : (x y : ℕ) → G .Seated x → G .Seated y → G .comp x ≡ G .comp y → Conn S′ 0 x y
-    both x y p q e = conn-over (j .keeps) (i .whole .conn (zero-pair G p q e))
+    near : {x y : ℕ} → Near G x y → Conn S′ 0 x y
+    near (inl e) = conn-eq e
+    near (inr p) = conn-over (j .keeps) (i .whole .conn p)
 
-    to : (x : ℕ) → G .Seated x → G′ .comp x ≡ G′ .comp s → Conn S′ 0 x s
-    to x sx e = ctrans (both x c sx sc (sym (same x sx) ∙ e ∙ g .contact)) (cmeet (j .hello))
-
-    by : (x y : ℕ) → G .Seated x ⊎ (x ≡ s) → G .Seated y ⊎ (y ≡ s) → G′ .comp x ≡ G′ .comp y → Conn S′ 0 x y
-    by x y (inl p) (inl q) e = both x y p q (sym (same x p) ∙ e ∙ same y q)
-    by x y (inl p) (inr q) e = ctrans (to x p (e ∙ ap (G′ .comp) q)) (conn-eq (sym q))
-    by x y (inr p) (inl q) e = ctrans (conn-eq p) (csym (to y q (sym e ∙ ap (G′ .comp) p)))
-    by x y (inr p) (inr q) e = conn-eq (p ∙ sym q)
+    by : {x y : ℕ} → Near G x y ⊎ ((Near G x a × Near G b y) ⊎ (Near G x b × Near G a y)) → Conn S′ 0 x y
+    by (inl p) = near p
+    by (inr (inl (p, q))) = ctrans (near p) (ctrans (cmeet (j .hello)) (near q))
+    by (inr (inr (p, q))) = ctrans (near p) (ctrans (csym (cmeet (j .hello))) (near q))
 
     whole : Whole G′ S′ 0
-    whole = record { conn = λ {x} {y} p. by x y (g .from x (p .fst)) (g .from y (p .snd)) (p .same) }
+    whole = record { conn = λ {x} {y} p. by (g .from x y p) }

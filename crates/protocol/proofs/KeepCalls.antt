@@ -1,4 +1,4 @@
--- An accepted join, reservation, confirmation, return or leave keeps soundness; and what seats before and after share if lots stay as they are. A join is
+-- An accepted join, reservation, confirmation, return, leave or merge keeps soundness; and what seats before and after share if lots stay as they are. A join is
 -- a reservation and its confirmation. Assumes nothing.
 use Prim.Native.Nat.{ℕ, _^_, _<_, zero-le}
 use mathlib.Core.Path.{_≡_, refl, sym, _∙_, subst}
@@ -16,7 +16,7 @@ use Rattle.graph.specs.inner.Order.{Lt, toL, toR}
 use Rattle.protocol.specs.Message.{Msg, meet}
 use Rattle.protocol.specs.Rules.{SeatState, free, staying, leaving, reserved}
 use Rattle.protocol.specs.State.{Phase, open-phase, clearing, Seats, Meaning, isFree, isSeated, taken, seated, stays}
-use Rattle.protocol.specs.Calls.{join, reserve, confirm, giveBack, leave, refusal, seatsAfter, sends, takes, linksAfter, accept}
+use Rattle.protocol.specs.Calls.{join, reserve, confirm, giveBack, leave, merge, refusal, seatsAfter, sends, takes, linksAfter, accept}
 use Rattle.protocol.specs.Page.{at, marking, seating, withoutLinks, pendingAfter}
 use Rattle.protocol.specs.pages.Join.{greeting}
 use Rattle.protocol.specs.Sound.{numberBits, linkOk, messageOk, Sound}
@@ -24,7 +24,7 @@ use Rattle.protocol.proofs.Calls.{at-same, at-other, at-tested, at-all}
 use Rattle.protocol.proofs.SoundFacts.{Two, Linked, Proper, p-meet, p-probe, p-pull, p-going, p-seek, p-found, p-none, linked-ok, proper-ok}
 use Rattle.protocol.proofs.SoundFacts.{not-clearing, link-linked, pending-proper, stays-seated, seated-taken, held-taken}
 use Rattle.protocol.proofs.SoundFacts.{held-empty, free-empty, pending-after}
-use Rattle.protocol.proofs.Accepted.{reserve-rows, Confirms, confirm-rows, give-back-rows, leave-rows, join-reserve}
+use Rattle.protocol.proofs.Accepted.{reserve-rows, Confirms, confirm-rows, give-back-rows, leave-rows, join-reserve, Merges, merge-rows}
 use Rattle.protocol.proofs.Reserving.{join-confirm, join-in-two}
 
 -- lot x, seated in r, is seated in r′, with the same number and vector
@@ -225,6 +225,26 @@ module _ {N W : ℕ} {M : Meaning} (h : Sound N W M) where
           let t = proper-ok W r′ (ok .opens) (p-meet (greets (ok .contact (ltb-true c N f)))) in
           subst (λ (k : Msg). T (messageOk W r′ k)) (sym (List·Memᴰ·eq-of-singleton q)) t
       hello false f m q = absurd (List·Memᴰ·not-nil q)
+
+  -- a MEET between two lots may be sent at any time in phase open
+  pub merge-sound : (a b : ℕ) → refusal N W (M .seats) (M .pending) (merge a b) ≡ 0 → Sound N W (accept N W M (merge a b))
+  unfolding accept seatsAfter linksAfter sends takes
+  merge-sound a b e = record {
+    seats = h .seats;
+    numbers = h .numbers;
+    vectors = h .vectors;
+    unused = h .unused;
+    differ = h .differ;
+    links = h .links;
+    messages = pending-after (λ m. T (messageOk W r m)) (meet a b 0 ∷ []) none (M .pending) (h .messages) (λ m q.
+        subst (λ (k : Msg). T (messageOk W r k)) (sym (List·Memᴰ·eq-of-singleton q)) (proper-ok W r (ok .opens) (p-meet two)));
+  }
+    where
+      ok : Merges N W r (M .pending) a b
+      ok = merge-rows N W r (M .pending) a b e
+
+      two : Two W r 0 a b
+      two = record { one = ok .first-seated; two = ok .second-seated; apart = ok .apart; bits = zero-le }
 
 pub join-sound : {N W : ℕ} {M : Meaning} → Sound N W M → (s n v c : ℕ) → n < 2 ^ numberBits → v < 2 ^ W
     → refusal N W (M .seats) (M .pending) (join s n v c) ≡ 0 → Sound N W (accept N W M (join s n v c))

@@ -9,13 +9,14 @@ use Rattle.base.proofs.Tests.{false-T, none-some}
 use Rattle.protocol.specs.Message.{Msg}
 use Rattle.protocol.specs.Numbering.{somePending}
 use Rattle.protocol.specs.State.{Meaning, nobody, opened}
-use Rattle.protocol.specs.Calls.{Call, join, reserve, confirm, giveBack, leave, deliver, turn, crash, refusal, accept, unlessRefused, call, InRange}
+use Rattle.protocol.specs.Calls.{Call, join, reserve, confirm, giveBack, leave, deliver, turn, crash, merge, refusal, accept}
+use Rattle.protocol.specs.Calls.{unlessRefused, call, InRange}
 use Rattle.protocol.specs.Sound.{numberBits, Sound}
 use Rattle.protocol.proofs.Numbering.{none-pending}
 use Rattle.protocol.proofs.SoundFacts.{pending-exists}
 use Rattle.protocol.proofs.Accepted.{turn-row, crash-rows}
 use Rattle.protocol.proofs.KeepDelivery.{deliver-sound}
-use Rattle.protocol.proofs.KeepCalls.{join-sound, reserve-sound, confirm-sound, give-back-sound, leave-sound}
+use Rattle.protocol.proofs.KeepCalls.{join-sound, reserve-sound, confirm-sound, give-back-sound, leave-sound, merge-sound}
 use Rattle.protocol.proofs.KeepTurn.{turn-sound}
 use Rattle.protocol.proofs.KeepCrash.{crash-sound}
 
@@ -45,6 +46,7 @@ accept-sound N W M h (leave s) q e = leave-sound h s e
 accept-sound N W M h (deliver n) q e = deliver-sound h n e
 accept-sound N W M h turn q e = turn-sound h (nothing-left h (turn-row N W (M .seats) (M .pending) e))
 accept-sound N W M h (crash set) q e = let c = crash-rows N W (M .seats) (M .pending) set e in crash-sound h (nothing-left h (c .quiet)) (c .opens) set
+accept-sound N W M h (merge a b) q e = merge-sound h a b e
 
 pub call-sound : (N W : ℕ) (M : Meaning) → Sound N W M → (c : Call) → InRange N W c → Sound N W (call N W M c .after)
 unfolding call unlessRefused

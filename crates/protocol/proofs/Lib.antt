@@ -28,6 +28,8 @@ pub mod Reached
 pub mod ReachedCalls
 pub mod ReachedTurn
 pub mod ReachedCrash
+pub mod ReachedMerge
+pub mod Tied
 pub mod Falls
 pub mod Bundle
 pub mod Theorem

@@ -21,10 +21,11 @@ use Rattle.protocol.specs.Sound.{Sound}
 use Rattle.protocol.proofs.Message.{among-mem, mem-among}
 use Rattle.protocol.proofs.Calls.{at-same, at-other, at-tested, after-nothing, after-came, after-kept, after-only}
 use Rattle.protocol.proofs.Delivery.{stateOf}
+use Rattle.protocol.proofs.World.{World, Pair, pair-sym}
 use Rattle.protocol.proofs.Open.{ok-to}
 use Rattle.protocol.proofs.Clearing.{AllLinks, Clearing}
 use Rattle.protocol.proofs.Invariant.{invariant-first}
-use Rattle.protocol.proofs.Join.{Has, invariant-same, Grows, Meets, invariant-join}
+use Rattle.protocol.proofs.Join.{Has, zero-pair, invariant-same, Near, Ties, Meets, invariant-tied}
 use Rattle.protocol.proofs.SameLots.{links-same, clearing-same}
 use Rattle.protocol.proofs.SoundFacts.{not-clearing, free-empty, held-empty, empty-stays, empty-unlinked, seated-below}
 use Rattle.protocol.proofs.Accepted.{Reserves, Confirms, GivesBack, Leaves}
@@ -52,6 +53,22 @@ module _ (sent : List Msg) (p : Msg → Bool) where
   pub after-sent : (m : Msg) → List·Memᴰ m sent → T (pendingAfter sent none p m)
   after-sent m i = after-came sent none p m (mem-among sent i)
 
+-- one MEET is sent, and links stay
+pub meets-sent : (M : Meaning) (a b : ℕ)
+    → Meets (stateOf M) (record { link = M .link; pend = λ m. T (pendingAfter (meet a b 0 ∷ []) none (M .pending) m) }) a b
+meets-sent M a b = record {
+  keeps = record { same-link = λ x k d. refl; kept = λ m t. after-old sent (M .pending) m t };
+  hello = after-sent sent (M .pending) (meet a b 0) (List·Memᴰ·head refl);
+  only = λ m t. one (after-only-sent sent (M .pending) m t);
+}
+  where
+    sent : List Msg
+    sent = meet a b 0 ∷ []
+
+    one : {m : Msg} → T (M .pending m) ⊎ List·Memᴰ m (meet a b 0 ∷ []) → T (M .pending m) ⊎ (m ≡ meet a b 0)
+    one (inl t) = inl t
+    one (inr t) = inr (List·Memᴰ·eq-of-singleton t)
+
 -- the same lots sit, each with its number and vector
 pub record SameSeated (r r′ : Seats) : Type 0 where
   pub same : (x : ℕ) → seated r′ x ≡ seated r x
@@ -69,8 +86,9 @@ same-back q = record {
 module _ (comp : ℕ → ℕ) {W : ℕ} where
   has : {r r′ : Seats} → SameSeated r r′ → (l : Laws r) (l′ : Laws r′) → Has (worldOf comp W r l) (worldOf comp W r′ l′)
   has q l l′ = record {
-    agree = record { width = refl; number = q .number; vector = q .vector; component = λ x t. refl };
+    agree = record { width = refl; number = q .number; vector = q .vector };
     still = λ x t. rw (q .same x) t;
+    within = λ x y t u e. e;
   }
 
   -- links and messages stay, too
@@ -153,20 +171,42 @@ module _ (comp : ℕ → ℕ) {N W : ℕ} {M : Meaning} (h : Sound N W M) (s c :
   comp′ = admitted N s c comp
 
   -- the newcomer is in the component of its contact
-  grows : c < N → (l : Laws r) (l′ : Laws r′) → Grows (worldOf comp W r l) (worldOf comp′ W r′ l′) s c
-  grows p l l′ = record {
+  ties : c < N → (l : Laws r) (l′ : Laws r′) → Ties (worldOf comp W r l) (worldOf comp′ W r′ l′) c s
+  ties p l l′ = record {
     has = record {
-      agree = record { width = refl; number = λ x t. refl; vector = λ x t. refl; component = λ x t. old x (other x t) };
-      still = λ x t. rw (at-other s staying (r .state) x (other x t)) t;
+      agree = record { width = refl; number = λ x t. refl; vector = λ x t. refl };
+      still = still;
+      within = λ x y t u e. old x t ∙ e ∙ sym (old y u);
     };
-    new = rw (at-same s staying (r .state) s refl) tt;
-    from = who;
+    pair = zero-pair G′ (still c (ok .contact p)) (rw (at-same s staying (r .state) s refl) tt) (old c (ok .contact p) ∙ sym new);
     apart = other c (ok .contact p);
-    contact = at-same s _ comp s refl ∙ rw (lt-ltb c N p);
+    from = λ x y q. by x y (who x (q .fst)) (who y (q .snd)) (q .same);
   }
     where
-      old : (x : ℕ) → x ≢ s → comp′ x ≡ comp x
-      old x n = at-other s _ comp x n
+      G : World
+      G = worldOf comp W r l
+
+      G′ : World
+      G′ = worldOf comp′ W r′ l′
+
+      still : (x : ℕ) → T (seated r x) → T (seated r′ x)
+      still x t = rw (at-other s staying (r .state) x (other x t)) t
+
+      old : (x : ℕ) → T (seated r x) → comp′ x ≡ comp x
+      old x t = at-other s _ comp x (other x t)
+
+      new : comp′ s ≡ comp c
+      new = at-same s _ comp s refl ∙ rw (lt-ltb c N p)
+
+      with-contact : (x y : ℕ) → T (seated r x) → y ≡ s → comp′ x ≡ comp′ y → Pair G 0 x c
+      with-contact x y t q e = zero-pair G t (ok .contact p) (sym (old x t) ∙ e ∙ ap comp′ q ∙ new)
+
+      by : (x y : ℕ) → T (seated r x) ⊎ (x ≡ s) → T (seated r y) ⊎ (y ≡ s) → comp′ x ≡ comp′ y
+          → Near G x y ⊎ ((Near G x c × Near G s y) ⊎ (Near G x s × Near G c y))
+      by x y (inl t) (inl u) e = inl (inr (zero-pair G t u (sym (old x t) ∙ e ∙ old y u)))
+      by x y (inl t) (inr q) e = inr (inl (inr (with-contact x y t q e), inl (sym q)))
+      by x y (inr q) (inl u) e = inr (inr (inl q, inr (pair-sym (with-contact y x u q (sym e)))))
+      by x y (inr p) (inr q) e = inl (inl (p ∙ sym q))
 
   confirmed : Sane comp W M open-phase → Sane comp′ W (accept N W M (confirm s c)) open-phase
   unfolding accept linksAfter sends takes seatsAfter
@@ -176,22 +216,14 @@ module _ (comp : ℕ → ℕ) {N W : ℕ} {M : Meaning} (h : Sound N W M) (s c :
       sent b = cond b (meet c s 0 ∷ []) []
 
       meets : (b : Bool) → b ≡ true → Meets (stateOf M) (record { link = M .link; pend = λ m. T (pendingAfter (sent b) none (M .pending) m) }) c s
-      meets true e = record {
-        keeps = record { same-link = λ x k d. refl; kept = λ m t. after-old (sent true) (M .pending) m t };
-        hello = after-sent (sent true) (M .pending) (meet c s 0) (List·Memᴰ·head refl);
-        only = λ m t. one (after-only-sent (sent true) (M .pending) m t);
-      }
-        where
-          one : {m : Msg} → T (M .pending m) ⊎ List·Memᴰ m (meet c s 0 ∷ []) → T (M .pending m) ⊎ (m ≡ meet c s 0)
-          one (inl t) = inl t
-          one (inr t) = inr (List·Memᴰ·eq-of-singleton t)
+      meets true e = meets-sent M c s
       meets false e = true-false e refl
 
       l : Laws r
       l = sound-laws h
 
       by : Dec (c < N) → Sane comp′ W (accept N W M (confirm s c)) open-phase
-      by (yes p) = in-open (λ l′. invariant-join (grows p l l′) (meets (ltb c N) (lt-ltb c N p)) (ok .contact p) (i l))
+      by (yes p) = in-open (λ l′. invariant-tied (ties p l l′) (meets (ltb c N) (lt-ltb c N p)) (i l))
       by (no p) =
           in-open (λ l′. invariant-first (worldOf comp′ W r′ l′) _ alone (λ x k d. empty-unlinked h x k d (not-T-false (nobody-in x)))
           (λ m t. silent (ltb c N) (le-ltb c N (omega arith)) m t))

@@ -146,12 +146,8 @@ module _ (comp : ℕ → ℕ) {N W : ℕ} {M : Meaning} (h : Sound N W M) (q : Q
   shrinks l l′ = record {
     old = λ x t. let s = freed-stays x t in (stays-seated (M .seats) x s, s);
     new = λ x t s. stays-freed x s;
-    agree = record {
-      width = refl;
-      number = λ x s. rw (leaves-off (M .seats) x s);
-      vector = λ x s. rw (leaves-off (M .seats) x s);
-      component = λ x s. refl;
-    };
+    agree = record { width = refl; number = λ x s. rw (leaves-off (M .seats) x s); vector = λ x s. rw (leaves-off (M .seats) x s) };
+    same = λ x s. refl;
   }
 
   -- a target is no leaver

@@ -11,8 +11,8 @@ use Rattle.base.proofs.Tests.{false-T, not-T-false}
 use Rattle.protocol.specs.Message.{Msg, Name}
 use Rattle.protocol.specs.Numbering.{somePending}
 use Rattle.protocol.specs.State.{Seats, Meaning, members, nobody, opened}
-use Rattle.protocol.specs.Calls.{Call, join, reserve, confirm, giveBack, leave, deliver, turn, crash, refusal, seatsAfter, componentsAfter}
-use Rattle.protocol.specs.Calls.{sends, takes, accept, unlessRefused, call, InRange}
+use Rattle.protocol.specs.Calls.{Call, join, reserve, confirm, giveBack, leave, deliver, turn, crash, merge, refusal, seatsAfter}
+use Rattle.protocol.specs.Calls.{componentsAfter, sends, takes, accept, unlessRefused, call, InRange}
 use Rattle.protocol.specs.pages.Join.{admitted}
 use Rattle.protocol.specs.Page.{pendingAfter}
 use Rattle.protocol.specs.Sound.{Sound}
@@ -22,7 +22,7 @@ use Rattle.protocol.proofs.Numbering.{pending-none}
 use Rattle.protocol.proofs.Delivery.{stateOf, accept-deliver}
 use Rattle.protocol.proofs.World.{Quiet}
 use Rattle.protocol.proofs.Invariant.{invariant-first}
-use Rattle.protocol.proofs.Accepted.{reserve-rows, confirm-rows, join-reserve, give-back-rows, leave-rows, turn-row, crash-rows}
+use Rattle.protocol.proofs.Accepted.{reserve-rows, confirm-rows, join-reserve, give-back-rows, leave-rows, turn-row, crash-rows, merge-rows}
 use Rattle.protocol.proofs.Reserving.{join-confirm, join-in-two}
 use Rattle.protocol.proofs.KeepCalls.{reserve-sound}
 use Rattle.protocol.proofs.KeepSound.{opened-sound, nothing-left, accept-sound}
@@ -33,6 +33,8 @@ use Rattle.protocol.proofs.Reached.{worldOf, Sane, in-open, Reached, sa
 use Rattle.protocol.proofs.ReachedCalls.{sane-reserve, sane-confirm, sane-give-back, sane-leave}
 use Rattle.protocol.proofs.ReachedTurn.{sane-turn}
 use Rattle.protocol.proofs.ReachedCrash.{sane-crash}
+use Rattle.protocol.proofs.ReachedMerge.{sane-merge}
+use Rattle.protocol.proofs.Tied.{reached-tied}
 
 module _ (N W : ℕ) where
   reached-opened : Reached (λ x. x) N W opened
@@ -72,6 +74,7 @@ module _ (N W : ℕ) where
     sane-accept (crash set) q e =
         let a = crash-rows N W (M .seats) (M .pending) set e in
         sane-crash g (nothing-left (g .sound) (a .quiet)) (a .opens) set
+    sane-accept (merge a b) q e = sane-merge k (g .sound) a b (merge-rows N W (M .seats) (M .pending) a b e) (g .sane)
 
     pub reached-accept : (c : Call) → InRange N W c → refusal N W (M .seats) (M .pending) c ≡ 0
         → Reached (componentsAfter N W (M .seats) k c) N W (accept N W M c)
@@ -136,6 +139,7 @@ module _ (N W : ℕ) where
     lots = t .lots;
     messages = λ m. ap (λ (p : Msg → Bool). p m) (t .pending);
     none-left = ((λ e m. settled (nothing-left (t .reached .sound) e) m), λ q. none-quiet (s .now) (quiet q));
+    components = λ x y m n. reached-tied (t .reached) x y (rw (t .lots) m) (rw (t .lots) n);
     graph = λ q. subst (λ (r : Seats). IsGraph N W (members (rosterOf N W (logOf (s .history)) .component) r) (s .now .link)) (t .lots)
         (reached-graph (t .reached) (quiet q));
     ends = λ ns. deliveries-end N W ns (s .now) (t .reached .sound);

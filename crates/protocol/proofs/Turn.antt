@@ -51,6 +51,7 @@ pub record Shrinks (G : World) (Stay : ℕ → Type 0) (H : World) : Type 0 wher
   pub old : (x : ℕ) → H .Seated x → G .Seated x × Stay x
   pub new : (x : ℕ) → G .Seated x → Stay x → H .Seated x
   pub agree : Agree Stay G H
+  pub same : (x : ℕ) → Stay x → H .comp x ≡ G .comp x
 
 module _ {G : World} {Stay : ℕ → Type 0} {H : World} (z : Shrinks G Stay H) where
   lt-in : {d : Side} {x y : ℕ} → Stay x → Stay y → Lt (G .num) d x y → Lt (H .num) d x y
@@ -66,10 +67,13 @@ module _ {G : World} {Stay : ℕ → Type 0} {H : World} (z : Shrinks G Stay H) 
   stay-snd {k} {x} {y} p = z .old y (p .snd) .1
 
   pair-out : {k x y : ℕ} → Pair H k x y → Pair G k x y
-  pair-out {k} {x} {y} p = agree-pair (agree-back (z .agree)) (stay-fst p) (stay-snd p) (z .old x (p .fst) .0) (z .old y (p .snd) .0) p
+  pair-out {k} {x} {y} p =
+      let s = stay-fst p in
+      let t = stay-snd p in
+      agree-pair (agree-back (z .agree)) s t (z .old x (p .fst) .0) (z .old y (p .snd) .0) (sym (z .same x s) ∙ p .same ∙ z .same y t) p
 
   pair-in : {k x y : ℕ} → Stay x → Stay y → Pair G k x y → Pair H k x y
-  pair-in {k} {x} {y} s t p = agree-pair (z .agree) s t (z .new x (p .fst) s) (z .new y (p .snd) t) p
+  pair-in {k} {x} {y} s t p = agree-pair (z .agree) s t (z .new x (p .fst) s) (z .new y (p .snd) t) (z .same x s ∙ p .same ∙ sym (z .same y t)) p
 
   target-next : {k x y : ℕ} {d : Side} {o : Option ℕ} → Stay x → Target G Stay k x d o → o ≡ some y → Next H k x d y
   target-next st (nobody h) e = none-some refl e

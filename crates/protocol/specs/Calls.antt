@@ -17,6 +17,7 @@ use Rattle.protocol.specs.pages.Leave.{leavePage}
 use Rattle.protocol.specs.pages.Deliver.{deliverPage}
 use Rattle.protocol.specs.pages.Turn.{turnPage}
 use Rattle.protocol.specs.pages.Crash.{crashPage}
+use Rattle.protocol.specs.pages.Merge.{mergePage}
 
 pub data Call : Type 0 where
   join : (seat number vector contact : ℕ) → Call
@@ -27,6 +28,7 @@ pub data Call : Type 0 where
   deliver : Name → Call
   turn : Call
   crash : (set : ℕ) → Call
+  merge : (first second : ℕ) → Call
 
 -- the refusal number of a call, 0 if it is accepted, and what is there after it
 pub record Outcome (A : Type 0) : Type 0 where
@@ -49,6 +51,7 @@ module _ (N W : ℕ) where
   pageOf (deliver n) = deliverPage N W n
   pageOf turn = turnPage N W
   pageOf (crash set) = crashPage N W set
+  pageOf (merge a b) = mergePage N W a b
 
   -- the arguments fit their types
   abbrev pub InRange : Call → Type 0

@@ -12,5 +12,6 @@ pub mod pages
 pub mod Calls
 pub mod Bundle
 pub mod Local
+pub mod Tied
 pub mod Run
 pub mod inner

@@ -48,6 +48,9 @@ unsettled = 13
 abbrev pub notReserved : ℕ
 notReserved = 14
 
+abbrev pub sameLot : ℕ
+sameLot = 15
+
 -- the order in which they are tested: the first that applies is given
 abbrev pub order : List ℕ
 order =
@@ -60,6 +63,7 @@ order =
     ∷ notReserved
     ∷ emptySeat
     ∷ unsettled
+    ∷ sameLot
     ∷ numberInUse
     ∷ noContact
     ∷ alreadyLeaving

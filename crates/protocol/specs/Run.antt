@@ -5,10 +5,12 @@ use mathlib.Core.Path.{_≡_}
 use mathlib.Core.Logic.{_↔_}
 use mathlib.Core.Bool.{Bool, false}
 use mathlib.Core.List.{List, [], _∷_, map}
+use lib.Dec.{T}
 use Rattle.graph.specs.Graph.{Lots, IsGraph}
 use Rattle.protocol.specs.Message.{Msg, Name}
 use Rattle.protocol.specs.Numbering.{somePending}
-use Rattle.protocol.specs.State.{Seats, Meaning, members, nobody, opened}
+use Rattle.protocol.specs.State.{Seats, Meaning, seated, members, nobody, opened}
+use Rattle.protocol.specs.Tied.{Tied}
 use Rattle.protocol.specs.Page.{pendingAfter}
 use Rattle.protocol.specs.Calls.{Call, deliver, Outcome, unlessRefused, InRange, refusal, seatsAfter, componentsAfter, sends, takes, call}
 
@@ -93,12 +95,14 @@ module _ (N W : ℕ) where
   abbrev pub NothingPending : List (Past Meaning) → Type 0
   NothingPending es = (m : Msg) → pendingOf es m ≡ false
 
-  -- demand 3 on the meaning, after a list: its five parts; the bound is a number fixed by the meaning alone
+  -- demand 3 on the meaning, after a list: its six parts; the bound is a number fixed by the meaning alone
   pub record MeaningDemand3 (bound : Meaning → ℕ) (s : Standing Meaning) : Type 0 where
     pub refusals : RefusedByTable (s .history)
     pub lots : s .now .seats ≡ rosterOf (logOf (s .history)) .seats
     pub messages : (m : Msg) → s .now .pending m ≡ pendingOf (s .history) m
     pub none-left : (somePending N W (s .now .pending) ≡ false) ↔ NothingPending (s .history)
+    pub components : let o = rosterOf (logOf (s .history)) in
+        (x y : ℕ) → T (seated (o .seats) x) → T (seated (o .seats) y) → (o .component x ≡ o .component y) ↔ Tied (s .now) x y
     pub graph : NothingPending (s .history) → IsGraph N W (membersOf (rosterOf (logOf (s .history)))) (s .now .link)
     pub ends : (ns : List Name) → accepted (call N W) (s .now) (map deliver ns) ≤ bound (s .now)
 

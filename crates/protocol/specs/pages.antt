@@ -7,3 +7,4 @@ pub mod Leave
 pub mod Deliver
 pub mod Turn
 pub mod Crash
+pub mod Merge

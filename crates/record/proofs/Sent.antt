@@ -8,13 +8,15 @@ use mathlib.Core.List.{List, [], _∷_, _++_, List·Memᴰ, List·Memᴰ·head, 
 use native.Mathlib.Omega.{arith}
 use lib.Dec.{T}
 use lib.ListN.{getD}
+use borrow.Author.Tests.{lt-ltb}
 use Rattle.memory.specs.Bits.{hasBit, withBit, packed, putBit, setBit, clearBit}
 use Rattle.base.proofs.Cases.{eq-or-ne}
+use Rattle.base.proofs.Tests.{true-T}
 use Rattle.memory.proofs.Bits.{hasBit-withBit, hasBit-withBit-other, withBit-lt}
 use Rattle.memory.proofs.Bytes.{putNumber-one}
 use Rattle.memory.proofs.Packed.{packed-lt, packed-bits, packed-is, packed-same}
 use Rattle.graph.specs.Vector.{width}
-use Rattle.protocol.specs.Message.{Msg}
+use Rattle.protocol.specs.Message.{Msg, meet}
 use Rattle.protocol.specs.Numbering.{exists, place, messageAt}
 use Rattle.protocol.specs.State.{Meaning}
 use Rattle.protocol.specs.Page.{pendingAfter}
@@ -30,6 +32,11 @@ use Rattle.record.proofs.Round.{read-pending}
 use Rattle.protocol.proofs.Calls.{after-nothing}
 use Rattle.record.proofs.Pending.{sent-same, sent-other, taken-same, taken-other, after-taken, after-first}
 use Rattle.record.proofs.Update.{withPending, withMessage, withoutMessage}
+
+-- MEET at level 0 exists
+pub meet-exists : (x y : ℕ) → x < seats → y < seats → T (exists seats width (meet x y 0))
+unfolding exists
+meet-exists x y h g = true-T {b = exists seats width (meet x y 0)} (rw (lt-ltb x seats h, lt-ltb y seats g))
 
 -- one message, sent or taken: p is as before but at m
 module _ (M : Meaning) (p : Msg → Bool) (m : Msg) (x : T (exists seats width m)) (b : Bool) (here : p m ≡ b)

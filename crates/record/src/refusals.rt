@@ -1,4 +1,4 @@
-// The refusal numbers (document 01, "Refused calls").
+// The refusal numbers (document 01, "Refused calls", and the requests of document 02).
 pub const WRONG_SIZE: u8 = 1;
 
 pub const UNSOUND: u8 = 2;
@@ -26,3 +26,5 @@ pub const NO_SUCH_LEVEL: u8 = 12;
 pub const UNSETTLED: u8 = 13;
 
 pub const NOT_RESERVED: u8 = 14;
+
+pub const SAME_LOT: u8 = 15;

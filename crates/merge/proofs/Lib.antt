@@ -1,0 +1,2 @@
+-- Why a merge is right.
+pub mod After
