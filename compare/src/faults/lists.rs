@@ -8,7 +8,7 @@ use crate::roster::{Roster, WrongRoster};
 use crate::selfcheck::{run_list_beside, Failure};
 use std::collections::BTreeSet;
 
-const LISTS: u64 = 200;
+const LISTS: u64 = 150;
 const CALLS: u64 = 150;
 
 pub const REFUSAL: &str = "not the table's refusal";

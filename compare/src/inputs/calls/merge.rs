@@ -1,6 +1,6 @@
 //! Pairs of lots that are merged: mostly of two components, if there are several.
 
-use super::{is_reserved, is_seated, Chooser};
+use super::{is_reserved, is_seated, Chooser, EDGES};
 use crate::before::Before;
 use crate::call::Call;
 use crate::joined::Joined;
@@ -8,13 +8,14 @@ use crate::joined::Joined;
 impl Chooser<'_> {
     pub(super) fn merge(&mut self) -> Call {
         let (first, second) = match self.random.below(24) {
-            0 => (self.seat(), self.seat()),
-            1 | 2 => self.twice(),
-            3 | 4 => (self.mostly_empty(), self.seat()),
-            5 | 6 => (self.seat(), self.mostly_empty()),
-            7 | 8 => self.met_already(),
-            9..12 => (self.lot(), self.lot()),
-            12..15 => self.across(Joined::by_links),
+            0 => (self.random.pick(&EDGES), self.seat()),
+            1 => (self.seat(), self.random.pick(&EDGES)),
+            2 | 3 => self.twice(),
+            4 | 5 => (self.mostly_empty(), self.seat()),
+            6 | 7 => (self.seat(), self.mostly_empty()),
+            8 | 9 => self.met_already(),
+            10..13 => (self.lot(), self.lot()),
+            13..16 => self.across(Joined::by_links),
             _ => self.across(Joined::of),
         };
         Call::Merge { first, second }
