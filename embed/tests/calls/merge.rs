@@ -128,7 +128,7 @@ fn a_merge_beside_newcomers() {
     assert_eq!(record.check(), Ok(true));
     assert_eq!(record.link(9, 1, RIGHT), Ok(Some(2)));
     assert_eq!(record.link(1, 0, RIGHT), Ok(Some(9)));
-    assert_eq!(found(&record, 0, 460), (Some(2), 4));
+    assert_eq!(found(&record, 0, 460), (Some(2), 3));
 }
 
 /// Leaving lots are named, and the two are one without them too.
