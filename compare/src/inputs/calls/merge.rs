@@ -3,27 +3,23 @@
 use super::{is_reserved, is_seated, Chooser, EDGES};
 use crate::before::Before;
 use crate::call::Call;
+use crate::inputs::state;
 use crate::joined::Joined;
 
 impl Chooser<'_> {
     pub(super) fn merge(&mut self) -> Call {
-        let (first, second) = match self.random.below(24) {
+        let (first, second) = match self.random.below(28) {
             0 => (self.random.pick(&EDGES), self.seat()),
             1 => (self.seat(), self.random.pick(&EDGES)),
             2 | 3 => self.twice(),
             4 | 5 => (self.mostly_empty(), self.seat()),
             6 | 7 => (self.seat(), self.mostly_empty()),
             8 | 9 => self.met_already(),
-            10..13 => (self.lot(), self.lot()),
+            10..13 => self.two_lots(|_, _| true),
             13..16 => self.across(Joined::by_links),
             _ => self.across(Joined::of),
         };
         Call::Merge { first, second }
-    }
-
-    fn lot(&mut self) -> u8 {
-        let lot = self.some_seat(is_seated);
-        lot.unwrap_or_else(|| self.seat())
     }
 
     /// One seat, mostly of a seated lot.
@@ -51,19 +47,25 @@ impl Chooser<'_> {
         match meetings.take(some + 1).last() {
             Some(meeting) if self.random.one_in(2) => (meeting.to, meeting.about),
             Some(meeting) => (meeting.about, meeting.to),
-            None => (self.lot(), self.lot()),
+            None => self.two_lots(|_, _| true),
         }
     }
 
     /// Lots of two components, told apart as given; any two if there is but one.
     fn across(&mut self, joined: fn(Before, fn(u8) -> bool) -> Joined) -> (u8, u8) {
-        let first = self.lot();
         let joined = joined(Before { record: self.bytes }, |_| true);
-        let own = match first {
-            0..64 => joined.to(first),
-            _ => 0,
+        self.two_lots(|first, second| joined.to(first) != joined.to(second))
+    }
+
+    /// Two seated lots that fit, if there are some; else any two, or one twice.
+    fn two_lots(&mut self, fit: impl Fn(u8, u8) -> bool) -> (u8, u8) {
+        let Some(first) = self.some_seat(is_seated) else {
+            return (self.seat(), self.seat());
         };
-        let second = self.some_seat_that(|seat| joined.to(seat) & !own != 0);
-        (first, second.unwrap_or_else(|| self.lot()))
+        let bytes = self.bytes;
+        let is_other = |seat: u8| seat != first && is_seated(state(bytes, seat.into()));
+        let fitting = self.some_seat_that(|seat| is_other(seat) && fit(first, seat));
+        let second = fitting.or_else(|| self.some_seat_that(is_other));
+        (first, second.unwrap_or(first))
     }
 }
