@@ -20,9 +20,9 @@ struct Lot {
 
 /// Seats or reserves all lots of the pool, or some of them.
 pub fn sound_record(pools: &Pools, random: &mut Random) -> Vec<u8> {
-    match random.below(8) {
-        0 => return settled_record(pools, random),
-        1 => return merging_record(pools, random),
+    match random.below(16) {
+        0 | 1 => return settled_record(pools, random),
+        2 => return merging_record(pools, random),
         _ => {}
     }
     let clearing = random.one_in(2);
