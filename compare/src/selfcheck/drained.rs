@@ -6,8 +6,8 @@ use crate::graph::{self, components, links_within, Links, Member};
 use crate::model::{Kind, Message, Model};
 use crate::random::Random;
 
-/// Up to so many lots, what is pending is delivered in other orders too, which may take
-/// long.
+/// Up to so many lots, what is pending is delivered in other orders too, and components
+/// are asked for after each delivery, which may take long.
 const FEW: usize = 12;
 
 /// Components by links and pending MEETs of all levels: of each seated lot, ascending
@@ -73,13 +73,18 @@ fn in_order(
     model: &Model,
     mut next: impl FnMut(&Model) -> Option<Message>,
 ) -> Result<Model, &'static str> {
-    let mut drained = model.clone();
+    let (mut drained, left) = (model.clone(), joined(model));
+    let are_few = model.counts().lots <= FEW;
     for _ in 0..MOST_DELIVERIES {
         let Some(message) = next(&drained) else {
             break;
         };
         let delivered = drained.deliver(message);
         delivered.map_err(|_| "a pending message was not delivered")?;
+        holds(
+            !are_few || joined(&drained) == left,
+            "a delivery changes components by links and MEETs",
+        )?;
     }
     holds(drained.pending().is_empty(), "deliveries do not end")?;
     Ok(drained)
