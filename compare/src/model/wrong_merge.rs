@@ -31,9 +31,9 @@ pub(crate) enum WrongMerge {
     FirstLeaverRefused,
     SecondLeaverRefused,
     ReservedTaken,
-    /// A free second seat is told of nobody, without refusal.
+    /// A merge with a free second seat sends nothing, and is not refused.
     FreeSecondTaken,
-    /// It sends nothing then.
+    /// It sends nothing, and is not refused.
     SameLotTaken,
     InClearing,
     SameLotBeforeEmptySeat,

@@ -13,7 +13,7 @@ fn merged(call: Call, answer: Answer) -> Option<(u8, u8)> {
     }
 }
 
-/// Sends other messages in place of the one of an accepted merge, in front of what was
+/// Sends other messages in place of the one of an accepted merge, beside what was
 /// pending.
 fn send_instead(
     before: &[u8],
@@ -31,7 +31,7 @@ fn send_instead(
     answer
 }
 
-/// A library whose merges send what is told, if it is told of the two seats.
+/// A library whose merges send what is told of the two seats.
 macro_rules! sent {
     ($($name:ident: $sends:expr;)*) => {
         wrong_on_bytes! {
@@ -81,10 +81,11 @@ wrong_on_bytes! {
         answer
     };
     the_same_again_takes_it_away shows Difference::Byte { at: PENDING_AT.., .. } => |before, after, call, answer| {
-        if merged(call, answer).is_some() && before == after {
-            if let Call::Merge { first, second } = call {
+        match merged(call, answer) {
+            Some((first, second)) if before == after => {
                 take_away(after, Message::meet(first, second, 0));
             }
+            _ => {}
         }
         answer
     };
