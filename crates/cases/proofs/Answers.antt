@@ -14,7 +14,7 @@ use Rattle.protocol.specs.Message.{Msg, among}
 use Rattle.protocol.specs.Numbering.{somePending}
 use Rattle.protocol.specs.State.{open-phase, clearing, isClearing, Seats, Meaning, seated, stays}
 use Rattle.protocol.specs.Refusals.{noSuchSeat, emptySeat, unsettled}
-use Rattle.protocol.specs.Calls.{Call, join, reserve, confirm, giveBack, leave, deliver, turn, crash, Outcome}
+use Rattle.protocol.specs.Calls.{Call, join, reserve, confirm, giveBack, leave, deliver, turn, crash, merge, Outcome}
 use Rattle.protocol.specs.Sound.{Sound, numberBits}
 use Rattle.protocol.specs.Run.{logOf, AllInRange}
 use Rattle.protocol.proofs.SoundFacts.{seated-below, pending-exists}
@@ -59,6 +59,7 @@ fits (leave s ∷ cs) = fits cs
 fits (deliver n ∷ cs) = fits cs
 fits (turn ∷ cs) = fits cs
 fits (crash set ∷ cs) = ltb set (2 ^ seats) && fits cs
+fits (merge a b ∷ cs) = fits cs
 
 sizes-in : (n b : ℕ) → T (sizes n b) → (n < 2 ^ numberBits) × (b < 2 ^ width)
 sizes-in n b t = (ltb→lt n _ (and-fst (ltb n (2 ^ numberBits)) _ t), ltb→lt b _ (and-snd (ltb n (2 ^ numberBits)) _ t))
@@ -74,6 +75,7 @@ fits-in (leave s ∷ cs) t = (tt, fits-in cs t)
 fits-in (deliver n ∷ cs) t = (tt, fits-in cs t)
 fits-in (turn ∷ cs) t = (tt, fits-in cs t)
 fits-in (crash set ∷ cs) t = (ltb→lt set _ (and-fst (ltb set (2 ^ seats)) _ t), fits-in cs (and-snd (ltb set (2 ^ seats)) _ t))
+fits-in (merge a b ∷ cs) t = (tt, fits-in cs t)
 
 module _ (l : List ℕ) (e : openRefusal l ≡ 0) (cs : List Call) (t : T (fits cs)) where
   abbrev v : View

@@ -14,3 +14,4 @@ pub mod Reservations
 pub mod Writings
 pub mod Crashes
 pub mod Components
+pub mod Merges

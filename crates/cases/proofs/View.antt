@@ -12,7 +12,8 @@ use Rattle.base.proofs.Tests.{T-true, true-T, or-left, dec-T, not-T-false, fals
 use Rattle.protocol.specs.Message.{Msg, sameMsg, among}
 use Rattle.protocol.specs.Numbering.{exists, somePending}
 use Rattle.protocol.specs.State.{isClearing, Seats, Meaning}
-use Rattle.protocol.specs.Calls.{Call, join, reserve, confirm, giveBack, leave, deliver, turn, crash, rows, refusal, seatsAfter, linksAfter, sends, takes}
+use Rattle.protocol.specs.Calls.{Call, join, reserve, confirm, giveBack, leave, deliver, turn, crash, merge, rows, refusal}
+use Rattle.protocol.specs.Calls.{seatsAfter, linksAfter, sends, takes}
 use Rattle.protocol.specs.Calls.{unlessRefused, accept, call}
 use Rattle.protocol.specs.Refusals.{row, first}
 use Rattle.protocol.specs.Page.{isTaken, pendingAfter}
@@ -52,6 +53,7 @@ viewRefusal v (deliver n) = refusal seats width (v .seats) (among (v .pending)) 
 viewRefusal v turn = first (row 11 (someLeft (v .pending)) ∷ [])
 viewRefusal v (crash set) =
     first (row 7 (isClearing (v .seats .phase)) ∷ row 8 (namesEmpty seats (v .seats) set) ∷ row 11 (someLeft (v .pending)) ∷ [])
+viewRefusal v (merge a b) = refusal seats width (v .seats) (among (v .pending)) (merge a b)
 
 -- the view after an accepted call
 unfoldable pub viewAfter : View → Call → View
@@ -125,6 +127,7 @@ module _ (v : View) (h : Sound seats width (meant v)) where
   view-refusal (crash set) =
       ap (λ (b : Bool). first (row 7 (isClearing (v .seats .phase)) ∷ row 8 (namesEmpty seats (v .seats) set) ∷ row 11 b ∷ []))
       (some-left (v .pending) (λ m t. pending-exists h m t))
+  view-refusal (merge a b) = refl
 
   view-accept : (c : Call) → accept seats width (meant v) c ≡ meant (viewAfter v c)
   unfolding accept viewAfter

@@ -8,6 +8,7 @@ use native.Mathlib.Omega.{arith}
 use Rattle.graph.specs.Side.{Side, opp}
 use Rattle.graph.specs.inner.Order.{Lt}
 use Rattle.protocol.specs.Message.{Msg, meet}
+use Rattle.protocol.specs.Tied.{Uniting}
 use Rattle.protocol.proofs.World.{World, State, bitOf, Pair}
 use Rattle.protocol.proofs.Agree.{Agree, agree-lt, agree-share, agree-bit, agree-pair}
 use Rattle.protocol.proofs.Open.{Ok, ok-meet, ok-probe, ok-pull, Proper, ok-pair}
@@ -146,7 +147,7 @@ pub record Ties (G G′ : World) (a b : ℕ) : Type 0 where
   pub has : Has G G′
   pub pair : Pair G′ 0 a b
   pub apart : a ≢ b
-  pub from : (x y : ℕ) → Pair G′ 0 x y → Near G x y ⊎ ((Near G x a × Near G b y) ⊎ (Near G x b × Near G a y))
+  pub from : (x y : ℕ) → Pair G′ 0 x y → Uniting a b (Near G) x y
 
 -- a is to meet b
 pub record Meets (S S′ : State) (a b : ℕ) : Type 0 where
@@ -165,7 +166,7 @@ invariant-tied {G} {G′} {a} {b} {S} {S′} g j i = invariant-over (g .has) (j 
     near (inl e) = conn-eq e
     near (inr p) = conn-over (j .keeps) (i .whole .conn p)
 
-    by : {x y : ℕ} → Near G x y ⊎ ((Near G x a × Near G b y) ⊎ (Near G x b × Near G a y)) → Conn S′ 0 x y
+    by : {x y : ℕ} → Uniting a b (Near G) x y → Conn S′ 0 x y
     by (inl p) = near p
     by (inr (inl (p, q))) = ctrans (near p) (ctrans (cmeet (j .hello)) (near q))
     by (inr (inr (p, q))) = ctrans (near p) (ctrans (csym (cmeet (j .hello))) (near q))

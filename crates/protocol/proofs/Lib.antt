@@ -1,6 +1,7 @@
 -- Why the protocol is right.
 pub mod Examples
 pub mod CrashExamples
+pub mod MergeExamples
 pub mod Message
 pub mod Calls
 pub mod Sent

@@ -18,6 +18,7 @@ use Rattle.protocol.specs.Calls.{reserve, confirm, giveBack, leave, seat
 use Rattle.protocol.specs.Page.{marking, seating, withoutLinks, isTaken, pendingAfter}
 use Rattle.protocol.specs.pages.Join.{admitted}
 use Rattle.protocol.specs.Sound.{Sound}
+use Rattle.protocol.specs.Tied.{Uniting}
 use Rattle.protocol.proofs.Message.{among-mem, mem-among}
 use Rattle.protocol.proofs.Calls.{at-same, at-other, at-tested, after-nothing, after-came, after-kept, after-only}
 use Rattle.protocol.proofs.Delivery.{stateOf}
@@ -202,7 +203,7 @@ module _ (comp : ℕ → ℕ) {N W : ℕ} {M : Meaning} (h : Sound N W M) (s c :
       with-contact x y t q e = zero-pair G t (ok .contact p) (sym (old x t) ∙ e ∙ ap comp′ q ∙ new)
 
       by : (x y : ℕ) → T (seated r x) ⊎ (x ≡ s) → T (seated r y) ⊎ (y ≡ s) → comp′ x ≡ comp′ y
-          → Near G x y ⊎ ((Near G x c × Near G s y) ⊎ (Near G x s × Near G c y))
+          → Uniting c s (Near G) x y
       by x y (inl t) (inl u) e = inl (inr (zero-pair G t u (sym (old x t) ∙ e ∙ old y u)))
       by x y (inl t) (inr q) e = inr (inl (inr (with-contact x y t q e), inl (sym q)))
       by x y (inr q) (inl u) e = inr (inr (inl q, inr (pair-sym (with-contact y x u q (sym e)))))

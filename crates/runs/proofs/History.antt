@@ -18,7 +18,8 @@ use Rattle.protocol.specs.Refusals.{wrongSize, unsound, noSuchLevel, noSuchMess
 use Rattle.protocol.specs.Page.{at}
 use Rattle.protocol.specs.Freeing.{freeing}
 use Rattle.protocol.specs.pages.Turn.{afterTurn}
-use Rattle.protocol.specs.Calls.{Call, join, reserve, confirm, giveBack, leave, deliver, turn, crash, unlessRefused, rows, refusal, seatsAfter}
+use Rattle.protocol.specs.Calls.{Call, join, reserve, confirm, giveBack, leave, deliver, turn, crash, merge, unlessRefused, rows, refusal}
+use Rattle.protocol.specs.Calls.{seatsAfter}
 use Rattle.protocol.specs.Run.{Past, logOf, Roster, rosterAfter, rosterOf, pendingOf, RefusedByTable}
 use Rattle.protocol.proofs.Calls.{at-other}
 use Rattle.protocol.proofs.Accepted.{rows-free, reserve-rows, confirm-rows, join-reserve, give-back-rows, leave-rows}
@@ -95,6 +96,7 @@ module _ (N W : ℕ) where
   after-below r p h (deliver n) e = h
   after-below r p h turn e = turn-below (r .phase) r h
   after-below r p h (crash set) e = freed-below (hasBit set) (r .phase) r h
+  after-below r p h (merge a b) e = h
 
   step-below : (o : Roster) (p : Msg → Bool) → Below N (o .seats) → (c : Call) (n : ℕ) → n ≡ refusal N W (o .seats) p c
       → Below N (unlessRefused n o (rosterAfter N W o c) .seats)

@@ -1,6 +1,7 @@
 -- Demand 3 on the bytes, and what follows from it alone.
 pub mod Same
 pub mod Readings
+pub mod Tied
 pub mod Typed
 pub mod Theorem
 pub mod History
@@ -11,4 +12,7 @@ pub mod Unmet
 pub mod Reserved
 pub mod Right
 pub mod Bundles
+pub mod Made
 pub mod Drained
+pub mod Together
+pub mod Merged

@@ -3,6 +3,7 @@
 -- message, as crates/protocol/proofs/Measure.antt has it. Every accepted delivery lowers it. Assumes nothing.
 use Prim.Native.Nat.{ℕ, zero, suc, _<_}
 use mathlib.Core.Path.{_≡_, sym, ap, _∙_, subst, fun-ext}
+use mathlib.Core.Logic.{_↔_}
 use mathlib.Core.Bool.{Bool, false}
 use mathlib.Core.Option.{Option}
 use mathlib.Core.List.{List}
@@ -18,6 +19,7 @@ use Rattle.graph.specs.Graph.{graph, IsGraph}
 use Rattle.protocol.specs.Message.{Msg, named}
 use Rattle.protocol.specs.State.{Seats, Meaning, seated, member, isPending}
 use Rattle.protocol.specs.Calls.{Call}
+use Rattle.protocol.specs.Tied.{Tied}
 use Rattle.protocol.specs.Bundle.{Item, spread}
 use Rattle.protocol.specs.Refusals.{first}
 use Rattle.protocol.specs.Run.{Past, Standing, logOf, meaningRun, membersOf, rosterOf, pendingOf, RefusedByTable, NothingPending, MeaningDemand3, AllInRange}
@@ -33,9 +35,11 @@ use Rattle.record.specs.Call.{called}
 use Rattle.record.specs.Bundle.{bundleIn}
 use Rattle.record.proofs.Bundle.{Fine, fine-bytes, deliveries-end}
 use Rattle.runs.specs.Typed.{AllTyped}
-use Rattle.runs.specs.Run.{bytesRun, listRun, meant, lotOf, Demand3, EveryList}
+use Rattle.runs.specs.Tied.{TiedIn}
+use Rattle.runs.specs.Run.{bytesRun, listRun, meant, roster, Sits, lotOf, Demand3, EveryList}
 use Rattle.runs.proofs.Typed.{all-typed}
 use Rattle.runs.proofs.Same.{Same, run-same}
+use Rattle.runs.proofs.Tied.{tied-bytes}
 use Rattle.runs.proofs.Readings.{countsOf, read-lot, read-message, read-counts, read-link, count-none}
 
 -- the bound: a number computed from the bytes alone
@@ -66,6 +70,12 @@ carried s t h D = record {
     λ e. subst (NothingPending seats width) (sym (h .history)) (D .none-left .0 (count-none M (h .fine) .0 (sym left ∙ e))),
     λ q. left ∙ count-none M (h .fine) .1 (D .none-left .1 (subst (NothingPending seats width) (h .history) q)),
   );
+  components = λ x y m n.
+      let (to, from) = together x y m n in
+      let (reads, back) = tied-bytes M (h .fine) x y in (
+        λ e. subst (λ (l : List ℕ). TiedIn l x y) (sym (h .now)) (reads (to e)),
+        λ i. from (back (subst (λ (l : List ℕ). TiedIn l x y) (h .now) i)),
+      );
   links = λ q x k d m p.
       let here : T (seated (t .now .seats) x) = member-seated (t .now .seats) x (subst (λ (r : Seats). T (member r x)) (sym who) m) in
       at (λ l. readLink l x k (sideNumber d))
@@ -91,6 +101,14 @@ carried s t h D = record {
 
     left : readCounts (s .now) .pending ≡ countsOf (t .now) .pending
     left = at (λ l. readCounts l .pending) ∙ ap (λ (a : CountAnswer). a .pending) counts
+
+    together : (x y : ℕ) → Sits (roster (s .history)) x → Sits (roster (s .history)) y
+        → (roster (s .history) .component x ≡ roster (s .history) .component y) ↔ Tied (t .now) x y
+    together =
+        subst (λ (es : List (Past Meaning)).
+        (x y : ℕ) → Sits (rosterOf seats width (logOf es)) x → Sits (rosterOf seats width (logOf es)) y
+        → (rosterOf seats width (logOf es) .component x ≡ rosterOf seats width (logOf es) .component y) ↔ Tied (t .now) x y)
+        (sym (h .history)) (D .components)
 
     linked : NothingPending seats width (meant (s .history)) → (x k : ℕ) (d : Side)
         → T (member (rosterOf seats width (logOf (meant (s .history))) .seats) x)

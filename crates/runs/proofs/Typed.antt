@@ -5,7 +5,7 @@ use mathlib.Core.List.{List, [], _∷_, _++_, map}
 use native.Mathlib.Omega.{arith}
 use Rattle.graph.specs.Vector.{width}
 use Rattle.protocol.specs.Message.{Name, name}
-use Rattle.protocol.specs.Calls.{Call, join, reserve, confirm, giveBack, leave, deliver, turn, crash, InRange}
+use Rattle.protocol.specs.Calls.{Call, join, reserve, confirm, giveBack, leave, deliver, turn, crash, merge, InRange}
 use Rattle.protocol.specs.Bundle.{Item, one, bundle, leftBy, spread}
 use Rattle.protocol.specs.Run.{AllInRange}
 use Rattle.record.specs.Layout.{seats}
@@ -22,6 +22,7 @@ typed-fits (leave s) t = tt
 typed-fits (deliver n) t = tt
 typed-fits turn t = tt
 typed-fits (crash set) t = t
+typed-fits (merge a b) t = tt
 
 -- deliveries are in range, whatever their numbers
 deliveries-fit : (ns : List Name) (cs : List Call) → AllInRange seats width cs → AllInRange seats width (map deliver ns ++ cs)
@@ -55,6 +56,9 @@ widest-deliver = (omega arith, omega arith, omega arith, omega arith, omega arit
 
 pub widest-crash : Typed (crash 18446744073709551615)
 widest-crash = omega arith
+
+pub widest-merge : Typed (merge 255 255)
+widest-merge = (omega arith, omega arith)
 
 pub widest-bundle : TypedItem (bundle 65535)
 widest-bundle = omega arith

@@ -39,7 +39,8 @@ use Rattle.check_links.specs.Check.{componentsIn, CheckAnswer, checkIn}
 use Rattle.check_links.specs.Settled.{settled}
 use Rattle.check_links.proofs.Facts.{check-says, yes-labels}
 use Rattle.check_links.proofs.Settled.{unsettled-exactly, is-settled}
-use Rattle.runs.specs.Run.{meant, roster, soughtIn, Demand3}
+use Rattle.runs.specs.Tied.{TiedIn}
+use Rattle.runs.specs.Run.{meant, roster, soughtIn, Sits, Demand3}
 use Rattle.runs.proofs.SameLots.{passed, same-phase, fine, same-seat, same-seated, agree}
 
 -- a link is known by its byte
@@ -114,6 +115,16 @@ module _ {bound : List ℕ → ℕ} {s : Standing (List ℕ)} (D : Demand3 bound
     unfolding componentsIn
     same-components x y m n =
         components-agree seats width (members C (seatsIn l)) (meaning l .link) (laws .seat) (graph-labels laws links-graph) x y m n
+
+    -- and links alone join then what links and pending MEETs together join
+    pub tied-components : (x y : ℕ) → T (member (seatsIn l) x) → T (member (seatsIn l) y) → TiedIn l x y ↔ (componentsIn l x ≡ componentsIn l y)
+    tied-components x y m n =
+        let (to, from) = D .components x y (sits x m) (sits y n) in
+        let (on, back) = same-components x y m n in
+        (λ i. on (from i), λ e. to (back e))
+      where
+        sits : (z : ℕ) → T (member (seatsIn l) z) → Sits (roster (s .history)) z
+        sits z t = subst (λ (b : Bool). T b) (same-seated D b z) (member-seated (seatsIn l) z t)
 
     -- nothing is pending by the bytes
     pub quiet : somePending seats width (meaning l .pending) ≡ false

@@ -23,6 +23,7 @@ use Rattle.record.specs.Reading.{openRefusal, openBytes, LotAnswer, readLot, re
 use Rattle.record.specs.Call.{called}
 use Rattle.record.specs.Bundle.{bundleIn}
 use Rattle.runs.specs.Typed.{AllTyped}
+use Rattle.runs.specs.Tied.{TiedIn}
 
 -- open on the bytes l, then the calls
 unfoldable pub bytesRun : List ℕ → List Call → Standing (List ℕ)
@@ -45,6 +46,10 @@ roster es = rosterOf seats width (logOf (meant es))
 abbrev pub soughtIn : Roster → (x z : ℕ) → Bool
 soughtIn o x z = stays (o .seats) z && eqb (o .component x) (o .component z)
 
+-- a lot of the roster sits on seat x
+abbrev pub Sits : Roster → ℕ → Type 0
+Sits o x = T (seated (o .seats) x)
+
 -- what reading a seat answers of the seats of a roster: its lot or its reservation, or 8
 unfoldable pub lotOf : Seats → ℕ → LotAnswer
 lotOf r x = cond (not (taken r x)) (record { refused = emptySeat; state = 0; number = 0; vector = 0 })
@@ -63,6 +68,9 @@ pub record Demand3 (bound : List ℕ → ℕ) (s : Standing (List ℕ)) : Type 0
   pub messages : (n : Name) → readMessage (s .now) n
       ≡ record { refused = 0; pending = oneIf (isPending (pendingOf seats width (meant (s .history))) (named n)) }
   pub none-left : (readCounts (s .now) .pending ≡ 0) ↔ NothingPending seats width (meant (s .history))
+  -- two lots are in one component of the roster exactly if links and pending MEETs together join them
+  pub components : (x y : ℕ) → Sits (roster (s .history)) x → Sits (roster (s .history)) y
+      → (roster (s .history) .component x ≡ roster (s .history) .component y) ↔ TiedIn (s .now) x y
   -- with none pending, each link of each member reads as in the graph of the members, made within each component of the roster
   pub links : NothingPending seats width (meant (s .history)) → (x k : ℕ) (d : Side) → T (member (roster (s .history) .seats) x) → k < levels
       → readLink (s .now) x k (sideNumber d) ≡ record { refused = 0; seat = linkByte (graph seats width (membersOf (roster (s .history))) x k d) }

@@ -2,7 +2,7 @@
 -- speaks of every list of calls and bundles with such arguments, and of no fewer. Assumes nothing.
 use Prim.Native.Nat.{ℕ, _^_, _<_}
 use mathlib.Core.List.{List, [], _∷_}
-use Rattle.protocol.specs.Calls.{Call, join, reserve, confirm, giveBack, leave, deliver, turn, crash}
+use Rattle.protocol.specs.Calls.{Call, join, reserve, confirm, giveBack, leave, deliver, turn, crash, merge}
 use Rattle.protocol.specs.Bundle.{Item, one, bundle}
 
 -- the bits of the types u8, u16 and u64
@@ -34,6 +34,7 @@ Typed (leave seat) = IsU8 seat
 Typed (deliver n) = IsU8 (n .kind) × IsU8 (n .to) × IsU8 (n .about) × IsU8 (n .level) × IsU8 (n .side)
 Typed turn = Unit {0}
 Typed (crash set) = IsU64 set
+Typed (merge first second) = IsU8 first × IsU8 second
 
 -- of a call, or the limit of a bundle
 abbrev pub TypedItem : Item Call → Type 0

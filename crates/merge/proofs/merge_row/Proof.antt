@@ -57,12 +57,12 @@ returns-4 c =
 returns-5 : tie.Need-returns-5
 unfolding refusal rows first meaning
 returns-5 c =
-    let d = c .before in
-    let e = d .before .before in
+    let g = c .before in
+    let e = g .before .before in
     let f = e .before .before in
     row-next 3 (f .before .lacks-seat .ensures) (f .if1 .left)
     (row-next 7 (e .before .is-clearing .ensures) (e .if2 .left)
-    (row-next 8 (d .before .lacks-lot .ensures) (d .if3 .left)
+    (row-next 8 (g .before .lacks-lot .ensures) (g .if3 .left)
     (row-next 15 refl (ne-eqb _ _ (c .if4 .left))
     refl)))
 
