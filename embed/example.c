@@ -1,7 +1,7 @@
 /* Lot 100 opens on a scale. Seats are held for lots 200 and 300 while the vet looks at the animals: 200 is confirmed through 100, 300 is given
  * back. One of their messages is delivered by itself, the others are listed and delivered by the bundle, the smallest first. 250 is scanned too
- * early, while messages are pending, again when none is left, once more when lot 200 is leaving and may not be printed, and a last time when its
- * scale has died. */
+ * early, while messages are pending, again when none is left, and once more when lot 200 is leaving and may not be printed. Then 300 joins after
+ * all, through 200, whose scale dies: 100 and 300 do not know each other, and a scan of 350 sees one of them alone until they are merged. */
 #include "lots.h"
 #include <inttypes.h>
 #include <stdio.h>
@@ -87,8 +87,15 @@ int main(void)
     refusals |= lots_leave(record, sizeof record, 1);
     refusals |= lots_find(record, sizeof record, 0, 250, &holder, &hops);
     printf("refused %d, lot 200 is leaving, 250 belongs to the lot on seat %d, hops %" PRIu64 "\n", refusals, holder, hops);
+    refusals |= lots_join(record, sizeof record, 2, 300, 0xC0, 1);
+    refusals |= deliver_all();
     refusals |= lots_crash(record, sizeof record, UINT64_C(1) << 1);
-    refusals |= lots_find(record, sizeof record, 0, 250, &holder, &hops);
-    printf("refused %d, lot 200 is gone, 250 belongs to the lot on seat %d, hops %" PRIu64 "\n", refusals, holder, hops);
+    refusals |= lots_find(record, sizeof record, 0, 350, &holder, &hops);
+    printf("refused %d, lot 200 is gone, 350 belongs to the lot on seat %d, hops %" PRIu64 "\n", refusals, holder, hops);
+    printf("merged with itself: refused with %d\n", lots_merge(record, sizeof record, 0, 0));
+    refusals |= lots_merge(record, sizeof record, 0, 2);
+    refusals |= deliver_all();
+    refusals |= lots_find(record, sizeof record, 0, 350, &holder, &hops);
+    printf("refused %d, 100 and 300 are merged, 350 belongs to the lot on seat %d, hops %" PRIu64 "\n", refusals, holder, hops);
     return refusals;
 }

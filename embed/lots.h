@@ -38,14 +38,15 @@ enum lots_refusal {
     LOTS_SEAT_TAKEN = 4,       /* the seat to take is not free: a lot is seated or reserved there */
     LOTS_NUMBER_IN_USE = 5,    /* a seated or reserved lot has the number */
     LOTS_NO_CONTACT = 6,       /* no lot is seated on the contact's seat, or no contact while lots are seated */
-    LOTS_IN_CLEARING = 7,      /* no lot joins, is reserved, is confirmed, leaves or crashes in phase clearing */
+    LOTS_IN_CLEARING = 7,      /* no lot joins, is reserved, is confirmed, leaves, crashes or is merged in clearing */
     LOTS_EMPTY_SEAT = 8,       /* no lot is seated there; to read a lot, none is reserved there either */
     LOTS_ALREADY_LEAVING = 9,  /* the lot is leaving */
     LOTS_NO_SUCH_MESSAGE = 10, /* the five numbers are no pending message */
     LOTS_MESSAGES_LEFT = 11,   /* no turn and no crash while messages are pending */
     LOTS_NO_SUCH_LEVEL = 12,   /* a level above 8 or a side above 1 */
     LOTS_UNSETTLED = 13,       /* no scan while messages are pending, in clearing, or if the check says no */
-    LOTS_NOT_RESERVED = 14     /* no lot is reserved on the seat to confirm or to give back */
+    LOTS_NOT_RESERVED = 14,    /* no lot is reserved on the seat to confirm or to give back */
+    LOTS_SAME_LOT = 15         /* the lot to merge with another is that other */
 };
 
 /* Writes an empty record in phase open over any bytes.
@@ -122,6 +123,16 @@ uint8_t lots_turn(uint8_t *record, size_t length);
  * reserved), 11 messages left. */
 uint8_t lots_crash(uint8_t *record, size_t length, uint64_t seats);
 
+/* Lets two components that stand in one record find each other: sends the lot on the
+ * first seat a MEET about the lot on the second at level 0, also while other messages
+ * are pending, and changes nothing else. If that MEET is pending, nothing changes. Once
+ * all messages are delivered, the lots of both components are one skip graph; where the
+ * two are of one component already, its links end as they would have without the call.
+ * Lots that are leaving may be named.
+ * Refusals: 1 wrong size, 2 unsound, 3 no such seat (of either), 7 clearing, 8 empty
+ * seat (either is free or reserved), 15 same lot (the two seats are equal). */
+uint8_t lots_merge(uint8_t *record, size_t length, uint8_t first, uint8_t second);
+
 /* Looks up a scanned number from the seated lot on a seat of a settled record: phase
  * open, nothing pending, and lots_check would say yes. `holder` is the seat of the
  * staying lot with the largest number not above the scanned one among the lots of its
@@ -137,7 +148,7 @@ uint8_t lots_find(const uint8_t *record, size_t length, uint8_t seat,
 /* Whether every component is the skip graph of its own lots: `yes` is 1 or 0. Seated
  * lots, while clearing staying ones, that are joined by links among them, directly or
  * through others, are a component. There may be several, after a crash, or while a
- * newcomer has no link yet: a pending message is no link. While clearing, a staying
+ * newcomer has no link yet or a merge is not delivered: a pending message is no link. While clearing, a staying
  * lot's link to a leaver makes it no.
  * Refusals: 1 wrong size, 2 unsound. */
 uint8_t lots_check(const uint8_t *record, size_t length, uint8_t *yes);

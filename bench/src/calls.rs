@@ -46,6 +46,7 @@ pub fn library(call: Call, record: &mut [u8]) -> (u8, u64) {
             Call::Bundle { limit } => lots_bundle(start, length, limit, &mut half),
             Call::Turn => lots_turn(start, length),
             Call::Crash { seats } => lots_crash(start, length, seats),
+            Call::Merge { first, second } => lots_merge(start, length, first, second),
             Call::Find { seat, number } => {
                 lots_find(start, length, seat, number, &mut byte, &mut long)
             }
@@ -100,6 +101,7 @@ pub fn rust(call: Call, record: &mut [u8]) -> (u8, u64) {
         Call::Bundle { limit } => lent::bundle(record, limit).map(u64::from),
         Call::Turn => lent::turn(record).map(|()| 0),
         Call::Crash { seats } => lent::crash(record, seats).map(|()| 0),
+        Call::Merge { first, second } => lent::merge(record, first, second).map(|()| 0),
         Call::Find { seat, number } => lent::find(record, seat, number)
             .map(|found| u64::from(found.holder.unwrap_or(255)) + u64::from(found.hops)),
         Call::Check => lent::check(record).map(u64::from),

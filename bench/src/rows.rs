@@ -38,7 +38,7 @@ pub fn all() -> Vec<Row> {
 
 type Rows = fn(&mut Vec<Row>, [&[u8]; 3]);
 
-const CHANGES: [Rows; 10] = [
+const CHANGES: [Rows; 11] = [
     open,
     join,
     reserve,
@@ -49,6 +49,7 @@ const CHANGES: [Rows; 10] = [
     bundle,
     turn,
     crashes::crash,
+    crashes::merge,
 ];
 const READS: [Rows; 7] = [
     find,

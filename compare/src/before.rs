@@ -1,10 +1,11 @@
 //! A sound record before a call, to tell apart what the call meets.
 
 use crate::graph::SEATS;
+use crate::lent::message_at;
 use crate::lent::place::{
-    ENTRIES_AT, ENTRY, LINKS_AT, NUMBER_AT, PENDING_AT, PHASE_AT, STATE_AT, VECTOR_AT,
+    ENTRIES_AT, ENTRY, LINKS_AT, NUMBER_AT, PENDING_AT, PHASE_AT, PROBE, STATE_AT, VECTOR_AT,
 };
-use crate::model::{Phase, State};
+use crate::model::{Message, Phase, State};
 
 pub type Clearing = bool;
 pub type Pending = bool;
@@ -27,6 +28,21 @@ impl<'a> Before<'a> {
 
     pub fn has_pending(self) -> Pending {
         self.record[PENDING_AT..].iter().any(|&byte| byte != 0)
+    }
+
+    /// The pending MEETs: their places are the first, up to those of PROBEs.
+    pub fn meetings(self) -> impl Iterator<Item = Message> + 'a {
+        self.pending(PROBE)
+    }
+
+    /// The pending messages of the first places, as many as are asked for.
+    pub fn pending(self, places: usize) -> impl Iterator<Item = Message> + 'a {
+        let bytes = self.record[PENDING_AT..][..places / 8].iter().enumerate();
+        let bytes = bytes.filter(|(_, byte)| **byte != 0);
+        bytes.flat_map(|(index, &byte)| {
+            let bits = (0..8).filter(move |bit| byte >> bit & 1 == 1);
+            bits.map(move |bit| message_at(index * 8 + bit))
+        })
     }
 
     /// The seats in that state.

@@ -38,6 +38,10 @@ pub enum Call {
     Crash {
         seats: u64,
     },
+    Merge {
+        first: u8,
+        second: u8,
+    },
     Find {
         seat: u8,
         number: u64,
@@ -76,7 +80,7 @@ pub const NO_VALUES: Values = [0; 5];
 const NO_SEAT: u8 = 255;
 
 /// The names of the calls, in the order of [`Call::index`].
-pub const NAMES: [&str; 18] = [
+pub const NAMES: [&str; 19] = [
     "open",
     "join",
     "reserve",
@@ -87,6 +91,7 @@ pub const NAMES: [&str; 18] = [
     "bundle",
     "turn",
     "crash",
+    "merge",
     "find",
     "check",
     "read_lot",
@@ -109,6 +114,7 @@ pub const REFUSALS: [&[u8]; NAMES.len()] = [
     &[1, 2],
     &[1, 2, 11],
     &[1, 2, 7, 8, 11],
+    &[1, 2, 3, 7, 8, 15],
     &[1, 2, 3, 8, 13],
     &[1, 2],
     &[1, 2, 3, 8],
@@ -132,19 +138,21 @@ impl Call {
             Call::Bundle { .. } => 7,
             Call::Turn => 8,
             Call::Crash { .. } => 9,
-            Call::Find { .. } => 10,
-            Call::Check => 11,
-            Call::ReadLot { .. } => 12,
-            Call::ReadLink { .. } => 13,
-            Call::ReadMessage(_) => 14,
-            Call::ReadCounts => 15,
-            Call::Validate => 16,
-            Call::NextMessage(_) => 17,
+            Call::Merge { .. } => 10,
+            Call::Find { .. } => 11,
+            Call::Check => 12,
+            Call::ReadLot { .. } => 13,
+            Call::ReadLink { .. } => 14,
+            Call::ReadMessage(_) => 15,
+            Call::ReadCounts => 16,
+            Call::Validate => 17,
+            Call::NextMessage(_) => 18,
         }
     }
 
     pub fn changes_bytes(self) -> bool {
-        self.index() <= Call::Crash { seats: 0 }.index()
+        let (first, second) = (0, 0);
+        self.index() <= Call::Merge { first, second }.index()
     }
 
     /// Makes the call on lent bytes.
@@ -169,6 +177,7 @@ impl Call {
             Call::Bundle { limit } => one(lent::bundle(bytes, limit)),
             Call::Turn => done(lent::turn(bytes)),
             Call::Crash { seats } => done(lent::crash(bytes, seats)),
+            Call::Merge { first, second } => done(lent::merge(bytes, first, second)),
             Call::Find { seat, number } => found(lent::find(bytes, seat, number)),
             Call::Check => one(lent::check(bytes)),
             Call::ReadLot { seat } => lot(lent::read_lot(bytes, seat)),
@@ -209,6 +218,7 @@ impl Call {
             Call::Bundle { limit } => one(Ok(model.bundle(limit))),
             Call::Turn => done(model.turn()),
             Call::Crash { seats } => done(model.crash(seats)),
+            Call::Merge { first, second } => done(model.merge(first, second)),
             Call::Find { seat, number } => found(model.find(seat, number)),
             Call::Check => one(Ok(model.check())),
             Call::ReadLot { seat } => lot(model.lot(seat).map(|lot| LotRead {

@@ -2,6 +2,7 @@
 //! words and those of document 02 settle.
 
 mod components;
+mod merges;
 mod reservations;
 
 use crate::call::{Answer, Call, NO_VALUES};

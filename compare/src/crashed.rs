@@ -2,13 +2,12 @@
 //! apart by the call, its answer and the record before it.
 
 mod beside;
-mod joined;
 
 use crate::before::{Before, Clearing, Pending, FREE, LEAVING, RESERVED};
 use crate::call::{Answer, Call};
 use crate::graph::{LEVELS, SEATS};
+use crate::joined::Joined;
 use crate::lent::place::NO_LINK;
-use joined::Joined;
 use std::collections::BTreeSet;
 
 pub use beside::Beside;

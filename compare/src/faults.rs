@@ -1,11 +1,14 @@
 //! Each fault of document 01's "Faults that pass a first trial", each bundle that
 //! is not #101's, each search that is not #102's or #104's, each meeting that
-//! writes a link wrongly, #103, each reservation that is not #105's, and each crash,
-//! check and search of several components that is not #106's, put into the model, is
-//! caught by a self check on some script or list of calls; or, where these cannot show
-//! it, by the calls on lent bytes on records that no calls lead to.
+//! writes a link wrongly, #103, each reservation that is not #105's, each crash,
+//! check and search of several components that is not #106's, and each merge that is not
+//! #107's, put into the model, is caught by a self check on some script or list of calls;
+//! or, where these cannot show it, by the calls on lent bytes on records that no calls
+//! lead to.
 
 mod crashes;
+mod lists;
+mod merges;
 mod reservations;
 
 use crate::graph::SEATS;
@@ -66,8 +69,12 @@ fn no_pull() {
 
 #[test]
 fn leaver_alters_its_links() {
-    let what = caught_as(Fault::LeaverAltersItsLinks);
-    assert_eq!(what, "settled links are not the graph of the members");
+    let ways = ways_caught(Fault::LeaverAltersItsLinks);
+    let expected = [
+        "settled links are not the graph of the members",
+        "components by links and MEETs are not the roster's",
+    ];
+    assert_eq!(ways, BTreeSet::from(expected));
 }
 
 /// Links are missing where lots share high bits, and wrong where low ones.

@@ -8,7 +8,7 @@ mod components;
 
 use std::collections::BTreeMap;
 
-pub use components::{components, links_within};
+pub use components::{components, joined, links_within};
 
 /// Bits of a membership vector.
 pub const BITS: usize = 8;

@@ -14,6 +14,7 @@ mod check;
 mod crash;
 mod joining;
 mod layout;
+mod merge;
 mod next;
 mod pending;
 mod record;
@@ -33,6 +34,7 @@ pub use bytes::{from_bytes, messages, to_bytes};
 pub use crash::crash;
 pub use joining::{confirm, give_back, join, reserve};
 pub use layout::{message_at, place_of, SIZE};
+pub use merge::merge;
 
 /// Places of the fields, for those who make records that are no call's.
 pub mod place {

@@ -7,7 +7,8 @@
 //! - [`lent`] is the calls on lent bytes; [`call`] is a call with its answer, and
 //!   [`inputs`] makes records and calls from a seed; [`unsettled`] tells apart
 //!   why a search is refused, [`reserved`] what calls meet of reserved lots,
-//!   [`crashed`] what they meet of crashes and of several components.
+//!   [`crashed`] what they meet of crashes and of several components, [`merged`] of
+//!   merges.
 //! - [`text`] is the command language of the program `lots`.
 //! - [`roster`] is document 01's roster with its table of refusals; [`scan`] is
 //!   what a search has to answer, by numbers and states.
@@ -34,8 +35,10 @@ pub mod child;
 pub mod crashed;
 pub mod graph;
 pub mod inputs;
+mod joined;
 pub mod lent;
 pub mod list;
+pub mod merged;
 pub mod model;
 pub mod random;
 pub mod reach;

@@ -1,5 +1,6 @@
 //! Lists of calls that start on an opened record, fixed ones and from a seed. They
-//! hold what no line of a script says: reservations, crashes, single bundles, readings.
+//! hold what no line of a script says: reservations, crashes, merges, single bundles,
+//! readings.
 
 pub mod fixed;
 
@@ -17,12 +18,12 @@ const STYLE: usize = 30;
 pub fn generate(seed: u64, index: u64, calls: usize) -> Vec<Call> {
     let mut random = Random::of_script(seed, index);
     let pools = inputs::pools(&mut random);
-    let mut style = random.pick(&[Style::Reserving, Style::Crashing]);
+    let mut style = random.pick(&[Style::Reserving, Style::Crashing, Style::Merging]);
     let mut record = lent::to_bytes(&Model::open());
     let mut next = || {
         if random.one_in(STYLE) {
             let any = random.pick(&Style::ALL);
-            style = random.pick(&[any, any, Style::Crashing]);
+            style = random.pick(&[any, any, Style::Crashing, Style::Merging]);
         }
         let call = inputs::call(&record, style, &pools, &mut random);
         call.on_bytes(&mut record);

@@ -9,6 +9,7 @@ mod clearing;
 mod crash;
 mod fault;
 mod joining;
+mod merge;
 mod message;
 mod refusal;
 mod sound;
@@ -24,6 +25,8 @@ mod wrong_find;
 mod wrong_holder;
 #[cfg(test)]
 mod wrong_meet;
+#[cfg(test)]
+mod wrong_merge;
 #[cfg(test)]
 mod wrong_reserved;
 #[cfg(test)]
@@ -52,6 +55,8 @@ pub(crate) use wrong_find::WrongFind;
 pub(crate) use wrong_holder::WrongHolder;
 #[cfg(test)]
 pub(crate) use wrong_meet::WrongMeet;
+#[cfg(test)]
+pub(crate) use wrong_merge::WrongMerge;
 #[cfg(test)]
 pub(crate) use wrong_reserved::WrongReserved;
 #[cfg(test)]

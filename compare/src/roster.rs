@@ -1,6 +1,7 @@
 //! Document 01's roster, kept from each call's arguments and whether it was
 //! refused, and from nothing else; and the table of refusals read on it. Since
-//! document 02, #105, it keeps reservations too, since #106 each lot's component.
+//! document 02, #105, it keeps reservations too, since #106 each lot's component, which
+//! a merge (#107) makes one with another.
 
 mod components;
 
@@ -8,6 +9,8 @@ use crate::call::{Answer, Call};
 use crate::graph::{Member, LEVELS, SEATS};
 use crate::model::{Message, Model, Phase, Refusal, State, NO_CONTACT};
 use components::Component;
+#[cfg(test)]
+pub(crate) use components::WrongRoster;
 use std::collections::{BTreeMap, BTreeSet};
 
 struct Lot {
@@ -23,9 +26,8 @@ pub struct Roster {
     phase: Phase,
     /// How many components there have been.
     components: Component,
-    /// A crash leaves the components as they were, which is wrong.
     #[cfg(test)]
-    pub(crate) never_cut: bool,
+    pub(crate) wrong: Option<WrongRoster>,
 }
 
 impl Default for Roster {
@@ -41,7 +43,7 @@ impl Roster {
             phase: Phase::Open,
             components: 0,
             #[cfg(test)]
-            never_cut: false,
+            wrong: None,
         }
     }
 
@@ -60,7 +62,7 @@ impl Roster {
             }
             (Refusal::InClearing, Call::Join { .. } | Call::Leave { .. }) => clearing,
             (Refusal::InClearing, Call::Reserve { .. } | Call::Confirm { .. }) => clearing,
-            (Refusal::InClearing, Call::Crash { .. }) => clearing,
+            (Refusal::InClearing, Call::Crash { .. } | Call::Merge { .. }) => clearing,
             (Refusal::SeatTaken, Call::Join { seat, .. } | Call::Reserve { seat, .. }) => {
                 !self.is_free(seat)
             }
@@ -75,6 +77,10 @@ impl Roster {
             (Refusal::EmptySeat, Call::Crash { seats }) => {
                 named(seats).any(|seat| !self.is_seated(seat))
             }
+            (Refusal::EmptySeat, Call::Merge { first, second }) => {
+                !self.is_seated(first) || !self.is_seated(second)
+            }
+            (Refusal::SameLot, Call::Merge { first, second }) => first == second,
             // With nothing pending in phase open, the check of calls' records says yes.
             (Refusal::Unsettled, Call::Find { .. }) => clearing || !pending.is_empty(),
             (Refusal::NumberInUse, Call::Join { number, .. } | Call::Reserve { number, .. }) => {
@@ -120,6 +126,7 @@ impl Roster {
             Call::Leave { seat } => self.mark(seat, State::Leaving),
             Call::Turn => self.turn(),
             Call::Crash { seats } => self.crash(seats),
+            Call::Merge { first, second } => self.merge(first, second),
             _ => {}
         }
     }
@@ -127,7 +134,7 @@ impl Roster {
     fn open(&mut self) {
         *self = Roster {
             #[cfg(test)]
-            never_cut: self.never_cut,
+            wrong: self.wrong,
             ..Roster::new()
         };
     }
@@ -237,6 +244,7 @@ fn names_no_seat(call: Call) -> bool {
         Call::Join { seat, contact, .. } | Call::Confirm { seat, contact } => {
             above_63(seat) || (above_63(contact) && contact != NO_CONTACT)
         }
+        Call::Merge { first, second } => above_63(first) || above_63(second),
         Call::Reserve { seat, .. } | Call::GiveBack { seat } | Call::Leave { seat } => {
             above_63(seat)
         }

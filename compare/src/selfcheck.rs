@@ -1,12 +1,14 @@
 //! Runs a script, or a list of calls, on the model and checks the model as it
 //! goes: against the roster and the table after every line or call, and against
-//! the graph of the members, made within each component; bundles against single
-//! deliveries, joins against reservations, and crashes against what is left once all
-//! is delivered.
+//! the graph of the members, made within each component; components by links and
+//! pending MEETs against the roster's, bundles against single deliveries, joins against
+//! reservations, and crashes and merges against what is left once all is delivered.
 
 mod bundles;
 mod crash;
+mod drained;
 mod joining;
+mod merge;
 mod searches;
 
 use crate::call::{Answer, Call};
@@ -82,12 +84,6 @@ pub(crate) fn run_on(model: Model, input: &[u8]) -> Result<Run, Failure> {
 /// Runs a list of calls on a fresh model.
 pub fn run_list(list: &[Call]) -> Result<(), Failure> {
     run_list_beside(Roster::new(), Model::open(), list)
-}
-
-/// Runs a list of calls on a given empty model.
-#[cfg(test)]
-pub(crate) fn run_list_on(model: Model, list: &[Call]) -> Result<(), Failure> {
-    run_list_beside(Roster::new(), model, list)
 }
 
 /// Runs a list of calls on a given empty model beside a given empty roster.
@@ -173,6 +169,7 @@ impl Checked {
             Call::Bundle { limit } => bundles::check_call(before, limit, answer, &self.model),
             Call::Find { seat, number } => self.search(seat, number, answer),
             Call::Crash { seats } => crash::check(seats, before, &self.model),
+            Call::Merge { first, second } => merge::check(first, second, before, &self.model),
             _ => joining::check(call, before, &self.model),
         }
     }
@@ -206,6 +203,10 @@ impl Checked {
         holds(
             self.model.members() == members,
             "the members are not the roster's",
+        )?;
+        holds(
+            self.roster.joined() == drained::joined(&self.model),
+            "components by links and MEETs are not the roster's",
         )?;
         if self.model.pending().is_empty() {
             holds(

@@ -1,8 +1,8 @@
 //! A record of lots in lent memory, whose calls are proved.
 //!
 //! The record holds 64 seats, a phase and the pending messages. Lots join, at once
-//! or reserved first, leave or crash, messages between them are delivered in any
-//! order, and a scanned number is looked up from any seated lot. The work is done by the
+//! or reserved first, leave or crash, components are merged, messages between them are
+//! delivered in any order, and a scanned number is looked up from any seated lot. The work is done by the
 //! static library `lots_library`, written and proved in Rattle; this crate lends it
 //! bytes and gives its answers types. It allocates nothing.
 //!
@@ -29,7 +29,7 @@
 //! # Panics
 //!
 //! An answer that the library is proved never to give (a refusal number above
-//! 14, a state other than 1 to 3, a phase other than 0 and 1) ends in a panic:
+//! 15, a state other than 1 to 3, a phase other than 0 and 1) ends in a panic:
 //! then what is linked is not the library that this crate was written for.
 
 #![no_std]

@@ -2,6 +2,7 @@
 
 mod crash;
 mod joining;
+mod merge;
 
 use crate::pending::{next_in, PendingMessages};
 use crate::reading::{seat_or_none, Counts, Found, Lot, Message, Phase, State};
@@ -273,7 +274,8 @@ impl<B: AsRef<[u8]>> Record<B> {
     /// them, directly or through others, are a component.
     ///
     /// There may be several components, after a [`crash`](Record::crash), or while a
-    /// newcomer has no link yet: a pending message is no link.
+    /// newcomer has no link yet or a [`merge`](Record::merge) is not delivered: a pending
+    /// message is no link.
     ///
     /// Refusals: 1 wrong size, 2 unsound.
     ///
@@ -502,8 +504,8 @@ mod tests {
     use super::*;
 
     #[test]
-    #[should_panic = "refusal 15"]
-    fn there_are_fourteen_refusals() {
-        let _ = accepted(15);
+    #[should_panic = "refusal 16"]
+    fn there_are_fifteen_refusals() {
+        let _ = accepted(16);
     }
 }

@@ -6,8 +6,8 @@ use core::fmt;
 /// Why a call was refused, by the number and term of the table.
 ///
 /// A refused call changes no byte of the record. Of several refusals that
-/// apply, the first in this order is given: 1, 2, 3, 12, 7, 4, 14, 8, 13, 5, 6,
-/// 9, 10, 11.
+/// apply, the first in this order is given: 1, 2, 3, 12, 7, 4, 14, 8, 13, 15, 5,
+/// 6, 9, 10, 11.
 ///
 /// ```
 /// use lots_record::{Record, Refusal};
@@ -33,7 +33,8 @@ pub enum Refusal {
     /// 6: no lot is seated on the contact's seat, or there is no contact while lots
     /// are seated.
     NoContact = 6,
-    /// 7: no lot joins, is reserved, is confirmed, leaves or crashes in phase clearing.
+    /// 7: no lot joins, is reserved, is confirmed, leaves, crashes or is merged in phase
+    /// clearing.
     InClearing = 7,
     /// 8: no lot is seated there; to read a lot, none is reserved there either.
     EmptySeat = 8,
@@ -50,10 +51,12 @@ pub enum Refusal {
     Unsettled = 13,
     /// 14: no lot is reserved on the seat to confirm or to give back.
     NotReserved = 14,
+    /// 15: the lot to merge with another is that other.
+    SameLot = 15,
 }
 
 /// The table, ascending by number from 1.
-const TABLE: [(Refusal, &str); 14] = [
+const TABLE: [(Refusal, &str); 15] = [
     (Refusal::WrongSize, "wrong size"),
     (Refusal::Unsound, "unsound"),
     (Refusal::NoSuchSeat, "no such seat"),
@@ -68,29 +71,30 @@ const TABLE: [(Refusal, &str); 14] = [
     (Refusal::NoSuchLevel, "no such level"),
     (Refusal::Unsettled, "unsettled"),
     (Refusal::NotReserved, "not reserved"),
+    (Refusal::SameLot, "same lot"),
 ];
 
 impl Refusal {
-    /// The number of the table, 1 to 14.
+    /// The number of the table, 1 to 15.
     ///
     /// ```
     /// use lots_record::Refusal;
     ///
     /// assert_eq!(Refusal::WrongSize.number(), 1);
-    /// assert_eq!(Refusal::NotReserved.number(), 14);
+    /// assert_eq!(Refusal::SameLot.number(), 15);
     /// ```
     pub fn number(self) -> u8 {
         self as u8
     }
 
-    /// The refusal of that number, or none outside 1 to 14.
+    /// The refusal of that number, or none outside 1 to 15.
     ///
     /// ```
     /// use lots_record::Refusal;
     ///
     /// assert_eq!(Refusal::from_number(5), Some(Refusal::NumberInUse));
     /// assert_eq!(Refusal::from_number(0), None);
-    /// assert_eq!(Refusal::from_number(15), None);
+    /// assert_eq!(Refusal::from_number(16), None);
     /// ```
     pub fn from_number(number: u8) -> Option<Refusal> {
         let row = usize::from(number).checked_sub(1)?;

@@ -40,6 +40,8 @@ extern "C" {
 
     pub fn lots_crash(record: *mut u8, length: usize, seats: u64) -> u8;
 
+    pub fn lots_merge(record: *mut u8, length: usize, first: u8, second: u8) -> u8;
+
     pub fn lots_find(
         record: *const u8,
         length: usize,

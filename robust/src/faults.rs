@@ -10,6 +10,7 @@ mod bundles;
 mod crashes;
 mod holders;
 mod meetings;
+mod merges;
 mod reservations;
 mod searches;
 

@@ -99,6 +99,7 @@ pub fn make(memory: &mut [u8], record: Range<usize>, call: Call, fill: u64) -> O
             }
             Call::Turn => (lots_turn(start, length), NO_OUTPUT),
             Call::Crash { seats } => (lots_crash(start, length, seats), NO_OUTPUT),
+            Call::Merge { first, second } => (lots_merge(start, length, first, second), NO_OUTPUT),
             Call::Find { seat, number } => {
                 let refusal = lots_find(start, length, seat, number, out.at(0), out.at(1));
                 (refusal, [1, 8, 0, 0, 0])

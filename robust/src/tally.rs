@@ -3,6 +3,7 @@
 mod cases;
 mod crashed;
 pub(crate) mod leavers;
+mod merged;
 mod reserved;
 mod searches;
 
@@ -10,6 +11,7 @@ use compare::call::{Answer, Call, NAMES, REFUSALS};
 use compare::model::Refusal;
 use crashed::Crashed;
 use leavers::Leavers;
+use merged::Merged;
 use reserved::Reserved;
 use searches::Searches;
 use std::fmt;
@@ -54,6 +56,7 @@ pub struct Tally {
     leavers: Leavers,
     reserved: Reserved,
     crashed: Crashed,
+    merged: Merged,
     /// Calls that were made on the model too.
     pub on_model: u64,
 }
@@ -64,6 +67,7 @@ impl Tally {
         self.calls[call.index()][usize::from(answer.refusal)] += 1;
         self.reserved.count(call, answer, record, source);
         self.crashed.count(call, answer, record, source);
+        self.merged.count(call, answer, record, source);
         if let Call::Find { seat, number } = call {
             match answer.refusal {
                 0 => self.leavers.count(seat, number, record, source),
@@ -113,6 +117,7 @@ impl Tally {
         gaps.extend(self.leavers.gaps());
         gaps.extend(self.reserved.gaps());
         gaps.extend(self.crashed.gaps());
+        gaps.extend(self.merged.gaps());
         gaps
     }
 }
@@ -145,7 +150,7 @@ impl fmt::Display for Tally {
         }
         writeln!(f)?;
         write!(f, "{}{}", self.searches, self.leavers)?;
-        write!(f, "{}{}", self.reserved, self.crashed)
+        write!(f, "{}{}{}", self.reserved, self.crashed, self.merged)
     }
 }
 
@@ -166,6 +171,13 @@ mod tests {
         record
     }
 
+    /// The cases of a record of calls that are gaps before, and not after.
+    pub(super) fn closed(before: Vec<String>, after: Vec<String>) -> Vec<String> {
+        let closed = before.into_iter().filter(|gap| !after.contains(gap));
+        let prefix = "calls of a record of calls never met ";
+        closed.map(|gap| gap.replace(prefix, "")).collect()
+    }
+
     #[test]
     fn gaps_are_answers_that_the_table_allows_and_others() {
         let (mut tally, record) = (Tally::default(), opened());
@@ -175,6 +187,7 @@ mod tests {
         };
         let searches = Searches::default().gaps().len() + Leavers::default().gaps().len();
         let cases = Reserved::default().gaps().len() + Crashed::default().gaps().len();
+        let cases = cases + Merged::default().gaps().len();
         let allowed: usize = REFUSALS.iter().map(|rows| rows.len() + 1).sum();
         let all = allowed + CASES.len() + searches + cases;
         assert_eq!(count(Call::Turn, Answer::refused(11)).len(), all - 1);

@@ -1,4 +1,4 @@
-//! Crashes, and calls on a record of two components.
+//! Crashes and merges, and calls on a record of two components.
 
 use super::{longest_search, lots, on_one_message, row, settled_in, Row, HALF};
 use compare::call::Call;
@@ -18,6 +18,18 @@ pub(super) fn crash(rows: &mut Vec<Row>, [empty, half, full]: [&[u8]; 3]) {
     rows.push(row("64 lots, every other", full, crash(every_other)));
     rows.push(row("64 lots in two, one", &two_components(), crash(ONE)));
     rows.push(on_one_message(SEATS, HALF as u8, crash(ONE)));
+}
+
+/// Of two lots of one component, of two components, and of a lot with itself, with
+/// nothing pending; and while a message is.
+pub(super) fn merge(rows: &mut Vec<Row>, [empty, half, full]: [&[u8]; 3]) {
+    let merge = |first, second| Call::Merge { first, second };
+    rows.push(row("empty", empty, merge(7, 8)));
+    rows.push(row("32 lots", half, merge(7, 8)));
+    rows.push(row("64 lots", full, merge(7, 8)));
+    rows.push(row("64 lots in two", &two_components(), merge(7, 8)));
+    rows.push(row("64 lots, one twice", full, merge(7, 7)));
+    rows.push(on_one_message(SEATS, HALF as u8, merge(7, 8)));
 }
 
 pub(super) fn check(rows: &mut Vec<Row>) {

@@ -6,6 +6,7 @@ use compare::call::Call;
 use compare::child::{self, End, Output, Running};
 use compare::crashed;
 use compare::list;
+use compare::merged;
 use compare::reach::{self, Mark};
 use compare::reserved;
 use compare::script::{self, fixed, Script};
@@ -141,6 +142,7 @@ struct Lists {
     calls: usize,
     reserved: BTreeSet<reserved::Met>,
     crashed: BTreeSet<crashed::Met>,
+    merged: BTreeSet<merged::Met>,
 }
 
 impl Lists {
@@ -152,6 +154,7 @@ impl Lists {
             self.calls += list.len();
             self.reserved.extend(list::met(list, reserved::met));
             self.crashed.extend(list::met(list, crashed::met));
+            self.merged.extend(list::met(list, merged::met));
             return true;
         };
         println!(
@@ -207,6 +210,9 @@ fn drive(options: &Options) -> io::Result<ExitCode> {
     let (of_fixed, of_generated) = (&fixed_lists.crashed, &lists.crashed);
     let what = ("cases of crashes and components", "lists");
     print_reached(what, &crashed::all(), of_fixed, of_generated);
+    let (of_fixed, of_generated) = (&fixed_lists.merged, &lists.merged);
+    let what = ("cases of merges", "lists");
+    print_reached(what, &merged::all(), of_fixed, of_generated);
     let calls = fixed_lists.calls + lists.calls;
     println!(
         "{lines} lines, {deliveries} deliveries, {calls} calls of lists, {seconds:.1} seconds"

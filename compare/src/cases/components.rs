@@ -111,6 +111,19 @@ fn a_crash_meets_1_and_2_first() {
 /// self check asks of a crash holds of all of them.
 #[test]
 fn every_crash_of_a_small_record() {
+    let (six, settle) = (six_lots(), settle());
+    for seats in 0..1u64 << 6 {
+        for seat in (0..6).filter(|seat| seats >> seat & 1 == 0) {
+            let other = Call::Crash { seats: 1 << seat };
+            let crashes = [Call::Crash { seats }, settle, other, settle, Call::Check];
+            let list = [&six[..], &crashes].concat();
+            assert_eq!(selfcheck::run_list(&list), Ok(()), "{seats} {seat}");
+        }
+    }
+}
+
+/// Joins six lots on the first seats, all through the first, and delivers all.
+pub fn six_lots() -> Vec<Call> {
     let lots = [(10, 0), (20, 128), (30, 1), (40, 192), (50, 64), (60, 129)];
     let join = |(seat, (number, vector))| Call::Join {
         seat,
@@ -118,15 +131,10 @@ fn every_crash_of_a_small_record() {
         vector,
         contact: if seat == 0 { 255 } else { 0 },
     };
-    let settle = Call::Bundle { limit: u16::MAX };
-    let mut list: Vec<Call> = (0..).zip(lots).map(join).collect();
-    list.push(settle);
-    for seats in 0..1u64 << lots.len() {
-        for seat in (0..lots.len()).filter(|seat| seats >> seat & 1 == 0) {
-            let other = Call::Crash { seats: 1 << seat };
-            let crashes = [Call::Crash { seats }, settle, other, settle, Call::Check];
-            let list = [&list[..], &crashes].concat();
-            assert_eq!(selfcheck::run_list(&list), Ok(()), "{seats} {seat}");
-        }
-    }
+    let joins = (0..).zip(lots).map(join);
+    joins.chain([settle()]).collect()
+}
+
+pub fn settle() -> Call {
+    Call::Bundle { limit: u16::MAX }
 }

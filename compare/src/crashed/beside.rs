@@ -1,8 +1,8 @@
 //! Accepted calls of records with several components.
 
-use super::joined::Joined;
 use crate::before::{Before, LEAVING, STAYING};
 use crate::call::{Answer, Call};
+use crate::joined::Joined;
 use crate::model::NO_CONTACT;
 
 #[derive(Clone, Copy, PartialEq, Eq, PartialOrd, Ord, Debug)]

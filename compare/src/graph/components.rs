@@ -1,5 +1,5 @@
 //! Components: lots joined by links among them, directly or through others, as in
-//! Theorem 5 of document 000.
+//! Theorem 5 of document 000; or by other pairs besides.
 
 use super::{links_of, Links, Member, SEATS};
 
@@ -7,28 +7,33 @@ use super::{links_of, Links, Member, SEATS};
 /// whose links are in that order too. A link joins its ends whichever of them holds
 /// it; one to a seat that is no member's joins nothing.
 pub fn components(members: &[Member], links: &[Links]) -> Vec<u8> {
+    joined(members, links, [])
+}
+
+/// As [`components`], where the lots of these pairs of seats are joined too.
+pub fn joined(
+    members: &[Member],
+    links: &[Links],
+    pairs: impl IntoIterator<Item = (u8, u8)>,
+) -> Vec<u8> {
     let mut smallest = [None; SEATS];
     for member in members {
         smallest[usize::from(member.seat)] = Some(member.seat);
     }
-    let of = |smallest: &[Option<u8>; SEATS], seat: u8| smallest[usize::from(seat)];
-    loop {
-        let before = smallest;
-        for (member, links) in members.iter().zip(links) {
-            for &link in links.as_flattened().iter().flatten() {
-                let (one, other) = (of(&smallest, member.seat), of(&smallest, link));
-                let joined = other.and(one.min(other));
-                if joined.is_some() {
-                    smallest[usize::from(member.seat)] = joined;
-                    smallest[usize::from(link)] = joined;
-                }
-            }
+    let linked = members.iter().zip(links).flat_map(|(member, links)| {
+        let links = links.as_flattened().iter().flatten();
+        links.map(|&link| (member.seat, link))
+    });
+    for (one, other) in linked.chain(pairs) {
+        let both = [one, other].map(|seat| smallest[usize::from(seat)]);
+        let [one, other] = both;
+        if one == other || both.contains(&None) {
+            continue;
         }
-        if smallest == before {
-            break;
-        }
+        let same = smallest.iter_mut().filter(|seat| both.contains(seat));
+        same.for_each(|seat| *seat = one.min(other));
     }
-    let component = |member: &Member| of(&smallest, member.seat);
+    let component = |member: &Member| smallest[usize::from(member.seat)];
     let components = members.iter().map(component);
     components
         .map(|seat| seat.expect("each member has one"))
@@ -86,6 +91,16 @@ mod tests {
                 assert_eq!(components(&members, &links), [5, 3, 5, 2, 5]);
             }
         }
+    }
+
+    #[test]
+    fn pairs_join_besides() {
+        let members = five();
+        let mut links = vec![NO_LINKS; 5];
+        links[0][3][1] = Some(5);
+        assert_eq!(joined(&members, &links, [(9, 3)]), [5, 3, 5, 2, 3]);
+        assert_eq!(joined(&members, &links, [(7, 2), (3, 40)]), [2, 3, 2, 2, 9]);
+        assert_eq!(joined(&members, &links, [(9, 3), (3, 5)]), [3, 3, 3, 2, 3]);
     }
 
     #[test]

@@ -2,6 +2,7 @@
 
 mod crash;
 mod joining;
+mod merge;
 
 use super::{entry_at, is_reserved, is_seated, state};
 use crate::call::Call;
@@ -31,6 +32,8 @@ pub enum Style {
     Reserving,
     /// Lots crash, mostly in records at rest, while others join and leave.
     Crashing,
+    /// Components are merged and cut, and not all is delivered between.
+    Merging,
 }
 
 #[derive(Clone, Copy)]
@@ -47,13 +50,14 @@ enum Name {
     Settle,
     Turn,
     Crash,
+    Merge,
     Find,
     Check,
     Read,
 }
 
 impl Style {
-    pub const ALL: [Style; 8] = [
+    pub const ALL: [Style; 9] = [
         Style::Busy,
         Style::Draining,
         Style::Turning,
@@ -62,25 +66,27 @@ impl Style {
         Style::Closing,
         Style::Reserving,
         Style::Crashing,
+        Style::Merging,
     ];
 
     fn weights(self) -> [(Name, usize); NAMES.len()] {
         let weights = match self {
-            Style::Busy => [1, 120, 15, 12, 4, 40, 150, 15, 0, 10, 6, 20, 10, 30],
-            Style::Draining => [0, 4, 2, 2, 1, 2, 400, 20, 0, 10, 8, 10, 10, 20],
-            Style::Turning => [1, 20, 6, 6, 4, 40, 200, 40, 0, 90, 10, 10, 20, 20],
-            Style::Asking => [1, 10, 4, 2, 2, 5, 50, 5, 0, 10, 10, 100, 80, 150],
-            Style::Scanning => [0, 20, 4, 3, 2, 1, 5, 0, 60, 20, 10, 400, 10, 10],
-            Style::Closing => [0, 20, 4, 3, 2, 60, 5, 0, 60, 10, 8, 400, 10, 10],
-            Style::Reserving => [2, 20, 90, 60, 40, 20, 60, 10, 20, 30, 6, 20, 10, 30],
-            Style::Crashing => [0, 160, 10, 8, 3, 15, 30, 10, 90, 15, 30, 50, 20, 20],
+            Style::Busy => [1, 120, 15, 12, 4, 40, 150, 15, 0, 10, 6, 8, 20, 10, 30],
+            Style::Draining => [0, 4, 2, 2, 1, 2, 400, 20, 0, 10, 8, 4, 10, 10, 20],
+            Style::Turning => [1, 20, 6, 6, 4, 40, 200, 40, 0, 90, 16, 4, 10, 20, 20],
+            Style::Asking => [1, 10, 4, 2, 2, 5, 50, 5, 0, 10, 10, 5, 100, 80, 150],
+            Style::Scanning => [0, 20, 4, 3, 2, 1, 5, 0, 60, 20, 10, 2, 400, 10, 10],
+            Style::Closing => [0, 20, 4, 3, 2, 60, 5, 0, 60, 10, 8, 2, 400, 10, 10],
+            Style::Reserving => [2, 20, 90, 60, 40, 20, 60, 10, 20, 30, 6, 4, 20, 10, 30],
+            Style::Crashing => [0, 160, 10, 8, 3, 15, 30, 10, 90, 15, 30, 2, 50, 20, 20],
+            Style::Merging => [0, 60, 12, 12, 6, 12, 40, 10, 30, 8, 80, 110, 20, 15, 10],
         };
         std::array::from_fn(|index| (NAMES[index], weights[index]))
     }
 }
 
 /// In the order of the weights.
-const NAMES: [Name; 14] = [
+const NAMES: [Name; 15] = [
     Name::Open,
     Name::Join,
     Name::Reserve,
@@ -92,6 +98,7 @@ const NAMES: [Name; 14] = [
     Name::Settle,
     Name::Turn,
     Name::Crash,
+    Name::Merge,
     Name::Find,
     Name::Check,
     Name::Read,
@@ -125,6 +132,7 @@ pub fn call(bytes: &[u8], style: Style, pools: &Pools, random: &mut Random) -> C
         Name::Crash => Call::Crash {
             seats: chooser.crashed(),
         },
+        Name::Merge => chooser.merge(),
         Name::Find => Call::Find {
             seat: chooser.seat(),
             number: chooser.number(),
@@ -171,10 +179,14 @@ impl Chooser<'_> {
 
     /// A seat of the pool, or after it, whose state is wanted.
     fn some_seat(&mut self, wanted: impl Fn(u8) -> bool) -> Option<u8> {
+        let bytes = self.bytes;
+        self.some_seat_that(|seat| wanted(state(bytes, seat.into())))
+    }
+
+    fn some_seat_that(&mut self, is_wanted: impl Fn(u8) -> bool) -> Option<u8> {
         let start = usize::from(self.random.pick(&self.pools.seats));
-        let mut seats = (start..start + SEATS).map(|seat| seat % SEATS);
-        let seat = seats.find(|&seat| wanted(state(self.bytes, seat)));
-        seat.map(|seat| seat as u8)
+        let mut seats = (start..start + SEATS).map(|seat| (seat % SEATS) as u8);
+        seats.find(|&seat| is_wanted(seat))
     }
 
     /// The number of a lot, one of the pool, a neighbour of these, or an edge.

@@ -7,12 +7,13 @@ use crate::graph::{LEVELS, SEATS};
 use crate::lent::place::{
     link_at, ENTRY, LINKS_AT, NUMBER_AT, PENDING_AT, PHASE_AT, PLACES, STATE_AT, VECTOR_AT,
 };
-use crate::lent::{messages, SIZE};
+use crate::lent::{messages, place_of, SIZE};
+use crate::model::Message;
 use crate::random::Random;
 
 type Damage = fn(&mut [u8], &mut Random);
 
-const DAMAGES: [(Damage, usize); 17] = [
+const DAMAGES: [(Damage, usize); 18] = [
     (bit_flipped, 4),
     (entry_bit_flipped, 6),
     (byte_replaced, 3),
@@ -23,6 +24,7 @@ const DAMAGES: [(Damage, usize); 17] = [
     (link_redirected, 12),
     (message_set, 10),
     (message_between_lots_set, 10),
+    (meeting_set, 10),
     (phase_changed, 4),
     (free_seat_dirtied, 5),
     (state_changed, 8),
@@ -148,6 +150,13 @@ fn message_between_lots_set(bytes: &mut [u8], random: &mut Random) {
     if let Ok(place) = messages().binary_search(&message) {
         set(bytes, place);
     }
+}
+
+/// At level 0, as of a merge.
+fn meeting_set(bytes: &mut [u8], random: &mut Random) {
+    let [to, about] = [(); 2].map(|()| some_lot(bytes, random) as u8);
+    let place = place_of(Message::meet(to, about, 0)).expect("seats have a place");
+    bytes[PENDING_AT + place / 8] |= 1 << (place % 8);
 }
 
 fn phase_changed(bytes: &mut [u8], random: &mut Random) {

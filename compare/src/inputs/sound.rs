@@ -20,8 +20,10 @@ struct Lot {
 
 /// Seats or reserves all lots of the pool, or some of them.
 pub fn sound_record(pools: &Pools, random: &mut Random) -> Vec<u8> {
-    if random.one_in(8) {
-        return settled_record(pools, random);
+    match random.below(16) {
+        0 | 1 => return settled_record(pools, random),
+        2 => return merging_record(pools, random),
+        _ => {}
     }
     let clearing = random.one_in(2);
     let (mut lots, reserved) = some_lots(pools, random);
@@ -30,11 +32,15 @@ pub fn sound_record(pools: &Pools, random: &mut Random) -> Vec<u8> {
     let some = random.below(100);
     for _ in 0..random.pick(&[0, 0, 0, 1, 2, 5, 20, some]) {
         if let Some(message) = some_message(&lots, clearing, random) {
-            let place = place_of(message).expect("a message that fits has a place");
-            bytes[PENDING_AT + place / 8] |= 1 << (place % 8);
+            send(&mut bytes, message);
         }
     }
     bytes
+}
+
+fn send(bytes: &mut [u8], message: Message) {
+    let place = place_of(message).expect("a message that fits has a place");
+    bytes[PENDING_AT + place / 8] |= 1 << (place % 8);
 }
 
 /// As [`sound_record`], in phase open with the links of the graph and nothing
@@ -45,6 +51,25 @@ pub fn settled_record(pools: &Pools, random: &mut Random) -> Vec<u8> {
     let components = random.pick(&[1, 1, 2, 3, 8]);
     link_components(&mut lots, components, clearing, random);
     written(&lots, &reserved, clearing)
+}
+
+/// As [`settled_record`], but for one MEET at level 0 or two, mostly between components
+/// of which there are several.
+fn merging_record(pools: &Pools, random: &mut Random) -> Vec<u8> {
+    let clearing = false;
+    let (mut lots, reserved) = some_lots(pools, random);
+    let components = random.pick(&[2, 3, 4, 5]);
+    link_components(&mut lots, components, clearing, random);
+    let mut bytes = written(&lots, &reserved, clearing);
+    for _ in 0..random.pick(&[1, 1, 2]) {
+        if lots.len() > 1 {
+            let [to, about] = [(); 2].map(|()| lots[random.below(lots.len())].member.seat);
+            if to != about {
+                send(&mut bytes, Message::meet(to, about, 0));
+            }
+        }
+    }
+    bytes
 }
 
 /// Seated lots, without links, and reserved ones.

@@ -1,9 +1,10 @@
 //! Lists that are the same in every run, with their answers as they follow from
-//! document 02's words (#105, #106). Together they meet all that is told apart of
-//! reserved lots, and of crashes and several components.
+//! document 02's words (#105 to #107). Together they meet all that is told apart of
+//! reserved lots, of crashes and several components, and of merges.
 
 mod crashes;
 mod long;
+mod merges;
 mod steps;
 
 use crate::call::{Answer, Call, NO_VALUES};
@@ -18,6 +19,7 @@ pub type Answered = Vec<(Call, Answer)>;
 pub fn lists() -> Vec<(&'static str, Answered)> {
     let mut lists = of_reservations();
     lists.extend(crashes::lists());
+    lists.extend(merges::lists());
     lists
 }
 
@@ -91,6 +93,16 @@ fn find(seat: u8, number: u64) -> Call {
 
 fn lot(seat: u8) -> Call {
     Call::ReadLot { seat }
+}
+
+fn crash<const N: usize>(named: [u8; N]) -> Call {
+    let seats = named.iter().fold(0, |set, seat| set | 1 << seat);
+    Call::Crash { seats }
+}
+
+fn left_link(seat: u8, level: u8) -> Call {
+    let side = 0;
+    Call::ReadLink { seat, level, side }
 }
 
 fn right_link(seat: u8, level: u8) -> Call {
@@ -220,7 +232,7 @@ fn all_seats() -> Answered {
 mod tests {
     use super::*;
     use crate::model::Model;
-    use crate::{crashed, lent, list, reserved, selfcheck};
+    use crate::{crashed, lent, list, merged, reserved, selfcheck};
     use std::collections::BTreeSet;
     use std::fmt::Debug;
 
@@ -271,5 +283,10 @@ mod tests {
     #[test]
     fn all_of_crashes_is_met() {
         all_is_met(crashed::all(), crashed::met);
+    }
+
+    #[test]
+    fn all_of_merges_is_met() {
+        all_is_met(merged::all(), merged::met);
     }
 }

@@ -1,9 +1,9 @@
 //! The faults of document 01's "Faults that pass a first trial", bundles that
 //! are not #101's, searches that are refused otherwise than #102 says, meetings
 //! that write a link wrongly, #103, searches that meet leaving lots otherwise
-//! than #104 says, reservations that are not #105's, and crashes, checks and searches
-//! of several components that are not #106's. Only a test can switch one on, to see
-//! that it is caught.
+//! than #104 says, reservations that are not #105's, crashes, checks and searches of
+//! several components that are not #106's, and merges that are not #107's. Only a test
+//! can switch one on, to see that it is caught.
 
 #[cfg(test)]
 use super::wrong_bundle::WrongBundle;
@@ -17,6 +17,8 @@ use super::wrong_find::WrongFind;
 use super::wrong_holder::WrongHolder;
 #[cfg(test)]
 use super::wrong_meet::WrongMeet;
+#[cfg(test)]
+use super::wrong_merge::WrongMerge;
 #[cfg(test)]
 use super::wrong_reserved::WrongReserved;
 #[cfg(test)]
@@ -48,6 +50,8 @@ pub(crate) enum Fault {
     #[cfg(test)]
     Crash(WrongCrash),
     #[cfg(test)]
+    Merge(WrongMerge),
+    #[cfg(test)]
     Check(WrongCheck),
     /// Among all lots, not those of the start's component.
     #[cfg(test)]
@@ -66,7 +70,7 @@ impl Model {
         Model { fault, ..self }
     }
 
-    /// What a model with a fault of #105 or #106 makes of a call; none without one.
+    /// What a model with a fault of #105 to #107 makes of a call; none without one.
     #[cfg(test)]
     pub(crate) fn wrong_call(&mut self, call: Call) -> Option<Answer> {
         let mut fault = self.fault;
@@ -82,6 +86,10 @@ impl Model {
             Some(Fault::Crash(wrong)) => {
                 self.fault = None;
                 self.with_crash(*wrong, call)
+            }
+            Some(Fault::Merge(wrong)) => {
+                self.fault = None;
+                self.with_merge(*wrong, call)
             }
             Some(Fault::SeeksAmongAll) => {
                 self.fault = None;

@@ -16,11 +16,12 @@ pub enum Refusal {
     NoSuchLevel = 12,
     Unsettled = 13,
     NotReserved = 14,
+    SameLot = 15,
 }
 
 impl Refusal {
     /// The order in which the first row that applies is given.
-    pub const ORDER: [Refusal; 14] = [
+    pub const ORDER: [Refusal; 15] = [
         Refusal::WrongSize,
         Refusal::Unsound,
         Refusal::NoSuchSeat,
@@ -30,6 +31,7 @@ impl Refusal {
         Refusal::NotReserved,
         Refusal::EmptySeat,
         Refusal::Unsettled,
+        Refusal::SameLot,
         Refusal::NumberInUse,
         Refusal::NoContact,
         Refusal::AlreadyLeaving,

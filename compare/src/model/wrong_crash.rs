@@ -45,20 +45,20 @@ pub(crate) enum WrongCrash {
 impl Model {
     /// What a model with a fault, which is taken out, makes of a call.
     pub(super) fn with_crash(&mut self, wrong: WrongCrash, call: Call) -> Answer {
+        let Call::Crash { seats } = call else {
+            return call.on_model(self);
+        };
         let before = self.clone();
         let answer = call.on_model(self);
-        match call {
-            Call::Crash { seats } if answer.refusal == 0 => {
-                self.wrongly_accepted(wrong, seats, &before);
-                match wrong {
-                    LeaverIsEmpty if before.names(seats, State::Leaving) => {
-                        *self = before;
-                        Answer::refused(8)
-                    }
-                    _ => answer,
-                }
+        if answer.refusal != 0 {
+            return self.wrongly_refused(wrong, seats, answer);
+        }
+        self.wrongly_accepted(wrong, seats, &before);
+        match wrong {
+            LeaverIsEmpty if before.names(seats, State::Leaving) => {
+                *self = before;
+                Answer::refused(8)
             }
-            Call::Crash { seats } => self.wrongly_refused(wrong, seats, answer),
             _ => answer,
         }
     }

@@ -37,6 +37,9 @@ pub(crate) enum WrongReserving {
 impl Model {
     /// What a model with a fault, which is taken out, makes of a call.
     pub(super) fn with_reserving(&mut self, wrong: &mut WrongReserving, call: Call) -> Answer {
+        if !call.changes_bytes() {
+            return call.on_model(self);
+        }
         let before = self.clone();
         let answer = call.on_model(self);
         match call {

@@ -1,5 +1,5 @@
-//! The components of the roster (document 02, #106). They are kept from the log
-//! alone: no link of a record is read.
+//! The components of the roster (document 02, #106 and #107). They are kept from
+//! the log alone: no link of a record is read.
 
 use super::{named, Roster};
 use crate::graph::{self, Links, Member};
@@ -7,6 +7,18 @@ use crate::model::{State, NO_CONTACT};
 
 /// A name that is given once.
 pub type Component = usize;
+
+/// Ways to keep components that are wrong.
+#[cfg(test)]
+#[derive(Clone, Copy, PartialEq, Eq, Debug)]
+pub(crate) enum WrongRoster {
+    /// A crash leaves them as they were.
+    NeverCut,
+    /// A merge does.
+    NeverUnited,
+    /// A merge takes the second lot alone to the first one's.
+    SecondAlone,
+}
 
 impl Roster {
     /// A newcomer's is its contact's, a first lot's its own.
@@ -36,11 +48,28 @@ impl Roster {
         }
         self.lots.retain(|&seat, _| !is_named(seat));
         #[cfg(test)]
-        if self.never_cut {
+        if self.wrong == Some(WrongRoster::NeverCut) {
             return;
         }
         if seats != 0 {
             self.name_anew(&left, &graph::components(&left, &links));
+        }
+    }
+
+    /// All lots of the second's are the first's from now on.
+    pub(super) fn merge(&mut self, first: u8, second: u8) {
+        let (one, other) = (self.component(first), self.component(second));
+        let joins = |_seat: u8| true;
+        #[cfg(test)]
+        let joins = |seat| match self.wrong {
+            Some(WrongRoster::NeverUnited) => false,
+            Some(WrongRoster::SecondAlone) => seat == second,
+            _ => joins(seat),
+        };
+        for (seat, lot) in &mut self.lots {
+            if lot.component == other && joins(*seat) {
+                lot.component = one;
+            }
         }
     }
 
@@ -63,6 +92,18 @@ impl Roster {
     pub fn components(&self) -> Vec<Option<Component>> {
         let members = self.members().into_iter();
         members.map(|member| self.component(member.seat)).collect()
+    }
+
+    /// Of each seated lot, by seat, the smallest seat of its component.
+    pub fn joined(&self) -> Vec<u8> {
+        let seated = self.seated();
+        let component = |(lot, _): &(Member, State)| self.component(lot.seat);
+        let first = |one: &(Member, State)| {
+            let mut seated = seated.iter();
+            let same = seated.find(|other| component(other) == component(one));
+            same.map(|(lot, _)| lot.seat)
+        };
+        seated.iter().filter_map(first).collect()
     }
 
     /// The graph of the members, made within each component, in their order.

@@ -1,15 +1,10 @@
-//! An accepted crash: what it frees and sends, and what is left once all is delivered
-//! (document 02, #106).
+//! An accepted crash: what it frees and sends, and that each component which it leaves is
+//! a skip graph once all is delivered (document 02, #106).
 
-use super::{holds, Check, MOST_DELIVERIES};
-use crate::graph::{components, links_within, Links};
+use super::{drained, holds, Check};
+use crate::graph::Links;
 use crate::model::{Lot, Message, Model};
-use crate::random::Random;
 use std::collections::BTreeSet;
-
-/// Up to so many lots, what was sent is delivered in other orders too, which may take
-/// long.
-const FEW: usize = 12;
 
 pub fn check(seats: u64, before: &Model, after: &Model) -> Check {
     if seats == 0 {
@@ -20,17 +15,7 @@ pub fn check(seats: u64, before: &Model, after: &Model) -> Check {
         *after.pending() == meetings(after),
         "a crash does not send what it says",
     )?;
-    leaves_graphs(after, |model| model.pending().first().copied())?;
-    if after.counts().lots > FEW {
-        return Ok(());
-    }
-    leaves_graphs(after, |model| model.pending().last().copied())?;
-    let mut random = Random::new(seats);
-    leaves_graphs(after, |model| {
-        let pending = model.pending();
-        let place = random.below(pending.len().max(1));
-        pending.iter().nth(place).copied()
-    })
+    drained::check(after, seats).map(drop)
 }
 
 fn is_named(seats: u64, seat: u8) -> bool {
@@ -69,32 +54,4 @@ fn meetings(after: &Model) -> BTreeSet<Message> {
         }
     }
     sent
-}
-
-/// Once drained by deliveries alone, in the order given, components by links are those
-/// that the call left, and each is the skip graph of its own lots.
-fn leaves_graphs(after: &Model, mut next: impl FnMut(&Model) -> Option<Message>) -> Check {
-    let members = after.members();
-    let left = components(&members, &after.member_links());
-    let mut drained = after.clone();
-    for _ in 0..MOST_DELIVERIES {
-        let Some(message) = next(&drained) else {
-            break;
-        };
-        let delivered = drained.deliver(message);
-        delivered.map_err(|_| "a pending message was not delivered")?;
-    }
-    holds(
-        drained.pending().is_empty(),
-        "deliveries after a crash do not end",
-    )?;
-    let links = drained.member_links();
-    holds(
-        components(&members, &links) == left,
-        "once drained, components are not those that a crash left",
-    )?;
-    holds(
-        links == links_within(&members, &left),
-        "once drained, a component that a crash left is no skip graph",
-    )
 }

@@ -1,6 +1,6 @@
 //! What the tests share: record Q, delivery in order, and a watch on refusals.
 
-use lots_record::{Message, Record, Refusal, SIZE};
+use lots_record::{Found, Message, Record, Refusal, SIZE};
 
 pub type Owned = Record<[u8; SIZE]>;
 
@@ -18,6 +18,29 @@ pub fn q() -> Owned {
     let mut record = three_lots();
     deliver_all(&mut record);
     record
+}
+
+/// A set of seats.
+pub fn set(seats: &[u8]) -> u64 {
+    seats.iter().fold(0, |set, seat| set | 1 << seat)
+}
+
+/// So many lots, 100, 200 and so on, on seats from 0 on, all with vector 0 and so in
+/// one row at each level; settled.
+pub fn in_a_row(lots: u8) -> Owned {
+    let mut record = Record::new();
+    for seat in 0..lots {
+        let contact = (seat > 0).then_some(0);
+        let number = 100 + 100 * u64::from(seat);
+        record.join(seat, number, 0, contact).unwrap();
+    }
+    deliver_all(&mut record);
+    record
+}
+
+pub fn found(record: &Owned, start: u8, number: u64) -> (Option<u8>, u64) {
+    let Found { holder, hops } = record.find(start, number).unwrap();
+    (holder, hops)
 }
 
 /// Delivers the smallest pending message until none is pending.

@@ -1,30 +1,7 @@
 //! A scale dies: document 02, #106.
 
-use crate::common::{deliver_all, q, refused, three_lots, Owned};
-use lots_record::{Counts, Found, Message, Phase, Record, State, LEFT, RIGHT};
-
-/// A set of seats.
-fn set(seats: &[u8]) -> u64 {
-    seats.iter().fold(0, |set, seat| set | 1 << seat)
-}
-
-/// So many lots, 100, 200 and so on, on seats from 0 on, all with vector 0 and so in
-/// one row at each level; settled.
-fn in_a_row(lots: u8) -> Owned {
-    let mut record = Record::new();
-    for seat in 0..lots {
-        let contact = (seat > 0).then_some(0);
-        let number = 100 + 100 * u64::from(seat);
-        record.join(seat, number, 0, contact).unwrap();
-    }
-    deliver_all(&mut record);
-    record
-}
-
-fn found(record: &Owned, start: u8, number: u64) -> (Option<u8>, u64) {
-    let Found { holder, hops } = record.find(start, number).unwrap();
-    (holder, hops)
-}
+use crate::common::{deliver_all, found, in_a_row, q, refused, set, three_lots, Owned};
+use lots_record::{Counts, Message, Phase, Record, State, LEFT, RIGHT};
 
 /// Where the entry of a seat begins, by docs/RECORD.md.
 const fn entry(seat: usize) -> usize {

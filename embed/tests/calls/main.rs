@@ -5,6 +5,7 @@ mod cases;
 mod common;
 mod crash;
 mod limits;
+mod merge;
 mod pending;
 mod refusals;
 mod reservations;

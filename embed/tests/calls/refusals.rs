@@ -9,7 +9,7 @@ type Call = fn(&mut Record<&mut [u8]>) -> Result<(), Refusal>;
 
 /// Every call but open, with arguments that Q accepts, or else refuses with 8, 10 or
 /// 14: a later row than 1 and 2.
-const CALLS: [Call; 18] = [
+const CALLS: [Call; 19] = [
     |record| record.join(3, 400, 0, Some(0)),
     |record| record.reserve(3, 400, 0),
     |record| record.confirm(3, Some(0)),
@@ -19,6 +19,7 @@ const CALLS: [Call; 18] = [
     |record| record.bundle(1).map(drop),
     |record| record.turn(),
     |record| record.crash(1 << 9),
+    |record| record.merge(9, 9),
     |record| record.find(9, 250).map(drop),
     |record| record.check().map(drop),
     |record| record.lot(9).map(drop),
@@ -115,6 +116,9 @@ fn no_such_seat() {
             refused(bytes, 3, |record| record.confirm(seat, Some(9)));
             refused(bytes, 3, |record| record.give_back(seat));
             refused(bytes, 3, |record| record.leave(seat));
+            refused(bytes, 3, |record| record.merge(seat, 9));
+            refused(bytes, 3, |record| record.merge(9, seat));
+            refused(bytes, 3, |record| record.merge(seat, seat));
             refused(bytes, 3, |record| record.find(seat, 250).map(drop));
             refused(bytes, 3, |record| record.lot(seat).map(drop));
             refused(bytes, 3, |record| record.link(seat, 9, 2).map(drop));
@@ -271,6 +275,7 @@ fn a_refusal_is_an_error_with_the_tables_term() {
         "no such level",
         "unsettled",
         "not reserved",
+        "same lot",
     ];
     for (number, term) in (1..).zip(terms) {
         let refusal = Refusal::from_number(number).unwrap();

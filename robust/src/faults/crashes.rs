@@ -2,7 +2,7 @@
 //! several components for one, or for none.
 
 mod calls;
-mod components;
+pub(super) mod components;
 
 use super::on_bytes::*;
 use compare::graph::{LEVELS, SIDES};
@@ -50,18 +50,10 @@ fn links(record: &[u8]) -> Vec<Link> {
     links
 }
 
-fn is_seated(record: &[u8], seat: u8) -> bool {
-    [STAYING, LEAVING].contains(&state(record, seat))
-}
-
 /// The seats of the seated lots.
 fn seated(record: &[u8]) -> u64 {
     let seats = (0..SEATS as u8).filter(|&seat| is_seated(record, seat));
     seats.fold(0, |set, seat| set | 1 << seat)
-}
-
-fn is_in(seats: u64, seat: u8) -> bool {
-    seats >> seat & 1 == 1
 }
 
 /// The seats of an accepted crash of some lots.

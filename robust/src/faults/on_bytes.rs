@@ -65,6 +65,15 @@ pub fn number(bytes: &[u8], seat: u8) -> u64 {
     u64::from_be_bytes(number.expect("a number has eight bytes"))
 }
 
+pub fn is_seated(record: &[u8], seat: u8) -> bool {
+    [STAYING, LEAVING].contains(&state(record, seat))
+}
+
+/// Whether a set of seats has this one.
+pub fn is_in(seats: u64, seat: u8) -> bool {
+    seats >> seat & 1 == 1
+}
+
 /// The seats in a state, ascending.
 pub fn seats_in(bytes: &[u8], wanted: u8) -> impl Iterator<Item = u8> + '_ {
     (0..SEATS as u8).filter(move |&seat| state(bytes, seat) == wanted)
@@ -73,6 +82,11 @@ pub fn seats_in(bytes: &[u8], wanted: u8) -> impl Iterator<Item = u8> + '_ {
 pub fn set(bytes: &mut [u8], message: Message) {
     let place = place_of(message).expect("the message has a place");
     bytes[PENDING_AT + place / 8] |= 1 << (place % 8);
+}
+
+pub fn take_away(bytes: &mut [u8], message: Message) {
+    let place = place_of(message).expect("the message has a place");
+    bytes[PENDING_AT + place / 8] &= !(1 << (place % 8));
 }
 
 /// The entry of a free seat.

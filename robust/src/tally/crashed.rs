@@ -45,7 +45,7 @@ impl fmt::Display for Crashed {
 #[cfg(test)]
 mod tests {
     use super::*;
-    use crate::tally::tests::three_lots;
+    use crate::tally::tests::{closed, three_lots};
     use compare::lent;
     use compare::lent::place::{link_at, ENTRIES_AT, ENTRY, NO_LINK};
 
@@ -54,10 +54,7 @@ mod tests {
         let (mut crashed, before) = (Crashed::default(), Crashed::default().gaps());
         let answer = call.on_bytes(&mut record.to_vec());
         crashed.count(call, answer, record, Source::Calls);
-        let gaps = crashed.gaps();
-        let closed = before.into_iter().filter(|gap| !gaps.contains(gap));
-        let prefix = "calls of a record of calls never met ";
-        closed.map(|gap| gap.replace(prefix, "")).collect()
+        closed(before, crashed.gaps())
     }
 
     #[test]

@@ -1,6 +1,6 @@
 //! Lists with crashes, and of several components.
 
-use super::steps::Steps;
+use super::steps::{joined, Steps};
 use super::*;
 use crate::model::Message;
 
@@ -16,27 +16,6 @@ pub(super) fn lists() -> Vec<(&'static str, Answered)> {
         ("components are cleared", cleared()),
         ("leaving lots crash", leavers_crash()),
     ]
-}
-
-fn crash<const N: usize>(named: [u8; N]) -> Call {
-    let seats = named.iter().fold(0, |set, seat| set | 1 << seat);
-    Call::Crash { seats }
-}
-
-fn left_link(seat: u8, level: u8) -> Call {
-    let side = 0;
-    Call::ReadLink { seat, level, side }
-}
-
-/// Joins lots on seats from 0 on, all through the first, and delivers all.
-fn joined(lots: &[(u64, u8)]) -> Steps {
-    let mut steps = Steps::new();
-    for (seat, &(number, vector)) in (0..).zip(lots) {
-        let contact = if seat == 0 { NO_CONTACT } else { 0 };
-        steps.say(join(seat, number, vector, contact), OK);
-    }
-    steps.drain();
-    steps
 }
 
 /// 7, then 8, then 11; the set 0 too, where there is nothing to meet 8.

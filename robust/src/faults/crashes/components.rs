@@ -76,7 +76,7 @@ fn parts(model: &Model) -> Vec<u8> {
 }
 
 /// The seats of a lot's component.
-pub(super) fn of(record: &[u8], seat: u8) -> u64 {
+pub fn of(record: &[u8], seat: u8) -> u64 {
     let model = model(record);
     let members = model.members();
     let components = components(&members, &model.member_links());

@@ -1,10 +1,8 @@
-//! Which lots are joined: by links, and in phase open by pending MEETs, which come to
-//! links. In a record made by calls these are the roster's components.
+//! Which lots are joined, on the bytes: by links, and in phase open by pending MEETs,
+//! which come to links. In a record made by calls these are the roster's components.
 
 use crate::before::Before;
 use crate::graph::SEATS;
-use crate::lent::message_at;
-use crate::lent::place::{NO_LINK, PENDING_AT, PROBE};
 
 /// For each seat the set of seats that it is joined to, itself too; 0 if no lot of
 /// those asked for is seated there.
@@ -13,28 +11,27 @@ pub struct Joined([u64; SEATS]);
 impl Joined {
     /// Among the seated lots that are wanted.
     pub fn of(before: Before, wanted: impl Fn(u8) -> bool) -> Joined {
+        let mut joined = Joined::by_links(before, wanted);
+        for message in before.meetings() {
+            joined.join(message.to, message.about);
+        }
+        joined
+    }
+
+    /// By links alone.
+    pub fn by_links(before: Before, wanted: impl Fn(u8) -> bool) -> Joined {
         let mut joined = Joined([0; SEATS]);
         for seat in before.seated().filter(|&seat| wanted(seat)) {
             joined.0[usize::from(seat)] = 1 << seat;
         }
         for seat in before.seated() {
-            for &link in before.links(seat).iter().filter(|link| **link != NO_LINK) {
+            // Bytes that are not sound may have others.
+            let is_seat = |link: &&u8| usize::from(**link) < SEATS;
+            for &link in before.links(seat).iter().filter(is_seat) {
                 joined.join(seat, link);
             }
         }
-        joined.join_meetings(before);
         joined
-    }
-
-    /// The places of MEETs are the first, up to those of PROBEs.
-    fn join_meetings(&mut self, before: Before) {
-        let meetings = &before.record[PENDING_AT..][..PROBE / 8];
-        for (index, &byte) in meetings.iter().enumerate().filter(|(_, byte)| **byte != 0) {
-            for bit in (0..8).filter(|bit| byte >> bit & 1 == 1) {
-                let message = message_at(index * 8 + bit);
-                self.join(message.to, message.about);
-            }
-        }
     }
 
     fn join(&mut self, one: u8, other: u8) {
