@@ -148,8 +148,8 @@ uint8_t lots_find(const uint8_t *record, size_t length, uint8_t seat,
 /* Whether every component is the skip graph of its own lots: `yes` is 1 or 0. Seated
  * lots, while clearing staying ones, that are joined by links among them, directly or
  * through others, are a component. There may be several, after a crash, or while a
- * newcomer has no link yet or a merge is not delivered: a pending message is no link. While clearing, a staying
- * lot's link to a leaver makes it no.
+ * newcomer has no link yet or a merge is not delivered: a pending message is no link.
+ * While clearing, a staying lot's link to a leaver makes it no.
  * Refusals: 1 wrong size, 2 unsound. */
 uint8_t lots_check(const uint8_t *record, size_t length, uint8_t *yes);
 

@@ -1,10 +1,11 @@
 //! A record of lots in lent memory, whose calls are proved.
 //!
 //! The record holds 64 seats, a phase and the pending messages. Lots join, at once
-//! or reserved first, leave or crash, components are merged, messages between them are
-//! delivered in any order, and a scanned number is looked up from any seated lot. The work is done by the
-//! static library `lots_library`, written and proved in Rattle; this crate lends it
-//! bytes and gives its answers types. It allocates nothing.
+//! or reserved first, leave or crash, components that they form are merged, messages
+//! between them are delivered in any order, and a scanned number is looked up from any
+//! seated lot. The work is done by the static library `lots_library`, written and proved
+//! in Rattle; this crate lends it bytes and gives its answers types. It allocates
+//! nothing.
 //!
 //! ```
 //! use lots_record::{Found, Message, Record, Refusal};
