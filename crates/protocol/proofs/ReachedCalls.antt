@@ -197,7 +197,7 @@ module _ (comp : ℕ → ℕ) {N W : ℕ} {M : Meaning} (h : Sound N W M) (s c :
       old x t = at-other s _ comp x (other x t)
 
       new : comp′ s ≡ comp c
-      new = at-same s _ comp s refl ∙ rw (lt-ltb c N p)
+      new = at-same s _ comp s refl ∙ ap (λ (b : Bool). cond b (comp c) s) (lt-ltb c N p)
 
       with-contact : (x y : ℕ) → T (seated r x) → y ≡ s → comp′ x ≡ comp′ y → Pair G 0 x c
       with-contact x y t q e = zero-pair G t (ok .contact p) (sym (old x t) ∙ e ∙ ap comp′ q ∙ new)
