@@ -8,51 +8,74 @@
 
 static uint8_t record[LOTS_RECORD_SIZE];
 
-/* A message: kind, to, about, level, side. */
-typedef uint8_t message[5];
-
-/* Goes on to the smallest pending message that is not smaller than m: kind 0 if there is none. */
-static uint8_t next(message m)
+/* Prints the number and the term of a refusal. */
+static void print_refusal(const char *what, uint8_t refusal)
 {
-    return lots_next_message(record, sizeof record, m[0], m[1], m[2], m[3], m[4], &m[0], &m[1], &m[2], &m[3], &m[4]);
+    printf("%s: refused with %d, %s\n", what, refusal, lots_refusal_text(refusal));
+}
+
+static void print_lot(struct lots_lot lot)
+{
+    printf("seat %d: lot %" PRIu64 ", %s\n", lot.seat, lot.number, lots_state_text(lot.state));
+}
+
+/* Prints the seated lots. */
+static uint8_t print_seated(void)
+{
+    struct lots_lot lot;
+    uint8_t refusals = lots_next_lot(record, sizeof record, 0, &lot);
+
+    for (; lot.state != LOTS_STATE_FREE; refusals |= lots_next_lot(record, sizeof record, lot.seat + 1, &lot))
+        print_lot(lot);
+    return refusals;
+}
+
+/* Prints the reserved lots too. */
+static uint8_t print_taken(void)
+{
+    struct lots_lot lot;
+    uint8_t refusals = lots_next_taken(record, sizeof record, 0, &lot);
+
+    for (; lot.state != LOTS_STATE_FREE; refusals |= lots_next_taken(record, sizeof record, lot.seat + 1, &lot))
+        print_lot(lot);
+    return refusals;
+}
+
+/* Prints what is pending, ascending. */
+static uint8_t print_pending(void)
+{
+    struct lots_message m;
+    uint8_t refusals = lots_first_message(record, sizeof record, &m);
+
+    for (; m.kind != 0; refusals |= lots_following_message(record, sizeof record, &m))
+        printf("pending %s to %d about %d level %d side %d\n", lots_kind_text(m.kind), m.to, m.about, m.level, m.side);
+    return refusals;
 }
 
 /* Reserves two lots, confirms the first and gives the second back. */
 static uint8_t reserve(void)
 {
-    uint8_t state, vector, lots, phase;
-    uint64_t number;
+    uint8_t lots, phase;
     uint32_t pending;
     uint8_t refusals = lots_reserve(record, sizeof record, 1, 200, 0x80);
 
     refusals |= lots_reserve(record, sizeof record, 2, 300, 0x40);
-    refusals |= lots_read_lot(record, sizeof record, 1, &state, &number, &vector);
+    refusals |= print_taken();
     refusals |= lots_read_counts(record, sizeof record, &lots, &phase, &pending);
-    printf("lot %" PRIu64 " in state %d, seated %d, pending %" PRIu32 "\n", number, state, lots, pending);
+    printf("seated %d, phase %s, pending %" PRIu32 "\n", lots, lots_phase_text(phase), pending);
     refusals |= lots_confirm(record, sizeof record, 1, 0);
     refusals |= lots_give_back(record, sizeof record, 2);
-    printf("given back twice: refused with %d\n", lots_give_back(record, sizeof record, 2));
-    return refusals;
-}
-
-/* Prints what is pending, ascending: after a message come the numbers with its side one higher. */
-static uint8_t list(void)
-{
-    message m = {0};
-    uint8_t refusals = next(m);
-
-    for (; m[0] != 0; m[4]++, refusals |= next(m))
-        printf("pending %d %d %d %d %d\n", m[0], m[1], m[2], m[3], m[4]);
+    print_refusal("given back twice", lots_give_back(record, sizeof record, 2));
     return refusals;
 }
 
 /* Delivers the smallest pending message. */
-static uint8_t deliver(void)
+static uint8_t deliver_first(void)
 {
-    message m = {0};
-    uint8_t refusals = next(m);
+    struct lots_message m;
+    uint8_t refusals = lots_first_message(record, sizeof record, &m);
 
-    return refusals | lots_deliver(record, sizeof record, m[0], m[1], m[2], m[3], m[4]);
+    return refusals | lots_deliver_message(record, sizeof record, m);
 }
 
 /* Delivers all messages, a few each time the scale wakes: fewer than it may deliver are the last. */
@@ -77,14 +100,15 @@ int main(void)
 
     refusals |= lots_join(record, sizeof record, 0, 100, 0x00, LOTS_NO_SEAT);
     refusals |= reserve();
-    refusals |= deliver();
-    refusals |= list();
-    printf("scan refused with %d\n", lots_find(record, sizeof record, 0, 250, &holder, &hops));
+    refusals |= deliver_first();
+    refusals |= print_pending();
+    print_refusal("scan", lots_find(record, sizeof record, 0, 250, &holder, &hops));
     refusals |= deliver_all();
     refusals |= lots_check(record, sizeof record, &yes);
     refusals |= lots_find(record, sizeof record, 0, 250, &holder, &hops);
     printf("refused %d, skip graph %d, 250 belongs to the lot on seat %d, hops %" PRIu64 "\n", refusals, yes, holder, hops);
     refusals |= lots_leave(record, sizeof record, 1);
+    refusals |= print_seated();
     refusals |= lots_find(record, sizeof record, 0, 250, &holder, &hops);
     printf("refused %d, lot 200 is leaving, 250 belongs to the lot on seat %d, hops %" PRIu64 "\n", refusals, holder, hops);
     refusals |= lots_join(record, sizeof record, 2, 300, 0xC0, 1);
@@ -92,7 +116,7 @@ int main(void)
     refusals |= lots_crash(record, sizeof record, UINT64_C(1) << 1);
     refusals |= lots_find(record, sizeof record, 0, 350, &holder, &hops);
     printf("refused %d, lot 200 is gone, 350 belongs to the lot on seat %d, hops %" PRIu64 "\n", refusals, holder, hops);
-    printf("merged with itself: refused with %d\n", lots_merge(record, sizeof record, 0, 0));
+    print_refusal("merged with itself", lots_merge(record, sizeof record, 0, 0));
     refusals |= lots_merge(record, sizeof record, 0, 2);
     refusals |= deliver_all();
     refusals |= lots_find(record, sizeof record, 0, 350, &holder, &hops);

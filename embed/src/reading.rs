@@ -1,6 +1,8 @@
 //! What is read from a record.
 
+use crate::names::{Kind, Phase, State};
 use crate::NO_SEAT;
+use core::fmt;
 
 /// A lot, seated or reserved.
 #[derive(Clone, Copy, PartialEq, Eq, Hash, Debug)]
@@ -11,48 +13,6 @@ pub struct Lot {
     pub number: u64,
     /// Its membership vector; bit 0 is the highest.
     pub vector: u8,
-}
-
-/// The state of a lot. A free seat, document 01's state 0, has no lot to read.
-#[derive(Clone, Copy, PartialEq, Eq, Hash, Debug)]
-pub enum State {
-    /// It is seated and stays.
-    Staying = 1,
-    /// It is seated, marked as leaving, and goes on taking part.
-    Leaving = 2,
-    /// It is not seated: its seat and its number are kept for it, until it is
-    /// [confirmed](crate::Record::confirm) or [given back](crate::Record::give_back).
-    Reserved = 3,
-}
-
-impl State {
-    pub(crate) fn from_number(number: u8) -> State {
-        match number {
-            1 => State::Staying,
-            2 => State::Leaving,
-            3 => State::Reserved,
-            _ => panic!("the library answered with state {number}"),
-        }
-    }
-}
-
-/// The phase of a record.
-#[derive(Clone, Copy, PartialEq, Eq, Hash, Debug)]
-pub enum Phase {
-    /// Lots may be reserved, join and leave.
-    Open = 0,
-    /// The leaving lots are being taken out of the lists.
-    Clearing = 1,
-}
-
-impl Phase {
-    pub(crate) fn from_number(number: u8) -> Phase {
-        match number {
-            0 => Phase::Open,
-            1 => Phase::Clearing,
-            _ => panic!("the library answered with phase {number}"),
-        }
-    }
 }
 
 /// A record in three numbers.
@@ -67,12 +27,29 @@ pub struct Counts {
 }
 
 /// The answer of a search.
+///
+/// ```
+/// use lots_record::Found;
+///
+/// assert_eq!(Found { holder: Some(1), hops: 2 }.to_string(), "holder 1 hops 2");
+/// assert_eq!(Found { holder: None, hops: 0 }.to_string(), "none hops 0");
+/// ```
 #[derive(Clone, Copy, PartialEq, Eq, Hash, Debug)]
 pub struct Found {
     /// The seat of the staying lot that the scanned number belongs to, if any.
     pub holder: Option<u8>,
     /// The lots that were stepped onto, leaving ones too.
     pub hops: u64,
+}
+
+/// As the program `lots` prints it.
+impl fmt::Display for Found {
+    fn fmt(&self, f: &mut fmt::Formatter<'_>) -> fmt::Result {
+        match self.holder {
+            Some(seat) => write!(f, "holder {seat} hops {}", self.hops),
+            None => write!(f, "none hops {}", self.hops),
+        }
+    }
 }
 
 /// A message: five numbers. Any five may be given; only some are messages.
@@ -90,15 +67,16 @@ pub struct Found {
 /// They are ordered by the five numbers as they stand.
 ///
 /// ```
-/// use lots_record::Message;
+/// use lots_record::{Kind, Message};
 ///
-/// let meet = Message { kind: 1, to: 0, about: 1, level: 0, side: 0 };
-/// let probe = Message { kind: 2, ..meet };
+/// let meet = Message { kind: Kind::Meet.number(), to: 0, about: 1, level: 0, side: 0 };
+/// let probe = Message { kind: Kind::Probe.number(), ..meet };
 /// assert!(meet < probe);
+/// assert_eq!(meet.to_string(), "MEET to 0 about 1 level 0 side 0");
 /// ```
 #[derive(Clone, Copy, PartialEq, Eq, PartialOrd, Ord, Hash, Debug)]
 pub struct Message {
-    /// 1 to 7, as in the table.
+    /// 1 to 7, as in the table: the number of a [`Kind`].
     pub kind: u8,
     /// The seat of the lot that it is delivered to.
     pub to: u8,
@@ -106,17 +84,30 @@ pub struct Message {
     pub about: u8,
     /// The level of the links that it speaks of.
     pub level: u8,
-    /// 0 left, 1 right; 0 where the kind has no side.
+    /// 0 left, 1 right, the number of a [`Side`](crate::Side); 0 where the kind has no
+    /// side.
     pub side: u8,
+}
+
+/// The kind by its word, or by its number if it names none, and the four other numbers.
+impl fmt::Display for Message {
+    fn fmt(&self, f: &mut fmt::Formatter<'_>) -> fmt::Result {
+        let [kind, to, about, level, side] = self.numbers();
+        match Kind::from_number(kind) {
+            Some(kind) => write!(f, "{kind}")?,
+            None => write!(f, "kind {kind}")?,
+        }
+        write!(f, " to {to} about {about} level {level} side {side}")
+    }
 }
 
 impl Message {
     /// The message of these five numbers.
     ///
     /// ```
-    /// use lots_record::Message;
+    /// use lots_record::{Kind, Message, Side};
     ///
-    /// let pull = Message::new(3, 5, 1, 0, 1);
+    /// let pull = Message::new(Kind::Pull.number(), 5, 1, 0, Side::Right.number());
     /// assert_eq!(pull, Message { kind: 3, to: 5, about: 1, level: 0, side: 1 });
     /// ```
     pub const fn new(kind: u8, to: u8, about: u8, level: u8, side: u8) -> Message {
@@ -149,6 +140,18 @@ pub(crate) fn seat_or_none(answer: u8) -> Option<u8> {
     (answer != NO_SEAT).then_some(answer)
 }
 
+/// A state as the library answers it.
+pub(crate) fn state(answer: u8) -> State {
+    let state = State::from_number(answer);
+    state.unwrap_or_else(|| panic!("the library answered with state {answer}"))
+}
+
+/// A phase as the library answers it.
+pub(crate) fn phase(answer: u8) -> Phase {
+    let phase = Phase::from_number(answer);
+    phase.unwrap_or_else(|| panic!("the library answered with phase {answer}"))
+}
+
 #[cfg(test)]
 mod tests {
     use super::*;
@@ -156,12 +159,12 @@ mod tests {
     #[test]
     #[should_panic = "state 0"]
     fn a_free_seat_is_no_lot() {
-        State::from_number(0);
+        state(0);
     }
 
     #[test]
     #[should_panic = "phase 2"]
     fn there_are_two_phases() {
-        Phase::from_number(2);
+        phase(2);
     }
 }

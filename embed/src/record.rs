@@ -2,10 +2,11 @@
 
 mod crash;
 mod joining;
+mod lots;
 mod merge;
+mod messages;
 
-use crate::pending::{next_in, PendingMessages};
-use crate::reading::{seat_or_none, Counts, Found, Lot, Message, Phase, State};
+use crate::reading::{phase, seat_or_none, Counts, Found};
 use crate::refusal::Refusal;
 use crate::{sys, SIZE};
 use core::fmt;
@@ -118,67 +119,6 @@ impl<B: AsMut<[u8]>> Record<B> {
         let bytes = self.bytes.as_mut();
         // SAFETY: the slice is ours to write for its length.
         accepted(unsafe { sys::lots_leave(bytes.as_mut_ptr(), bytes.len(), seat) })
-    }
-
-    /// Takes a pending message away and does its rule: of the lots it changes at
-    /// most the links of `to`, and it may send further messages.
-    ///
-    /// Refusals: 1 wrong size, 2 unsound, 10 no such message.
-    ///
-    /// ```
-    /// use lots_record::{Message, Record, Refusal, RIGHT};
-    ///
-    /// let mut record = Record::new();
-    /// record.join(0, 100, 0, None)?;
-    /// record.join(1, 200, 128, Some(0))?;
-    /// let meet = Message::new(1, 0, 1, 0, 0);
-    /// record.deliver(meet)?;
-    /// assert_eq!(record.link(0, 0, RIGHT)?, Some(1));
-    /// assert_eq!(record.deliver(meet), Err(Refusal::NoSuchMessage));
-    /// # Ok::<(), Refusal>(())
-    /// ```
-    #[doc(alias = "lots_deliver")]
-    pub fn deliver(&mut self, message: Message) -> Result<(), Refusal> {
-        let bytes = self.bytes.as_mut();
-        let (record, length) = (bytes.as_mut_ptr(), bytes.len());
-        let [kind, to, about, level, side] = message.numbers();
-        // SAFETY: the slice is ours to write for its length.
-        accepted(unsafe { sys::lots_deliver(record, length, kind, to, about, level, side) })
-    }
-
-    /// Delivers the smallest pending message, by its five numbers in order, again
-    /// and again, those just sent included, until none is pending or `limit` of
-    /// them are delivered; answers how many.
-    ///
-    /// They are fewer than `limit` only if none is left. A limit of 0 changes
-    /// nothing, and nothing pending is no reason to refuse.
-    ///
-    /// Refusals: 1 wrong size, 2 unsound.
-    ///
-    /// ```
-    /// use lots_record::{Record, RIGHT};
-    ///
-    /// let mut record = Record::new();
-    /// record.join(0, 100, 0, None)?;
-    /// record.join(1, 200, 128, Some(0))?;
-    /// assert_eq!(record.bundle(1)?, 1);
-    /// assert_eq!(record.link(0, 0, RIGHT)?, Some(1));
-    ///
-    /// // Lot 100 has sent lot 200 a MEET and a PROBE, and gets both from it.
-    /// assert_eq!(record.bundle(50)?, 4);
-    /// assert_eq!(record.counts()?.pending, 0);
-    /// assert!(record.check()?);
-    /// assert_eq!(record.bundle(50)?, 0);
-    /// # Ok::<(), lots_record::Refusal>(())
-    /// ```
-    #[doc(alias = "lots_bundle")]
-    pub fn bundle(&mut self, limit: u16) -> Result<u16, Refusal> {
-        let bytes = self.bytes.as_mut();
-        let (record, length) = (bytes.as_mut_ptr(), bytes.len());
-        let mut delivered = 0;
-        // SAFETY: the slice is ours to write for its length; the output is local.
-        accepted(unsafe { sys::lots_bundle(record, length, limit, &mut delivered) })?;
-        Ok(delivered)
     }
 
     /// Goes from open to clearing if a lot is leaving, and from clearing to open,
@@ -302,134 +242,6 @@ impl<B: AsRef<[u8]>> Record<B> {
         Ok(yes == 1)
     }
 
-    /// Reads the lot on a seat, seated or reserved.
-    ///
-    /// Refusals: 1 wrong size, 2 unsound, 3 no such seat, 8 empty seat.
-    ///
-    /// ```
-    /// use lots_record::{Lot, Record, Refusal, State};
-    ///
-    /// let mut record = Record::new();
-    /// record.join(63, 100, 64, None)?;
-    /// assert_eq!(record.lot(63)?, Lot { state: State::Staying, number: 100, vector: 64 });
-    /// assert_eq!(record.lot(0), Err(Refusal::EmptySeat));
-    /// # Ok::<(), Refusal>(())
-    /// ```
-    #[doc(alias = "lots_read_lot")]
-    pub fn lot(&self, seat: u8) -> Result<Lot, Refusal> {
-        let bytes = self.as_bytes();
-        let (record, length) = (bytes.as_ptr(), bytes.len());
-        let (mut state, mut number, mut vector) = (0, 0, 0);
-        // SAFETY: the slice is ours to read for its length; the outputs are local.
-        accepted(unsafe {
-            sys::lots_read_lot(record, length, seat, &mut state, &mut number, &mut vector)
-        })?;
-        let state = State::from_number(state);
-        Ok(Lot {
-            state,
-            number,
-            vector,
-        })
-    }
-
-    /// Reads a link of the seated lot on a seat: the neighbour's seat, or none. The
-    /// side is [`LEFT`](crate::LEFT) or [`RIGHT`](crate::RIGHT).
-    ///
-    /// Refusals: 1 wrong size, 2 unsound, 3 no such seat, 12 no such level (or
-    /// side), 8 empty seat.
-    ///
-    /// ```
-    /// use lots_record::{Message, Record, Refusal, LEFT, RIGHT};
-    ///
-    /// let mut record = Record::new();
-    /// record.join(0, 100, 0, None)?;
-    /// record.join(1, 50, 128, Some(0))?;
-    /// record.deliver(Message::new(1, 0, 1, 0, 0))?;
-    /// assert_eq!(record.link(0, 0, LEFT)?, Some(1));
-    /// assert_eq!(record.link(0, 0, RIGHT)?, None);
-    /// assert_eq!(record.link(0, 9, LEFT), Err(Refusal::NoSuchLevel));
-    /// # Ok::<(), Refusal>(())
-    /// ```
-    #[doc(alias = "lots_read_link")]
-    pub fn link(&self, seat: u8, level: u8, side: u8) -> Result<Option<u8>, Refusal> {
-        let bytes = self.as_bytes();
-        let (record, length) = (bytes.as_ptr(), bytes.len());
-        let mut link = 0;
-        // SAFETY: the slice is ours to read for its length; the output is local.
-        accepted(unsafe { sys::lots_read_link(record, length, seat, level, side, &mut link) })?;
-        Ok(seat_or_none(link))
-    }
-
-    /// Whether five numbers are a pending message.
-    ///
-    /// Refusals: 1 wrong size, 2 unsound.
-    ///
-    /// ```
-    /// use lots_record::{Message, Record};
-    ///
-    /// let mut record = Record::new();
-    /// record.join(0, 100, 0, None)?;
-    /// record.join(1, 200, 128, Some(0))?;
-    /// assert!(record.is_pending(Message::new(1, 0, 1, 0, 0))?);
-    /// assert!(!record.is_pending(Message::new(99, 0, 1, 0, 0))?);
-    /// # Ok::<(), lots_record::Refusal>(())
-    /// ```
-    #[doc(alias = "lots_read_message")]
-    pub fn is_pending(&self, message: Message) -> Result<bool, Refusal> {
-        let bytes = self.as_bytes();
-        let (record, length) = (bytes.as_ptr(), bytes.len());
-        let [kind, to, about, level, side] = message.numbers();
-        let mut pending = 0;
-        // SAFETY: the slice is ours to read for its length; the output is local.
-        accepted(unsafe {
-            sys::lots_read_message(record, length, kind, to, about, level, side, &mut pending)
-        })?;
-        Ok(pending == 1)
-    }
-
-    /// Reads the smallest pending message that is not smaller than `from`, by
-    /// their five numbers in order; any five may be given.
-    ///
-    /// Refusals: 1 wrong size, 2 unsound.
-    ///
-    /// ```
-    /// use lots_record::{Message, Record};
-    ///
-    /// let mut record = Record::new();
-    /// record.join(0, 100, 0, None)?;
-    /// record.join(1, 200, 128, Some(0))?;
-    /// let meet = Message::new(1, 0, 1, 0, 0);
-    /// assert_eq!(record.next_message(Message::FIRST)?, Some(meet));
-    /// assert_eq!(record.next_message(meet)?, Some(meet));
-    /// assert_eq!(record.next_message(Message { side: 1, ..meet })?, None);
-    /// # Ok::<(), lots_record::Refusal>(())
-    /// ```
-    #[doc(alias = "lots_next_message")]
-    pub fn next_message(&self, from: Message) -> Result<Option<Message>, Refusal> {
-        next_in(self.as_bytes(), from)
-    }
-
-    /// The pending messages, ascending by their five numbers.
-    ///
-    /// Refusals: 1 wrong size, 2 unsound. The bytes are borrowed meanwhile, so no
-    /// refusal can come later.
-    ///
-    /// ```
-    /// use lots_record::{Message, Record};
-    ///
-    /// let mut record = Record::new();
-    /// record.join(0, 100, 0, None)?;
-    /// record.join(1, 200, 128, Some(0))?;
-    /// record.deliver(Message::new(1, 0, 1, 0, 0))?;
-    /// // Lot 100 has met lot 200: it answers with a MEET and a PROBE.
-    /// let pending: Vec<Message> = record.pending_messages()?.collect();
-    /// assert_eq!(pending, [Message::new(1, 1, 0, 0, 0), Message::new(2, 1, 0, 0, 0)]);
-    /// # Ok::<(), lots_record::Refusal>(())
-    /// ```
-    pub fn pending_messages(&self) -> Result<PendingMessages<'_>, Refusal> {
-        PendingMessages::over(self.as_bytes())
-    }
-
     /// Reads the count of seated lots, which leaves reserved ones out, the phase and
     /// the count of pending messages.
     ///
@@ -448,12 +260,12 @@ impl<B: AsRef<[u8]>> Record<B> {
     pub fn counts(&self) -> Result<Counts, Refusal> {
         let bytes = self.as_bytes();
         let (record, length) = (bytes.as_ptr(), bytes.len());
-        let (mut lots, mut phase, mut pending) = (0, 0, 0);
+        let (mut lots, mut number, mut pending) = (0, 0, 0);
         // SAFETY: the slice is ours to read for its length; the outputs are local.
         accepted(unsafe {
-            sys::lots_read_counts(record, length, &mut lots, &mut phase, &mut pending)
+            sys::lots_read_counts(record, length, &mut lots, &mut number, &mut pending)
         })?;
-        let phase = Phase::from_number(phase);
+        let phase = phase(number);
         Ok(Counts {
             lots,
             phase,

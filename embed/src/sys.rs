@@ -179,6 +179,22 @@ mod tests {
         outputs_of_a_seat_are_0(Record::new().as_bytes(), 8);
     }
 
+    /// A side above 1 is no level, which the safe calls cannot ask for: after 3, before 8.
+    #[test]
+    fn a_side_above_1_is_refused() {
+        let mut record = Record::new();
+        record.join(0, 100, 0, None).unwrap();
+        let (start, length) = (record.as_bytes().as_ptr(), SIZE);
+        for side in [2, 255] {
+            for (seat, level, refusal) in [(0, 0, 12), (0, 8, 12), (9, 0, 12), (64, 0, 3)] {
+                let mut link = 9;
+                // SAFETY: the bytes are valid for their length, and the output is local.
+                let answer = unsafe { lots_read_link(start, length, seat, level, side, &mut link) };
+                assert_eq!((answer, link), (refusal, 0));
+            }
+        }
+    }
+
     #[test]
     fn outputs_of_a_scan_that_waits_are_0() {
         let mut record = Record::new();

@@ -6,6 +6,7 @@ use mathlib.Core.Bool.{Bool, true, false}
 use native.Mathlib.Omega.{arith}
 use native.Mathlib.Nat.{add-zero, add-suc, add-assoc}
 use native.Mathlib.Numerals.{add-one}
+use lib.Dec.{eqb}
 use Rattle.base.specs.Loops.{oneIf, count}
 use Rattle.base.proofs.Cases.{eq-or-ne}
 
@@ -16,6 +17,12 @@ oneIf-le false = omega arith
 pub oneIf-zero : (b : Bool) → (oneIf b ≡ 0) ↔ (b ≡ false)
 oneIf-zero true = (λ e. absurd (omega arith), λ e. cc)
 oneIf-zero false = (λ e. refl, λ e. refl)
+
+-- a number below 2 is 1 exactly if the test for 1 passes
+pub one-if : (r : ℕ) → r < 2 → r ≡ oneIf (eqb r 1)
+one-if zero h = refl
+one-if (suc zero) h = refl
+one-if (suc (suc r)) h = absurd (omega arith)
 
 pub count-none : (p : ℕ → Bool) → count 0 p ≡ 0
 unfolding count

@@ -1,4 +1,5 @@
 -- Document 01's proved cases, and the examples.
+pub mod Draining
 pub mod View
 pub mod Seen
 pub mod Answers

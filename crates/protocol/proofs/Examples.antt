@@ -1,12 +1,12 @@
 -- The definitions evaluated before anything was proved of them: document 01's cases (i) and (j), refusals in the table's order, and at
--- three seats and width 2 the settled record Q, drained, with its leave and turns (case (k)). Assumes nothing.
+-- three seats and width 2 the settled record Q. What takes longer to evaluate, Q drained and its leave and turns (case (k)), stands in
+-- crates/cases/proofs/Draining.antt. Assumes nothing.
 use Prim.Native.Nat.{ℕ, zero, suc}
 use mathlib.Core.Path.{_≡_, refl}
 use mathlib.Core.Option.{Option, none, some}
 use mathlib.Core.Bool.{Bool, true, false, _&&_}
 use mathlib.Core.List.{List, [], _∷_}
 use lib.Dec.{eqb}
-use lib.ListN.{length}
 use Rattle.graph.specs.Side.{Side, left, right, onSide, sideOf}
 use Rattle.graph.specs.Vector.{bit, equalBits, shared}
 use Rattle.graph.specs.Graph.{inList, beside as besideIn, nearer, nearest, graph}
@@ -17,13 +17,10 @@ use Rattle.protocol.specs.Rules.{Entry, Effect, staying, keep, set, toLi
 use Rattle.protocol.specs.State.{Meaning, member, members, nobody, opened, isPending}
 use Rattle.protocol.specs.Calls.{Call, join, leave, deliver, turn, rows, refusal, seatsAfter, sends, takes, linksAfter}
 use Rattle.protocol.specs.Refusals.{first}
-use Rattle.protocol.specs.Page.{each, at, isTaken, pendingAfter}
-use Rattle.protocol.specs.pages.Turn.{afterTurn, farewell, farewells, turnSends, turnLinks}
+use Rattle.protocol.specs.Page.{at, isTaken, pendingAfter}
 use Rattle.protocol.specs.pages.Deliver.{rule, deliverySends, applied, deliveryLinks}
-use Rattle.protocol.specs.Freeing.{unlinked}
 use Rattle.protocol.specs.Calls.{accept, unlessRefused, call}
-use Rattle.protocol.specs.Order.{orNext, before, smaller, smallestOf, smallestFrom}
-use Rattle.protocol.specs.Bundle.{onward, bundleOf, leftBy}
+use Rattle.protocol.specs.Bundle.{bundleOf, leftBy}
 use Rattle.protocol.specs.Run.{stepsFrom, Logged, logOf, step, steps, meaningRun}
 
 -- cases (i) and (j): lots 100, 200, 300 on seats 0, 1, 2; lot 100 has no left link, and at level 0 the right link o
@@ -110,40 +107,10 @@ joined-Q = meaningRun 3 2 (join 0 100 0 255 ∷ join 1 200 2 0 ∷ join 2 300 1 
 unfoldable pub settled-Q : Meaning
 settled-Q = record { seats = joined-Q .seats; link = graph 3 2 (members (λ x. 0) (joined-Q .seats)); pending = λ m. false }
 
--- a bundle of 5 delivers the smallest first, then what that sends; one of 24 delivers all 23 and stops, since nothing is left
-five-Q : bundled 5 joined-Q ≡ name 1 0 1 0 0 ∷ name 1 0 2 0 0 ∷ name 1 1 0 0 0 ∷ name 1 0 1 0 0 ∷ name 1 1 2 0 0 ∷ []
-unfolding joined-Q drained bundled bundleOf leftBy onward smallestFrom smallestOf smaller before orNext meaningRun stepsFrom step steps
-    opened nobody call unlessRefused accept refusal rows first any isPending seatsAfter at sends takes isTaken pendingAfter
-    deliverySends linksAfter deliveryLinks applied rule effect setting meeting probing pulling parting passing seeking toLink onSide
-    sideOf bit equalBits shared named ifZero ifBit sameMsg among somePending messageAt split pairAt pullAt sideAt
-five-Q = refl
-
-none-Q : bundled 0 joined-Q ≡ []
-unfolding joined-Q drained bundled bundleOf leftBy onward smallestFrom smallestOf smaller before orNext meaningRun stepsFrom step steps
-    opened nobody call unlessRefused accept refusal rows first any isPending seatsAfter at sends takes isTaken pendingAfter
-    deliverySends linksAfter deliveryLinks applied rule effect setting meeting probing pulling parting passing seeking toLink onSide
-    sideOf bit equalBits shared named ifZero ifBit sameMsg among somePending messageAt split pairAt pullAt sideAt
-none-Q = refl
-
-all-Q : length (bundled 24 joined-Q) ≡ 23
-unfolding joined-Q drained bundled bundleOf leftBy onward smallestFrom smallestOf smaller before orNext meaningRun stepsFrom step steps
-    opened nobody call unlessRefused accept refusal rows first any isPending seatsAfter at sends takes isTaken pendingAfter
-    deliverySends linksAfter deliveryLinks applied rule effect setting meeting probing pulling parting passing seeking toLink onSide
-    sideOf bit equalBits shared named ifZero ifBit sameMsg among somePending messageAt split pairAt pullAt sideAt
-all-Q = refl
-
 unfoldable pub links : Meaning → List (Option ℕ)
 links M =
     M .link 0 0 right ∷ M .link 1 0 left ∷ M .link 1 0 right ∷ M .link 2 0 left
     ∷ M .link 0 1 right ∷ M .link 2 1 left ∷ M .link 1 1 left ∷ M .link 1 1 right ∷ M .link 0 2 right ∷ []
-
--- drained, its links are these
-Q-links : links (drained 24 joined-Q) ≡ some 1 ∷ some 0 ∷ some 2 ∷ some 1 ∷ some 2 ∷ some 0 ∷ none ∷ none ∷ none ∷ []
-unfolding links joined-Q drained bundled bundleOf leftBy onward smallestFrom smallestOf smaller before orNext meaningRun stepsFrom step
-    steps opened nobody call unlessRefused accept refusal rows first any isPending seatsAfter at sends takes isTaken pendingAfter
-    deliverySends linksAfter deliveryLinks applied rule effect setting meeting probing pulling parting passing seeking toLink onSide
-    sideOf bit equalBits shared named ifZero ifBit sameMsg among somePending messageAt split pairAt pullAt sideAt
-Q-links = refl
 
 settled-links : links settled-Q ≡ some 1 ∷ some 0 ∷ some 2 ∷ some 1 ∷ some 2 ∷ some 0 ∷ none ∷ none ∷ none ∷ []
 unfolding links settled-Q joined-Q graph nearest nearer besideIn inList member meaningRun stepsFrom step steps opened nobody call
@@ -151,17 +118,6 @@ unfolding links settled-Q joined-Q graph nearest nearer besideIn inList member m
     shared
 settled-links = refl
 
--- (k) leave 1, turn, deliver all, turn: 100 and 300 are linked at levels 0 and 1, and seat 1 is as opened
+-- what a call leaves
 unfoldable pub after : Meaning → Call → Meaning
 after M c = call 3 2 M c .after
-
-left-Q : Meaning
-left-Q = after (drained 9 (after (after settled-Q (leave 1)) turn)) turn
-
-case-k : links left-Q ≡ some 2 ∷ none ∷ none ∷ some 0 ∷ some 2 ∷ some 0 ∷ none ∷ none ∷ none ∷ []
-unfolding links left-Q after settled-Q joined-Q drained bundled bundleOf leftBy onward smallestFrom smallestOf smaller before orNext
-    afterTurn each farewell farewells turnSends unlinked turnLinks meaningRun stepsFrom step steps opened nobody call unlessRefused
-    accept refusal rows first any isPending seatsAfter at sends takes isTaken pendingAfter deliverySends linksAfter deliveryLinks
-    applied rule effect setting meeting probing pulling parting passing seeking toLink onSide sideOf bit equalBits shared named ifZero
-    ifBit sameMsg among somePending messageAt split pairAt pullAt sideAt graph nearest nearer besideIn inList member
-case-k = refl

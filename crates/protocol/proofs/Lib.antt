@@ -21,6 +21,7 @@ pub mod Clearing
 pub mod SameLots
 pub mod ClearingEffect
 pub mod Measure
+pub mod Most
 pub mod Ends
 pub mod ClearingEnds
 pub mod Turn

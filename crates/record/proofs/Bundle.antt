@@ -19,7 +19,7 @@ use Rattle.protocol.specs.Sound.{Sound}
 use Rattle.protocol.specs.Run.{accepted, AllAccepted}
 use Rattle.protocol.specs.Bundle.{bundleOf, leftBy}
 use Rattle.protocol.proofs.Message.{named-name}
-use Rattle.protocol.proofs.Numbering.{pending-none}
+use Rattle.protocol.proofs.Numbering.{none-pending, pending-none}
 use Rattle.protocol.proofs.Smallest.{smallest-all, none-all}
 use Rattle.protocol.proofs.KeepSound.{call-sound}
 use Rattle.protocol.proofs.Measure as measure
@@ -34,7 +34,7 @@ use Rattle.record.proofs.Places.{length-bytesOf}
 use Rattle.record.proofs.Round.{bytes-meaning, bytes-bytes}
 use Rattle.record.proofs.Sound.{sound-is, bytes-sound}
 use Rattle.record.proofs.Refused.{Passed, record-passed}
-use Rattle.record.proofs.Reading.{pendingCount-zero, record-accepted, counts-read}
+use Rattle.record.proofs.Reading.{pendingCount, pendingCount-zero, record-accepted, counts-read}
 use Rattle.record.proofs.Call.{call-bytes}
 
 -- bytes that are a record which is not refused
@@ -72,11 +72,16 @@ module _ (l : List ℕ) (f : Fine l) where
       let p : meaning l .pending m ≡ true = smallest-all seats width (meaning l .pending) m .0 e .passes in
       ap (λ (o : Outcome (List ℕ)). o .refused) (call-here (deliver (nameOf m))) ∙ rw (named-name m, p)
 
+  counted : readCounts l .pending ≡ pendingCount (meaning l)
+  counted = ap (λ (a : CountAnswer). a .pending) (counts-read l (is-passed .sized) (is-passed .fine))
+
   -- nothing is pending where there is no smallest message
   none-count : smallest seats width (meaning l .pending) ≡ none → readCounts l .pending ≡ 0
-  none-count e =
-      ap (λ (a : CountAnswer). a .pending) (counts-read l (is-passed .sized) (is-passed .fine))
-      ∙ pendingCount-zero (meaning l) .1 (pending-none seats width (meaning l .pending) (none-all seats width (meaning l .pending) .0 e))
+  none-count e = counted ∙ pendingCount-zero (meaning l) .1 (pending-none seats width (meaning l .pending) (none-all seats width (meaning l .pending) .0 e))
+
+  -- and there is none where nothing is
+  count-none : readCounts l .pending ≡ 0 → smallest seats width (meaning l .pending) ≡ none
+  count-none e = none-all seats width (meaning l .pending) .1 (none-pending seats width (meaning l .pending) (pendingCount-zero (meaning l) .0 (sym counted ∙ e)))
 
 -- no list of deliveries has more accepted ones than the bound, on any such record
 accepted-same : (M : Meaning) → Sound seats width M → (ns : List Name)
@@ -120,6 +125,15 @@ pub bundle-done : (l : List ℕ) (n : ℕ) → recordRefusal l ≡ 0 → smalles
     → bundled l n ≡ record { refused = 0; delivered = 0; after = l }
 unfolding bundled leftBy
 bundle-done l n e q = rw (bundle-fine l n e, theory.bundle-none called seats width pendingIn n l q, e)
+
+-- with nothing pending it does nothing
+pub bundle-none : (l : List ℕ) → Fine l → (n : ℕ) → readCounts l .pending ≡ 0 → bundled l n ≡ record { refused = 0; delivered = 0; after = l }
+bundle-none l f n e = bundle-done l n (f .passed) (count-none l f e)
+
+-- the record after it is fine
+pub bundle-keeps : (l : List ℕ) → Fine l → (n : ℕ) → Fine (bundled l n .after)
+unfolding bundled
+bundle-keeps l f n = left-fine l (bundleIn l n) f
 
 pub bundle-step : (l : List ℕ) → Fine l → (n : ℕ) (m : Msg) → smallest seats width (meaning l .pending) ≡ some m
     → let y = bundled (called l (deliver (nameOf m)) .after) n in

@@ -1,13 +1,13 @@
 -- What the readings of sound bytes give, in terms of their meaning: refusals 1 and 2 do not apply, a lot, a link, a message and the
--- counts; and nothing is pending exactly if the pending count is 0. Assumes nothing.
+-- counts; nothing is pending exactly if the pending count is 0; and counts that are read are of sound bytes. Assumes nothing.
 use Prim.Native.Nat.{ℕ, _<_}
 use mathlib.Core.Path.{_≡_, refl, sym, ap, _∙_}
 use mathlib.Core.Logic.{_↔_}
-use mathlib.Core.Bool.{true, false}
+use mathlib.Core.Bool.{Bool, true, false, cond}
 use mathlib.Core.List.{List, [], _∷_}
-use lib.Dec.{T}
+use lib.Dec.{T, eqb}
 use lib.ListN.{length}
-use borrow.Author.Tests.{lt-ltb}
+use borrow.Author.Tests.{lt-ltb, eqb-true}
 use Rattle.base.specs.Loops.{oneIf, count as howMany}
 use Rattle.memory.specs.Bits.{bitSet}
 use Rattle.base.proofs.Count.{count-same, count-zero}
@@ -24,10 +24,10 @@ use Rattle.record.specs.Layout.{seats, levels, messages, pendingFrom, si
 use Rattle.record.specs.Meaning.{meaning, seatsIn, phaseByte, stateByte, linkByte}
 use Rattle.record.specs.Sound.{sound}
 use Rattle.record.specs.Reading.{seatRow, emptyRow, freeRow, levelRow}
-use Rattle.record.specs.Reading.{lotRefusal, linkRefusal, recordRefusal, readLot, readLink, readMessage, readCounts}
+use Rattle.record.specs.Reading.{lotRefusal, linkRefusal, recordRefusal, readLot, readLink, readMessage, CountAnswer, readCounts}
 use Rattle.record.proofs.Places.{place-within, exists-at, side-sideNumber}
 use Rattle.record.proofs.Form.{meaning-bit}
-use Rattle.record.proofs.Refused.{Passed, record-goes}
+use Rattle.record.proofs.Refused.{Passed, record-goes, record-passed}
 
 -- how many messages are pending
 abbrev pub pendingCount : Meaning → ℕ
@@ -123,3 +123,12 @@ module _ (l : List ℕ) (e : length l ≡ size) (s : sound l ≡ true) where
   }
   unfolding readCounts meaning
   counts-read = rw (record-accepted, count-bits l)
+
+-- counts that are not refused: the record is not
+not-refused : (n : ℕ) (a b : CountAnswer) → b .refused ≡ n → (t : Bool) → eqb n 0 ≡ t → cond t a b .refused ≡ 0 → n ≡ 0
+not-refused n a b e true f z = eqb-true n 0 f
+not-refused n a b e false f z = sym e ∙ z
+
+pub counts-passed : (l : List ℕ) → readCounts l .refused ≡ 0 → Passed l
+unfolding readCounts
+counts-passed l e = record-passed l refl (not-refused (recordRefusal l) _ _ refl (eqb (recordRefusal l) 0) refl e)

@@ -7,7 +7,6 @@ use mathlib.Core.Bool.{Bool, true, false, not, cond}
 use mathlib.Core.List.{List}
 use native.Mathlib.Omega.{arith}
 use lib.Dec.{T, eqb}
-use borrow.Author.Tests.{eqb-true}
 use Rattle.base.proofs.Cases.{lt-or-ge}
 use Rattle.memory.specs.Bytes.{AreBytes}
 use Rattle.graph.specs.Vector.{width}
@@ -21,10 +20,10 @@ use Rattle.protocol.proofs.SoundFacts.{is-free, seated-taken}
 use Rattle.protocol.proofs.Reached.{member-seated}
 use Rattle.record.specs.Layout.{seats}
 use Rattle.record.specs.Meaning.{seatsIn, meaning, bytesOf, phaseOf, stateOf, stateByte}
-use Rattle.record.specs.Reading.{LotAnswer, readLot, CountAnswer, recordRefusal, readCounts}
+use Rattle.record.specs.Reading.{LotAnswer, readLot, CountAnswer}
 use Rattle.record.proofs.Form.{no-seat-state}
-use Rattle.record.proofs.Refused.{Passed, record-passed}
-use Rattle.record.proofs.Reading.{counts-read}
+use Rattle.record.proofs.Refused.{Passed}
+use Rattle.record.proofs.Reading.{counts-read, counts-passed}
 use Rattle.record.proofs.Round.{bytes-meaning}
 use Rattle.record.proofs.Sound.{sound-is}
 use Rattle.record.proofs.Values.{phaseOf-phaseByte, stateOf-stateByte}
@@ -32,15 +31,6 @@ use Rattle.search.proofs.Agree.{Agree}
 use Rattle.runs.specs.Run.{meant, roster, lotOf, Demand3}
 use Rattle.runs.proofs.Readings.{read-lot}
 use Rattle.runs.proofs.History.{roster-below}
-
--- counts that are not refused: the record is not
-not-refused : (n : ℕ) (a b : CountAnswer) → b .refused ≡ n → (t : Bool) → eqb n 0 ≡ t → cond t a b .refused ≡ 0 → n ≡ 0
-not-refused n a b e true f z = eqb-true n 0 f
-not-refused n a b e false f z = sym e ∙ z
-
-counts-passed : (l : List ℕ) → readCounts l .refused ≡ 0 → Passed l
-unfolding readCounts
-counts-passed l e = record-passed l refl (not-refused (recordRefusal l) _ _ refl (eqb (recordRefusal l) 0) refl e)
 
 -- what reading a seat answers says its state, and of a lot or a reservation number and vector
 module _ (a b : Seats) (x : ℕ) where

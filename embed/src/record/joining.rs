@@ -16,12 +16,12 @@ impl<B: AsMut<[u8]>> Record<B> {
     /// 7 clearing, 4 seat taken, 5 number in use, 6 no contact.
     ///
     /// ```
-    /// use lots_record::{Message, Record, Refusal};
+    /// use lots_record::{Kind, Message, Record, Refusal};
     ///
     /// let mut record = Record::new();
     /// record.join(0, 100, 0, None)?;
     /// record.join(1, 200, 128, Some(0))?;
-    /// assert!(record.is_pending(Message::new(1, 0, 1, 0, 0))?);
+    /// assert!(record.is_pending(Message::new(Kind::Meet.number(), 0, 1, 0, 0))?);
     /// assert_eq!(record.join(1, 300, 64, Some(0)), Err(Refusal::SeatTaken));
     /// # Ok::<(), Refusal>(())
     /// ```
@@ -81,7 +81,7 @@ impl<B: AsMut<[u8]>> Record<B> {
     /// 7 clearing, 14 not reserved, 6 no contact (also its own seat).
     ///
     /// ```
-    /// use lots_record::{Message, Record, Refusal, State};
+    /// use lots_record::{Kind, Message, Record, Refusal, State};
     ///
     /// let mut record = Record::new();
     /// record.reserve(0, 100, 0)?;
@@ -89,7 +89,7 @@ impl<B: AsMut<[u8]>> Record<B> {
     /// record.confirm(0, None)?;
     /// record.confirm(1, Some(0))?;
     /// assert_eq!(record.lot(1)?.state, State::Staying);
-    /// assert!(record.is_pending(Message::new(1, 0, 1, 0, 0))?);
+    /// assert!(record.is_pending(Message::new(Kind::Meet.number(), 0, 1, 0, 0))?);
     /// assert_eq!(record.confirm(1, Some(0)), Err(Refusal::NotReserved));
     /// # Ok::<(), Refusal>(())
     /// ```

@@ -103,16 +103,39 @@ fn the_smallest_and_not_the_first_sent() {
 }
 
 /// 65,821 deliveries, more than the largest bundle makes.
-#[test]
-fn more_than_one_bundle() {
+fn long() -> Owned {
     let mut record = Record::new();
     record.join(0, 64, 0, None).unwrap();
     for seat in 1..64u8 {
         let vector = if seat <= 8 { 128 >> (seat - 1) } else { 0 };
         record.join(seat, seat.into(), vector, Some(0)).unwrap();
     }
+    record
+}
+
+#[test]
+fn more_than_one_bundle() {
+    let mut record = long();
     assert_eq!(record.bundle(u16::MAX), Ok(u16::MAX));
     assert!(record.counts().unwrap().pending > 0);
     assert_eq!(record.bundle(u16::MAX), Ok(286));
     assert_eq!(record.check(), Ok(true));
+}
+
+/// The same bytes as by bundles of one each, and their number.
+#[test]
+fn all_at_once() {
+    let mut clearing = q();
+    clearing.leave(1).unwrap();
+    clearing.turn().unwrap();
+    for mut record in [Record::new(), three_lots(), q(), clearing, full(), long()] {
+        let (mut all, mut singly) = (0, record.clone());
+        while singly.bundle(1) == Ok(1) {
+            all += 1;
+        }
+        assert_eq!(record.deliver_all(), Ok(all));
+        assert_eq!(record, singly);
+        assert_eq!(record.counts().unwrap().pending, 0);
+        assert_eq!(record.deliver_all(), Ok(0));
+    }
 }

@@ -2,7 +2,7 @@
 //! and the scans of document 02 that wait and that go past leaving lots.
 
 use crate::common::{deliver_all, q, refused, three_lots, Owned};
-use lots_record::{Counts, Found, Lot, Phase, Record, State, LEFT, RIGHT};
+use lots_record::{Counts, Found, Lot, Phase, Record, Side, State};
 
 fn find(record: &Owned, start: u8, number: u64) -> (Option<u8>, u64) {
     let Found { holder, hops } = record.find(start, number).unwrap();
@@ -32,7 +32,12 @@ fn q_reads_as_the_example_prints_it() {
         assert_eq!(q.lot(seat), Ok(lot));
     }
     // 100 200 300 at level 0, 100 300 at level 1, and no list of two above.
-    let links = |seat, level| (q.link(seat, level, LEFT), q.link(seat, level, RIGHT));
+    let links = |seat, level| {
+        (
+            q.link(seat, level, Side::Left),
+            q.link(seat, level, Side::Right),
+        )
+    };
     assert_eq!(links(0, 0), (Ok(None), Ok(Some(1))));
     assert_eq!(links(1, 0), (Ok(Some(0)), Ok(Some(2))));
     assert_eq!(links(2, 0), (Ok(Some(1)), Ok(None)));
@@ -100,10 +105,10 @@ fn case_k_the_middle_lot_leaves() {
     };
     assert_eq!(record.counts(), Ok(counts));
     for level in [0, 1] {
-        assert_eq!(record.link(0, level, LEFT), Ok(None));
-        assert_eq!(record.link(0, level, RIGHT), Ok(Some(2)));
-        assert_eq!(record.link(2, level, LEFT), Ok(Some(0)));
-        assert_eq!(record.link(2, level, RIGHT), Ok(None));
+        assert_eq!(record.link(0, level, Side::Left), Ok(None));
+        assert_eq!(record.link(0, level, Side::Right), Ok(Some(2)));
+        assert_eq!(record.link(2, level, Side::Left), Ok(Some(0)));
+        assert_eq!(record.link(2, level, Side::Right), Ok(None));
     }
     // The freed seat is usable again.
     record.join(1, 200, 128, Some(2)).unwrap();

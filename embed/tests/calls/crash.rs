@@ -1,7 +1,7 @@
 //! A scale dies: document 02, #106.
 
 use crate::common::{deliver_all, found, in_a_row, q, refused, set, three_lots, Owned};
-use lots_record::{Counts, Message, Phase, Record, State, LEFT, RIGHT};
+use lots_record::{Counts, Message, Phase, Record, Side, State};
 
 /// Where the entry of a seat begins, by docs/RECORD.md.
 const fn entry(seat: usize) -> usize {
@@ -20,9 +20,9 @@ fn two_components_stand() {
         pending: 2,
     };
     assert_eq!(record.counts(), Ok(left));
-    assert_eq!(record.link(1, 0, RIGHT), Ok(None));
-    assert_eq!(record.link(3, 8, LEFT), Ok(None));
-    assert_eq!(record.link(0, 8, RIGHT), Ok(Some(1)));
+    assert_eq!(record.link(1, 0, Side::Right), Ok(None));
+    assert_eq!(record.link(3, 8, Side::Left), Ok(None));
+    assert_eq!(record.link(0, 8, Side::Right), Ok(Some(1)));
     deliver_all(&mut record);
     assert_eq!(record.check(), Ok(true));
     assert_eq!(found(&record, 0, 450), (Some(1), 1));
@@ -41,7 +41,7 @@ fn a_newcomer_belongs_to_its_contact() {
     assert_eq!(record.check(), Ok(true));
     deliver_all(&mut record);
     assert_eq!(record.check(), Ok(true));
-    assert_eq!(record.link(2, 0, RIGHT), Ok(Some(3)));
+    assert_eq!(record.link(2, 0, Side::Right), Ok(Some(3)));
     assert_eq!(found(&record, 3, 250), (Some(2), 1));
     assert_eq!(found(&record, 0, 60), (None, 0));
 }
@@ -54,11 +54,11 @@ fn a_link_above_level_0_mends() {
     let pending: Vec<Message> = record.pending_messages().unwrap().collect();
     let meet = |to, about| Message::new(1, to, about, 0, 0);
     assert_eq!(pending, [meet(0, 2), meet(2, 0)]);
-    assert_eq!(record.link(0, 0, RIGHT), Ok(None));
-    assert_eq!(record.link(0, 1, RIGHT), Ok(Some(2)));
+    assert_eq!(record.link(0, 0, Side::Right), Ok(None));
+    assert_eq!(record.link(0, 1, Side::Right), Ok(Some(2)));
     assert_eq!(record.check(), Ok(false));
     deliver_all(&mut record);
-    assert_eq!(record.link(0, 0, RIGHT), Ok(Some(2)));
+    assert_eq!(record.link(0, 0, Side::Right), Ok(Some(2)));
     assert_eq!(record.check(), Ok(true));
     assert_eq!(found(&record, 0, 350), (Some(2), 1));
 }

@@ -2,7 +2,7 @@
 //! several ways.
 
 use crate::common::{deliver_all, message_at, q, refused, smallest_pending, three_lots, PENDING};
-use lots_record::{Counts, Found, Message, Phase, Record, Refusal, LEFT, RIGHT, SIZE};
+use lots_record::{Counts, Found, Message, Phase, Record, Refusal, Side, SIZE};
 
 #[test]
 fn the_last_seat_and_the_ends_of_the_numbers() {
@@ -11,10 +11,10 @@ fn the_last_seat_and_the_ends_of_the_numbers() {
     record.join(0, u64::MAX, 0, Some(63)).unwrap();
     deliver_all(&mut record);
     for level in 0..=8 {
-        assert_eq!(record.link(63, level, LEFT), Ok(None));
-        assert_eq!(record.link(63, level, RIGHT), Ok(Some(0)));
-        assert_eq!(record.link(0, level, LEFT), Ok(Some(63)));
-        assert_eq!(record.link(0, level, RIGHT), Ok(None));
+        assert_eq!(record.link(63, level, Side::Left), Ok(None));
+        assert_eq!(record.link(63, level, Side::Right), Ok(Some(0)));
+        assert_eq!(record.link(0, level, Side::Left), Ok(Some(63)));
+        assert_eq!(record.link(0, level, Side::Right), Ok(None));
     }
     assert_eq!(record.lot(63).unwrap().number, 0);
     assert_eq!(record.lot(0).unwrap().number, u64::MAX);
@@ -35,8 +35,9 @@ fn messages() -> Vec<Message> {
         for to in 0..3 {
             for about in 0..3 {
                 for level in 0..=8 {
-                    messages.push(Message::new(kind, to, about, level, LEFT));
-                    messages.push(Message::new(kind, to, about, level, RIGHT));
+                    let sides = [Side::Left, Side::Right].map(Side::number);
+                    let message = |side| Message::new(kind, to, about, level, side);
+                    messages.extend(sides.map(message));
                 }
             }
         }

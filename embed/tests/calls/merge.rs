@@ -1,7 +1,7 @@
 //! Two halves find each other: document 02, #107.
 
 use crate::common::{deliver_all, found, in_a_row, q, refused, set, three_lots, Owned};
-use lots_record::{Message, Phase, Record, Refusal, State, LEFT, RIGHT};
+use lots_record::{Message, Phase, Record, Refusal, Side, State};
 
 fn meet(to: u8, about: u8) -> Message {
     Message::new(1, to, about, 0, 0)
@@ -126,8 +126,8 @@ fn a_merge_beside_newcomers() {
     assert_eq!(record.counts().unwrap().pending, 4);
     deliver_all(&mut record);
     assert_eq!(record.check(), Ok(true));
-    assert_eq!(record.link(9, 1, RIGHT), Ok(Some(2)));
-    assert_eq!(record.link(1, 0, RIGHT), Ok(Some(9)));
+    assert_eq!(record.link(9, 1, Side::Right), Ok(Some(2)));
+    assert_eq!(record.link(1, 0, Side::Right), Ok(Some(9)));
     assert_eq!(found(&record, 0, 460), (Some(2), 3));
 }
 
@@ -145,8 +145,8 @@ fn leaving_lots_may_be_named() {
     refused(record.as_bytes(), 7, |record| record.merge(0, 4));
     deliver_all(&mut record);
     record.turn().unwrap();
-    assert_eq!(record.link(0, 8, RIGHT), Ok(Some(4)));
-    assert_eq!(record.link(4, 8, LEFT), Ok(Some(0)));
+    assert_eq!(record.link(0, 8, Side::Right), Ok(Some(4)));
+    assert_eq!(record.link(4, 8, Side::Left), Ok(Some(0)));
 }
 
 /// What was merged may be cut again.

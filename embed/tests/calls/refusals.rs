@@ -1,7 +1,7 @@
 //! Every refusal of documents 01 and 02, and that it changes no byte.
 
 use crate::common::{deliver_all, q, refused, three_lots, Owned, PENDING};
-use lots_record::{Message, Record, Refusal, SIZE};
+use lots_record::{Message, Record, Refusal, Side, SIZE};
 
 const NO_MESSAGE: Message = Message::new(1, 0, 63, 8, 0);
 
@@ -9,7 +9,7 @@ type Call = fn(&mut Record<&mut [u8]>) -> Result<(), Refusal>;
 
 /// Every call but open, with arguments that Q accepts, or else refuses with 8, 10 or
 /// 14: a later row than 1 and 2.
-const CALLS: [Call; 19] = [
+const CALLS: [Call; 22] = [
     |record| record.join(3, 400, 0, Some(0)),
     |record| record.reserve(3, 400, 0),
     |record| record.confirm(3, Some(0)),
@@ -17,18 +17,21 @@ const CALLS: [Call; 19] = [
     |record| record.leave(9),
     |record| record.deliver(NO_MESSAGE),
     |record| record.bundle(1).map(drop),
+    |record| record.deliver_all().map(drop),
     |record| record.turn(),
     |record| record.crash(1 << 9),
     |record| record.merge(9, 9),
     |record| record.find(9, 250).map(drop),
     |record| record.check().map(drop),
     |record| record.lot(9).map(drop),
-    |record| record.link(9, 0, 0).map(drop),
+    |record| record.link(9, 0, Side::Left).map(drop),
     |record| record.is_pending(NO_MESSAGE).map(drop),
     |record| record.counts().map(drop),
     |record| record.validate(),
     |record| record.next_message(NO_MESSAGE).map(drop),
     |record| record.pending_messages().map(drop),
+    |record| record.lots().map(drop),
+    |record| record.taken().map(drop),
 ];
 
 // Where entries begin.
@@ -121,7 +124,9 @@ fn no_such_seat() {
             refused(bytes, 3, |record| record.merge(seat, seat));
             refused(bytes, 3, |record| record.find(seat, 250).map(drop));
             refused(bytes, 3, |record| record.lot(seat).map(drop));
-            refused(bytes, 3, |record| record.link(seat, 9, 2).map(drop));
+            refused(bytes, 3, |record| {
+                record.link(seat, 9, Side::Left).map(drop)
+            });
         }
         for contact in [64, 254] {
             refused(bytes, 3, |record| record.join(3, 400, 0, Some(contact)));
@@ -132,7 +137,7 @@ fn no_such_seat() {
 
 #[test]
 fn no_such_level() {
-    for (level, side) in [(9, 0), (255, 1), (8, 2), (0, 255)] {
+    for (level, side) in [(9, Side::Left), (255, Side::Right)] {
         for seat in [0, 9] {
             refused(q().as_bytes(), 12, |record| {
                 record.link(seat, level, side).map(drop)
@@ -172,7 +177,7 @@ fn empty_seat() {
         refused(q().as_bytes(), 8, |record| record.find(seat, 250).map(drop));
         refused(q().as_bytes(), 8, |record| record.lot(seat).map(drop));
         refused(q().as_bytes(), 8, |record| {
-            record.link(seat, 8, 1).map(drop)
+            record.link(seat, 8, Side::Right).map(drop)
         });
     }
 }

@@ -1,7 +1,7 @@
 //! Reserve first, confirm later: document 02, #105.
 
 use crate::common::{deliver_all, message_at, q, refused, three_lots, Owned, PENDING};
-use lots_record::{Counts, Lot, Message, Phase, Record, Refusal, State};
+use lots_record::{Counts, Lot, Message, Phase, Record, Refusal, Side, State};
 
 /// Where the entry of a seat begins, and its size.
 const fn entry(seat: usize) -> usize {
@@ -47,7 +47,7 @@ fn only_reading_the_lot_shows_it() {
     }
     refused(record.as_bytes(), 8, |record| record.find(3, 250).map(drop));
     refused(record.as_bytes(), 8, |record| {
-        record.link(3, 0, 0).map(drop)
+        record.link(3, 0, Side::Left).map(drop)
     });
     refused(record.as_bytes(), 8, |record| record.leave(3));
 }

@@ -1,20 +1,12 @@
 -- `check_links::bit_of` meets its contract. Assumes nothing.
-use Prim.Native.Nat.{ℕ, zero, suc, _<_}
-use mathlib.Core.Path.{_≡_, refl, ap, _∙_}
-use native.Mathlib.Omega.{arith}
-use lib.Dec.{eqb}
+use mathlib.Core.Path.{ap, _∙_}
 use borrow.Author.Needs.{needs}
 use Rattle.base.specs.Loops.{oneIf}
+use Rattle.base.proofs.Count.{one-if}
 use Rattle.graph.specs.Vector.{width, bit}
 use Rattle.record.proofs.SeatBytes.{vector-bytes}
 use Rattle.check_links.proofs.bit_of.Statement.{statement}
 use Rattle.check_links.proofs.bit_of.Tie as tie
-
--- a number below 2 is 1 exactly if the test for 1 passes
-one-if : (r : ℕ) → r < 2 → r ≡ oneIf (eqb r 1)
-one-if zero h = refl
-one-if (suc zero) h = refl
-one-if (suc (suc r)) h = absurd (omega arith)
 
 vector-requires : tie.Need-vector-requires
 vector-requires c κs = search needs

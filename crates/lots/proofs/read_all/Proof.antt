@@ -1,21 +1,22 @@
 -- `read_all` is safe and ends: the turns are counted. Assumes nothing.
-use mathlib.Core.Path.{_≡_}
+use mathlib.Core.Path.{_≡_, refl, _∙_}
+use native.Mathlib.Omega.{arith}
 use lib.ListN.{length}
 use borrow.Author.Needs.{needs}
 use Rattle.lots.proofs.read_all.Statement.{statement}
 use Rattle.lots.proofs.read_all.Tie as tie
 
 abbrev Inv-loop : tie.InvT-loop
-Inv-loop rec₀ line₀ input₀ turns₀ rec line input turns = (length rec ≡ length rec₀) × (length line ≡ length line₀)
+Inv-loop rec₀ line₀ out₀ input₀ turns₀ rec line out input turns = (length rec ≡ length rec₀) × (length line ≡ length line₀)
 
 abbrev μ-loop : tie.MeasureT-loop
-μ-loop rec₀ line₀ input₀ turns₀ rec line input turns = turns
+μ-loop rec₀ line₀ out₀ input₀ turns₀ rec line out input turns = turns
 
 loop-holds : tie.Need-loop-holds Inv-loop μ-loop
-loop-holds c = search needs
+loop-holds c = (refl, refl)
 
 read-some-requires : tie.Need-read-some-requires Inv-loop μ-loop
-read-some-requires c κs = search needs
+read-some-requires c κs = tt
 
 sub-turns : tie.Need-sub-turns Inv-loop μ-loop
 sub-turns c = search needs

@@ -1,4 +1,4 @@
--- `write` is safe: the part of the answer lies within it. Assumes nothing.
+-- `write` is safe: the part that is written lies within the answer. Assumes nothing.
 use mathlib.Core.Path.{sym}
 use lib.Seq.{length-take-le}
 use borrow.Author.Needs.{needs}
@@ -6,8 +6,7 @@ use Rattle.lots.proofs.write.Statement.{statement}
 use Rattle.lots.proofs.write.Tie as tie
 
 slice-aggregate-write-all : tie.Need-slice-aggregate-write-all
-slice-aggregate-write-all c = let b = c .before .before .before in
-    sym (length-take-le (b .args .n) (b .args .answer .now) (search needs))
+slice-aggregate-write-all c = let a = c .before .before .before .args in sym (length-take-le (a .n) (a .answer .now) (search needs))
 
 write-all-requires : tie.Need-write-all-requires
 write-all-requires c κs = search needs

@@ -1,0 +1,2 @@
+-- Why answers are put as the definitions say.
+pub mod Parts

@@ -1,0 +1,2 @@
+-- The answers of the program in a lent buffer.
+pub mod inner

@@ -1,0 +1,2 @@
+-- Why lines do what the definitions say.
+pub mod Arms

@@ -1,0 +1,1 @@
+// What the program `lots` does: a specification with its theory, in specs/ and proofs/. There is no code here.
