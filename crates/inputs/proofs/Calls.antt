@@ -135,7 +135,8 @@ bundle-typed (suc n) l = by (smallest seats width (meaning l .pending)) refl (λ
     rest m = nameOf m ∷ bundleOf called seats width (λ k. meaning k .pending) n (called l (delivering (nameOf m)) .after)
 
     by : (o : Option Msg) → smallest seats width (meaning l .pending) ≡ o
-        → ((m : Msg) → AllTyped (map one (map delivering (bundleOf called seats width (λ k. meaning k .pending) n (called l (delivering (nameOf m)) .after)))))
+        → ((m : Msg) → AllTyped (map one (map delivering
+        (bundleOf called seats width (λ k. meaning k .pending) n (called l (delivering (nameOf m)) .after)))))
         → AllTyped (map one (map delivering (onward o rest)))
     by none e ih = tt
     by (some m) e ih = (name-typed m (smallest-all seats width (meaning l .pending) m .0 e .there), ih m)

@@ -24,6 +24,7 @@ module _ (l line : List ℕ) {o : Option Command} (e : o ≡ parsed line) {m b o
       record { leaves = sym (ap (λ (x : Answered). x .after) a); count = rw a (p .1); text = rw a (p .0) }
 
   -- of a call
-  pub call-gives : (c : Call) {n : ℕ} → answerTo l o ≡ byCall (called l c) → record { refused = n; after = m } ≡ called l c → Whole b (doneText n) out r
+  pub call-gives : (c : Call) {n : ℕ} → answerTo l o ≡ byCall (called l c) → record { refused = n; after = m } ≡ called l c
+      → Whole b (doneText n) out r
       → Gives (answered l line) m b out r
   call-gives c f g w = gives (f ∙ ap byCall (sym g)) w

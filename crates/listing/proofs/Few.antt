@@ -17,7 +17,8 @@ use Rattle.search.proofs.Count.{count-mono, count-less}
 use Rattle.graph.specs.Side.{left, right}
 use Rattle.graph.specs.Graph.{Lots, Links, Laws, inList, graph}
 use Rattle.graph.specs.inner.Order.{Lt, toL, toR}
-use Rattle.graph.proofs.Neighbour.{InList, list-refl, list-sym, list-trans, test-list, list-test, Nearest, nearest-list, nearest-side, nobody-there, graph-nearest}
+use Rattle.graph.proofs.Neighbour.{InList, list-refl, list-sym, list-trans, test-list, list-test}
+use Rattle.graph.proofs.Neighbour.{Nearest, nearest-list, nearest-side, nobody-there, graph-nearest}
 use Rattle.listing.specs.Lists.{isThere, onward, rightFrom, comesBefore, comesAfter, begins, nextFirst, firstsAfter}
 use Rattle.listing.proofs.Firsts.{before-trans, before-irr, Listed, next-listed}
 use Rattle.listing.proofs.Graph.{begins-member, neighbour-member}
@@ -29,7 +30,8 @@ one-apart true false c f g h = rw (T-true {b = c} (f tt)) (omega arith)
 one-apart false true c f g h = rw (T-true {b = c} (g tt)) (omega arith)
 one-apart false false c f g h = omega arith
 
-count-apart : (n : ℕ) (p q r : ℕ → Bool) → ((z : ℕ) → T (p z) → T (r z)) → ((z : ℕ) → T (q z) → T (r z)) → ((z : ℕ) → T (p z) → T (q z) → ⊥)
+count-apart : (n : ℕ) (p q r : ℕ → Bool) → ((z : ℕ) → T (p z) → T (r z)) → ((z : ℕ) → T (q z) → T (r z))
+    → ((z : ℕ) → T (p z) → T (q z) → ⊥)
     → count n p + count n q ≤ count n r
 unfolding count
 count-apart zero p q r f g h = omega arith
@@ -125,7 +127,8 @@ module _ {N W : ℕ} {G : Lots} (laws : Laws N G) (k : ℕ) (h : k ≤ W) where
   unfolding later
   later-in a z x i p =
       any-in N _ x (laws .seat x (begins-member W G K k x (i .starts)))
-      (and-T (begins W G K k x && comesAfter W G k a x) (inList W G k x z) (and-T (begins W G K k x) (comesAfter W G k a x) (i .starts) (i .follows)) (list-test p))
+      (and-T (begins W G K k x && comesAfter W G k a x) (inList W G k x z) (and-T (begins W G K k x) (comesAfter W G k a x) (i .starts) (i .follows))
+      (list-test p))
 
   record Later (a : Option ℕ) (z : ℕ) : Type 0 where
     first : ℕ

@@ -34,7 +34,8 @@ numbers-length number small (x ∷ xs) =
     let n = shown-length 19 (number x) (omega (arith, small x)) in
     omega (arith, length-append (shown (number x)) (spaced (map (λ z. shown (number z)) xs)), n, numbers-length number small xs)
 
-module _ {N W : ℕ} {G : Lots} (laws : Laws N G) (some-seat : 0 < N) (narrow : W < 99) (small : (x : ℕ) → G .number x < 2 ^ 64) (k : ℕ) (h : k ≤ W) where
+module _ {N W : ℕ} {G : Lots} (laws : Laws N G) (some-seat : 0 < N) (narrow : W < 99) (small : (x : ℕ) → G .number x < 2 ^ 64) (k : ℕ)
+    (h : k ≤ W) where
   run : ℕ → List ℕ
   run x = rightFrom (graph N W G) N k (some x)
 

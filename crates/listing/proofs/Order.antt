@@ -94,7 +94,11 @@ module _ {N W : ℕ} {G : Lots} (laws : Laws N G) (k : ℕ) (h : k ≤ W) where
   pub after-all : (n : ℕ) (a : Option ℕ) (y : ℕ) → Listed W G K k a y → count N (after a) ≤ n → List·Memᴰ y (firstsAfter W G K N n k a)
   unfolding firstsAfter onward comesAfter Least
   after-all zero a y i l =
-      absurd (omega (arith, count-less N (λ z. false) (after a) y (laws .seat y (begins-member W G K k y (i .starts))) (listed-after a y i) (λ f. f) (λ z f. absurd f)))
+      absurd (omega (
+        arith,
+        count-less N (λ z. false) (after a) y (laws .seat y (begins-member W G K k y (i .starts))) (listed-after a y i) (λ f. f)
+            (λ z f. absurd f),
+      ))
   after-all (suc n) a y i l = by (nextFirst W G K N k a) refl (next-least a N) (λ x. after-all n (some x) y)
     where
       seat : y < N

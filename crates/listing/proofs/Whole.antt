@@ -49,7 +49,8 @@ module _ {N W : ℕ} {G : Lots} (laws : Laws N G) (k : ℕ) (h : k ≤ W) where
               nobody-there (rw f at (graph-nearest {W = W} laws y k right)) z p (toR r)
       right-there e (some w) f = tt
 
-      by : (o : Option ℕ) → graph N W G y k left ≡ o → ((w : ℕ) → G .number w < n → T (G .member w) → InList W G k w y → w ≢ y → Begun w) → Begun y
+      by : (o : Option ℕ) → graph N W G y k left ≡ o
+          → ((w : ℕ) → G .number w < n → T (G .member w) → InList W G k w y → w ≢ y → Begun w) → Begun y
       by none e ih = record {
         first = y;
         starts = begins-list y m e (right-there e (graph N W G y k right) refl);
@@ -79,8 +80,12 @@ module _ {N W : ℕ} {G : Lots} (laws : Laws N G) (k : ℕ) (h : k ≤ W) where
   pub lists-whole : Lists N W G k
   lists-whole = record {
     every = λ y z m t ne.
-        let b = has-first (suc (G .number y)) y z (omega arith) m (test-list t) ne in
-        (b .first, after-all laws k h N none (b .first) (record { starts = b .starts; follows = follows-nobody (b .first) }) (count-le N (after laws k h none)), list-test (b .list));
+        let b = has-first (suc (G .number y)) y z (omega arith) m (test-list t) ne in (
+          b .first,
+          after-all laws k h N none (b .first) (record { starts = b .starts; follows = follows-nobody (b .first) })
+              (count-le N (after laws k h none)),
+          list-test (b .list),
+        );
     two = λ x i. other x (after-only laws k h N none x i);
     once = λ x y z i j s t. one-first laws k h x y z (after-only laws k h N none x i) (after-only laws k h N none y j) (test-list s) (test-list t);
     ordered = after-ordered laws k h N none;

@@ -48,6 +48,6 @@ record OnAny (l : List ℕ) : Type 0 where
   long : fedAll 4 l [] (ascii "TA" ∷ ascii "TATA\nP" ∷ []) ≡ record { text = ascii "bad\n"; after = l; line = ascii "P" }
 
 on-any : (l : List ℕ) → OnAny l
-unfolding badText lastLine linesFrom carriedOut answerTo answered fedByte fed fedAll inputOf ended reversed fieldsFrom fields digitsFrom decimal fitting commandOf
-    parsed ascii
+unfolding badText lastLine linesFrom carriedOut answerTo answered fedByte fed fedAll inputOf ended reversed fieldsFrom fields digitsFrom decimal fitting
+    commandOf parsed ascii
 on-any l = record { whole = refl; pieces = refl; last = refl; long = refl }

@@ -93,7 +93,11 @@ one-fits false x y f g = g
 counts-fit : (l : List ℕ) → CountsFit (readCounts l)
 unfolding readCounts
 counts-fit l = one-fits (eqb (recordRefusal l) 0) _ _
-    (record { refused = omega arith; lots = omega (arith, count-le seats (seated (seatsIn l))); pending = omega (arith, count-le messages (λ i. bitSet l pendingFrom i)) })
+    (record {
+      refused = omega arith;
+      lots = omega (arith, count-le seats (seated (seatsIn l)));
+      pending = omega (arith, count-le messages (λ i. bitSet l pendingFrom i));
+    })
     (record { refused = record-most l; lots = omega arith; pending = omega arith })
 
 -- P

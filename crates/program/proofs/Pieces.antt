@@ -34,7 +34,8 @@ fed-append room l line (b ∷ p) q =
 
 -- one byte more of a piece
 pub fed-more : (room : ℕ) (l line piece : List ℕ) (i : ℕ) → i < length piece → let f = fed room l line (take i piece) in
-    let g = fedByte room (f .after) (f .line) (getD piece i 0) in let h = fed room l line (take (i + 1) piece) in (h .after ≡ g .after) × (h .line ≡ g .line)
+    let g = fedByte room (f .after) (f .line) (getD piece i 0) in let h = fed room l line (take (i + 1) piece) in
+    (h .after ≡ g .after) × (h .line ≡ g .line)
 unfolding fed
 fed-more room l line piece i q =
     let f = fed room l line (take i piece) in
@@ -86,7 +87,8 @@ module _ (room : ℕ) (wide : longest < room) where
   unfolding linesFrom
   lines-end line b input e = rw (eq-eqb b newline e)
 
-  lines-go : (line : List ℕ) (b : ℕ) (input : List ℕ) → (b ≡ newline → ⊥) → linesFrom line (b ∷ input) ≡ linesFrom (line ++ (b ∷ [])) input
+  lines-go : (line : List ℕ) (b : ℕ) (input : List ℕ) → (b ≡ newline → ⊥)
+      → linesFrom line (b ∷ input) ≡ linesFrom (line ++ (b ∷ [])) input
   unfolding linesFrom
   lines-go line b input e = rw (ne-eqb b newline e)
 

@@ -81,7 +81,8 @@ module _ (l : List ℕ) (f : Fine l) where
 
   -- and there is none where nothing is
   count-none : readCounts l .pending ≡ 0 → smallest seats width (meaning l .pending) ≡ none
-  count-none e = none-all seats width (meaning l .pending) .1 (none-pending seats width (meaning l .pending) (pendingCount-zero (meaning l) .0 (sym counted ∙ e)))
+  count-none e = none-all seats width (meaning l .pending) .1
+      (none-pending seats width (meaning l .pending) (pendingCount-zero (meaning l) .0 (sym counted ∙ e)))
 
 -- no list of deliveries has more accepted ones than the bound, on any such record
 accepted-same : (M : Meaning) → Sound seats width M → (ns : List Name)

@@ -42,12 +42,17 @@ same-length c = search needs
 returns : tie.Need-returns
 unfolding countsText ascii
 returns c =
-    put-then (c .before .before .before .before .before .before .before .before .before .before .before .before .before .before .before .before .before .before .before .before .before .before .before .before .before .before .before .before .bytes .ensures)
-    (put-then (c .before .before .before .before .before .before .before .before .before .before .before .before .before .before .before .before .before .before .before .before .before .before .before .before .decimal .ensures)
-    (put-then (c .before .before .before .before .before .before .before .before .before .before .before .before .before .before .before .before .before .before .before .bytes2 .ensures)
-    (put-then (c .before .before .before .before .before .before .before .before .before .before .before .before .before .before .before .phase-name .ensures)
-    (put-then (c .before .before .before .before .before .before .before .before .before .before .bytes3 .ensures)
-    (put-then (c .before .before .before .before .before .before .decimal2 .ensures) (c .before .before .byte .ensures))))))
+    let f = c .before .before .before .before .before .before in
+    let e = f .before .before .before .before in
+    let d = e .before .before .before .before .before in
+    let b = d .before .before .before .before in
+    let a = b .before .before .before .before .before in
+    put-then (a .before .before .before .before .bytes .ensures)
+    (put-then (a .decimal .ensures)
+    (put-then (b .bytes2 .ensures)
+    (put-then (d .phase-name .ensures)
+    (put-then (e .bytes3 .ensures)
+    (put-then (f .decimal2 .ensures) (c .before .before .byte .ensures))))))
 
 pub counts-spec : {M : Type 1} → statement M
 counts-spec =

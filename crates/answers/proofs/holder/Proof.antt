@@ -31,7 +31,8 @@ unfolding holderText ascii
 returns c =
     let s = c .before .before .before .before .before .before .before .before .before .before .before .before .before .before in
     record {
-      put = put-then (put-then (c .before .before .before .before .before .before .before .before .before .before .bytes .ensures) (c .before .before .before .before .before .before .decimal .ensures)) (c .before .before .hops .ensures);
+      put = put-then (put-then (c .before .before .before .before .before .before .before .before .before .before .bytes .ensures)
+          (c .before .before .before .before .before .before .decimal .ensures)) (c .before .before .hops .ensures);
       fits = found-length (some (s .args .seat)) (λ x e. rw (← some-inj e) (omega (arith, s .fits .seat))) (s .args .h) (omega (arith, s .fits .h));
     }
 

@@ -24,7 +24,8 @@ same-length c = search needs
 returns : tie.Need-returns
 unfolding hopsText ascii
 returns c =
-    put-then (c .before .before .before .before .before .before .before .before .before .before .bytes .ensures) (put-then (c .before .before .before .before .before .before .decimal .ensures) (c .before .before .byte .ensures))
+    put-then (c .before .before .before .before .before .before .before .before .before .before .bytes .ensures)
+    (put-then (c .before .before .before .before .before .before .decimal .ensures) (c .before .before .byte .ensures))
 
 pub hops-spec : {M : Type 1} → statement M
 hops-spec =

@@ -34,14 +34,17 @@ same-length c = search needs
 
 returns : tie.Need-returns
 returns c =
-    let l = c .before .before .before .before .before .before .before .before .before .before .before .args .rec .now in
-    let b : AreBytes l = λ j. omega (arith, c .before .before .before .before .before .before .before .before .before .before .shared-slice-known .given j) in
-    let e = sym (c .before .before .before .before .before .before .before .before .read-counts .ensures .0) ∙ ap countNumbers (c .before .before .before .before .before .before .lots .given .1) in
+    let o = c .before .before .before .before .before .before in
+    let r = o .before .before in
+    let l = r .before .before .before .args .rec .now in
+    let b : AreBytes l = λ j. omega (arith, r .before .before .shared-slice-known .given j) in
+    let e = sym (r .read-counts .ensures .0) ∙ ap countNumbers (o .lots .given .1) in
     record { put = rw (print-waits l _ e refl (c .if1 .taken)) (c .before .before .before .counts .ensures); fits = print-length l b }
 
 links-fit-requires : tie.Need-links-fit-requires
 links-fit-requires c κs =
-    let e = sym (c .before .before .before .before .before .before .before .before .read-counts .ensures .0) ∙ ap countNumbers (c .before .before .before .before .before .before .lots .given .1) in
+    let e = sym (c .before .before .before .before .before .before .before .before .read-counts .ensures .0)
+    ∙ ap countNumbers (c .before .before .before .before .before .before .lots .given .1) in
     let l = c .before .before .before .before .before .before .before .before .before .before .before .args .rec .now in
     let p = counts-passed l (ap (λ (a : CountAnswer). a .refused) e) in
     (p .sized, p .fine)
@@ -51,15 +54,19 @@ same-length-2 c = search needs
 
 returns-2 : tie.Need-returns-2
 returns-2 c =
-    let l = c .before .before .before .before .before .before .before .before .before .before .before .before .before .args .rec .now in
-    let b : AreBytes l = λ j. omega (arith, c .before .before .before .before .before .before .before .before .before .before .before .before .shared-slice-known .given j) in
-    let e = sym (c .before .before .before .before .before .before .before .before .before .before .read-counts .ensures .0) ∙ ap countNumbers (c .before .before .before .before .before .before .before .before .lots .given .1) in
+    let o = c .before .before .before .before .before .before .before .before in
+    let r = o .before .before in
+    let l = r .before .before .before .args .rec .now in
+    let b : AreBytes l = λ j. omega (arith, r .before .before .shared-slice-known .given j) in
+    let e = sym (r .read-counts .ensures .0) ∙ ap countNumbers (o .lots .given .1) in
     let y = sym (c .before .links-fit .ensures) ∙ not-true _ (c .if2 .taken) in
-    record { put = rw (print-no l _ e refl (c .before .before .if1 .left) y) (c .before .before .before .before .before .counts .ensures); fits = print-length l b }
+    let k = c .before .before .before .before .before .counts in
+    record { put = rw (print-no l _ e refl (c .before .before .if1 .left) y) (k .ensures); fits = print-length l b }
 
 lists-requires : tie.Need-lists-requires
 lists-requires c κs =
-    let e = sym (c .before .before .before .before .before .before .before .before .before .before .before .read-counts .ensures .0) ∙ ap countNumbers (c .before .before .before .before .before .before .before .before .before .lots .given .1) in
+    let e = sym (c .before .before .before .before .before .before .before .before .before .before .before .read-counts .ensures .0)
+    ∙ ap countNumbers (c .before .before .before .before .before .before .before .before .before .lots .given .1) in
     let l = c .before .before .before .before .before .before .before .before .before .before .before .before .before .before .args .rec .now in
     let p = counts-passed l (ap (λ (a : CountAnswer). a .refused) e) in
     p .sized
@@ -71,20 +78,24 @@ returns-3 : tie.Need-returns-3
 returns-3 c =
     let r = c .before .before .before .before .before .before .before .read-counts .ensures in
     let q = c .before .before .before .before .before .n .given .1 in
-    rw (print-refused (c .before .before .before .before .before .before .before .before .before .before .args .rec .now) _ (sym (r .0) ∙ ap countNumbers q) (subst CountsNumbered q (r .1))) (c .before .before .refused .ensures)
+    rw (print-refused (c .before .before .before .before .before .before .before .before .before .before .args .rec .now) _
+    (sym (r .0) ∙ ap countNumbers q) (subst CountsNumbered q (r .1))) (c .before .before .refused .ensures)
 
 same-length-4 : tie.Need-same-length-4
 same-length-4 c = search needs
 
 returns-4 : tie.Need-returns-4
 returns-4 c =
-    let l = c .before .before .before .before .before .before .before .before .before .before .before .before .before .before .before .before .before .args .rec .now in
-    let b : AreBytes l = λ j. omega (arith, c .before .before .before .before .before .before .before .before .before .before .before .before .before .before .before .before .shared-slice-known .given j) in
-    let e = sym (c .before .before .before .before .before .before .before .before .before .before .before .before .before .before .read-counts .ensures .0) ∙ ap countNumbers (c .before .before .before .before .before .before .before .before .before .before .before .before .lots .given .1) in
+    let o = c .before .before .before .before .before .before .before .before .before .before .before .before in
+    let r = o .before .before in
+    let l = r .before .before .before .args .rec .now in
+    let b : AreBytes l = λ j. omega (arith, r .before .before .shared-slice-known .given j) in
+    let e = sym (r .read-counts .ensures .0) ∙ ap countNumbers (o .lots .given .1) in
     let p = counts-passed l (ap (λ (a : CountAnswer). a .refused) e) in
     let y = sym (c .before .before .before .before .before .links-fit .ensures) ∙ not-false _ (c .before .before .before .before .if2 .left) in
     record {
-      put = rw (print-yes l _ e refl (c .before .before .before .before .before .before .if1 .left) y, ← yes-lists l b p y) (put-then (c .before .before .before .before .before .before .before .before .before .counts .ensures) (c .before .before .lists .ensures));
+      put = rw (print-yes l _ e refl (c .before .before .before .before .before .before .if1 .left) y, ← yes-lists l b p y)
+          (put-then (c .before .before .before .before .before .before .before .before .before .counts .ensures) (c .before .before .lists .ensures));
       fits = print-length l b;
     }
 

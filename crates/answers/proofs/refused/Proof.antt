@@ -28,7 +28,8 @@ unfolding refusedText ascii
 returns c =
     let s = c .before .before .before .before .before .before .before .before .before .before .before .before .before .before in
     record {
-      put = put-then (c .before .before .before .before .before .before .before .before .before .before .bytes .ensures) (put-then (c .before .before .before .before .before .before .decimal .ensures) (c .before .before .byte .ensures));
+      put = put-then (c .before .before .before .before .before .before .before .before .before .before .bytes .ensures)
+          (put-then (c .before .before .before .before .before .before .decimal .ensures) (c .before .before .byte .ensures));
       fits = omega (arith, refused-length (s .args .n) (omega (arith, s .fits .n)));
     }
 

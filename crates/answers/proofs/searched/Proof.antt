@@ -30,7 +30,8 @@ same-length c = search needs
 returns : tie.Need-returns
 returns c =
     let e = c .before .before .before .before .before .answer .given .1 in
-    rw (e, found-refused _ (subst FoundNumbered e (c .before .before .before .before .before .before .before .before .pre))) (c .before .before .refused .ensures)
+    rw (e, found-refused _ (subst FoundNumbered e (c .before .before .before .before .before .before .before .before .pre)))
+    (c .before .before .refused .ensures)
 
 same-length-2 : tie.Need-same-length-2
 same-length-2 c = search needs

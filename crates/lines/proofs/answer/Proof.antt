@@ -93,7 +93,8 @@ returns-2 : tie.Need-returns-2
 unfolding answerTo
 returns-2 c =
     let s = c .before .before .before .before .before .before .before .before .before .before .before .before .args in
-    let e = ap asCommand (sym (c .before .before .before .before .before .before .before .seat .given .1)) ∙ c .before .before .before .before .before .before .before .before .before .parse .ensures in
+    let e = ap asCommand (sym (c .before .before .before .before .before .before .before .seat .given .1))
+    ∙ c .before .before .before .before .before .before .before .before .before .parse .ensures in
     let z : length (s .out .now) ≡ room = search needs in
     call-gives (s .rec .now) (s .line .now) e z _ refl (c .before .before .before .before .join .ensures .0) (c .changed .ensures)
 
@@ -104,7 +105,8 @@ returns-3 : tie.Need-returns-3
 unfolding answerTo
 returns-3 c =
     let s = c .before .before .before .before .before .before .before .before .before .before .before .before .args in
-    let e = ap asCommand (sym (c .before .before .before .before .before .before .before .seat2 .given .1)) ∙ c .before .before .before .before .before .before .before .before .before .parse .ensures in
+    let e = ap asCommand (sym (c .before .before .before .before .before .before .before .seat2 .given .1))
+    ∙ c .before .before .before .before .before .before .before .before .before .parse .ensures in
     let z : length (s .out .now) ≡ room = search needs in
     call-gives (s .rec .now) (s .line .now) e z _ refl (c .before .before .before .before .leave .ensures .0) (c .changed2 .ensures)
 
@@ -115,7 +117,8 @@ returns-4 : tie.Need-returns-4
 unfolding answerTo
 returns-4 c =
     let s = c .before .before .before .before .before .before .before .before .before .before .before .before .args in
-    let e = ap asCommand (sym (c .before .before .before .before .before .before .before .kind .given .1)) ∙ c .before .before .before .before .before .before .before .before .before .parse .ensures in
+    let e = ap asCommand (sym (c .before .before .before .before .before .before .before .kind .given .1))
+    ∙ c .before .before .before .before .before .before .before .before .before .parse .ensures in
     let z : length (s .out .now) ≡ room = search needs in
     call-gives (s .rec .now) (s .line .now) e z _ refl (c .before .before .before .before .deliver .ensures .0) (c .changed3 .ensures)
 
@@ -126,7 +129,8 @@ returns-5 : tie.Need-returns-5
 unfolding answerTo
 returns-5 c =
     let s = c .before .before .before .before .before .before .before .before .before .before .before .args in
-    let e = ap asCommand (sym (c .before .before .before .before .before .before .enum-told2 .given .1)) ∙ c .before .before .before .before .before .before .before .before .parse .ensures in
+    let e = ap asCommand (sym (c .before .before .before .before .before .before .enum-told2 .given .1))
+    ∙ c .before .before .before .before .before .before .before .before .parse .ensures in
     let z : length (s .out .now) ≡ room = search needs in
     call-gives (s .rec .now) (s .line .now) e z _ refl (c .before .before .before .before .turn .ensures .0) (c .changed4 .ensures)
 
@@ -137,7 +141,8 @@ returns-6 : tie.Need-returns-6
 unfolding answerTo
 returns-6 c =
     let s = c .before .before .before .before .before .before .before .before .before .before .before .args in
-    let e = ap asCommand (sym (c .before .before .before .before .before .before .enum-told3 .given .1)) ∙ c .before .before .before .before .before .before .before .before .parse .ensures in
+    let e = ap asCommand (sym (c .before .before .before .before .before .before .enum-told3 .given .1))
+    ∙ c .before .before .before .before .before .before .before .before .parse .ensures in
     let z : length (s .out .now) ≡ room = search needs in
     let r = c .before .before .before .before .settle .ensures in
     gives (s .rec .now) (s .line .now) e z (rw (← r .0, ← r .1)) (c .changed5 .ensures)
@@ -149,7 +154,8 @@ returns-7 : tie.Need-returns-7
 unfolding answerTo
 returns-7 c =
     let s = c .before .before .before .before .before .before .before .before .before .before .args in
-    let e = ap asCommand (sym (c .before .before .before .before .before .seat3 .given .1)) ∙ c .before .before .before .before .before .before .before .parse .ensures in
+    let e = ap asCommand (sym (c .before .before .before .before .before .seat3 .given .1))
+    ∙ c .before .before .before .before .before .before .before .parse .ensures in
     let z : length (s .out .now) ≡ room = search needs in
     gives (s .rec .now) (s .line .now) e z (rw (← c .before .before .find .ensures .0)) (c .searched .ensures)
 

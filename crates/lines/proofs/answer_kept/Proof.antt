@@ -25,7 +25,8 @@ same-length-2 c = search needs
 
 returns-2 : tie.Need-returns-2
 returns-2 c =
-    let s = c .before .before .before .before .before .before .before .before .args in rw (take-all (s .n) (s .line .now) (c .before .before .before .before .before .if1 .left)) (c .before .before .answer2 .ensures)
+    let s = c .before .before .before .before .before .before .before .before .args in
+    rw (take-all (s .n) (s .line .now) (c .before .before .before .before .before .if1 .left)) (c .before .before .answer2 .ensures)
 
 pub answer-kept-spec : {M : Type 1} → statement M
 answer-kept-spec =

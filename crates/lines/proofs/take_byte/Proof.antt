@@ -19,7 +19,8 @@ returns : tie.Need-returns
 returns c =
     let s = c .before .before .before .before .before .before .before .before .before .args in
     let line = s .line .now in
-    rw (byte-ends (length line) (s .rec .now) (take (s .n) line) (s .byte) (c .before .before .before .before .before .before .if1 .taken)) (record { gives = c .before .before .answer-kept .ensures; line = refl })
+    rw (byte-ends (length line) (s .rec .now) (take (s .n) line) (s .byte) (c .before .before .before .before .before .before .if1 .taken))
+    (record { gives = c .before .before .answer-kept .ensures; line = refl })
 
 slice-write-line : tie.Need-slice-write-line
 slice-write-line c = search needs

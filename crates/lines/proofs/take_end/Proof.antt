@@ -24,7 +24,8 @@ same-length c = search needs
 returns-3 : tie.Need-returns-3
 returns-3 c =
     let s = c .before .before .before .before .before .before .before .before .before .args in
-    rw (ended-line (s .rec .now) (s .line .now) (s .n) (omega (arith, c .before .before .before .before .before .before .if1 .left)) (omega (arith, c .before .before .before .before .before .if2 .left))) (c .before .before .answer-kept .ensures)
+    rw (ended-line (s .rec .now) (s .line .now) (s .n) (omega (arith, c .before .before .before .before .before .before .if1 .left))
+    (omega (arith, c .before .before .before .before .before .if2 .left))) (c .before .before .answer-kept .ensures)
 
 pub take-end-spec : {M : Type 1} → statement M
 take-end-spec = tie.close (tie.spec returns returns-2 answer-kept-requires same-length returns-3)

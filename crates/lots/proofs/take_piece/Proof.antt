@@ -30,7 +30,14 @@ loop-holds : tie.Need-loop-holds Inv-loop μ-loop
 loop-holds c =
     let a = c .before .before .before .args in
     let e = fed-none (length (a .line .now)) (a .rec .now) (take (a .n) (a .line .now)) in
-    record { within = omega arith; end = refl; record-is = sym (ap (λ (f : Fed). f .after) e); line-is = sym (ap (λ (f : Fed). f .line) e); as-long = refl; as-large = refl }
+    record {
+      within = omega arith;
+      end = refl;
+      record-is = sym (ap (λ (f : Fed). f .after) e);
+      line-is = sym (ap (λ (f : Fed). f .line) e);
+      as-long = refl;
+      as-large = refl;
+    }
 
 shared-slice-read-take-byte : tie.Need-shared-slice-read-take-byte Inv-loop μ-loop
 shared-slice-read-take-byte c = omega arith
@@ -43,11 +50,13 @@ write-requires c κs = tt
 
 same-length : tie.Need-same-length Inv-loop μ-loop
 same-length c =
-    c .before .before .before .before .before .before .before .before .take-byte .kept .0 ∙ c .before .before .before .before .before .before .before .before .before .before .before .before .before .before .loop .inv .as-large
+    c .before .before .before .before .before .before .before .before .take-byte .kept .0
+    ∙ c .before .before .before .before .before .before .before .before .before .before .before .before .before .before .loop .inv .as-large
 
 same-length-2 : tie.Need-same-length-2 Inv-loop μ-loop
 same-length-2 c =
-    c .before .before .before .before .before .before .before .before .take-byte .kept .1 .0 ∙ c .before .before .before .before .before .before .before .before .before .before .before .before .before .before .loop .inv .as-long
+    c .before .before .before .before .before .before .before .before .take-byte .kept .1 .0
+    ∙ c .before .before .before .before .before .before .before .before .before .before .before .before .before .before .loop .inv .as-long
 
 returns : tie.Need-returns Inv-loop μ-loop
 returns c = λ e. absurd (let z : _≡_ {A = ℕ} 0 1 = cc in omega arith)
@@ -67,7 +76,10 @@ loop-again c =
     let i = o .loop .i in
     let more = fed-more (length (a .line .now)) (a .rec .now) (take (a .n) (a .line .now)) (a .piece .now) i (omega (arith, v .within)) in
     let g = rw (v .as-long, v .record-is, v .line-is) at (t .ensures) in
-    let q : i + 1 ≤ length (a .piece .now) = omega (arith, c .before .before .before .before .before .before .before .before .before .before .before .before .before .loop-test) in
+    let q : i + 1 ≤ length (a .piece .now) = omega (
+      arith,
+      c .before .before .before .before .before .before .before .before .before .before .before .before .before .loop-test,
+    ) in
     record {
       within = q;
       end = refl;
@@ -90,7 +102,8 @@ returns-2 c =
     let piece = a .piece .now in
     let v = o .loop .inv in
     let e : o .loop .i ≡ length piece = omega arith in
-    let f = ap (λ (p : List ℕ). fed (length (a .line .now)) (a .rec .now) (take (a .n) (a .line .now)) p) (ap (λ (k : ℕ). take k piece) e ∙ take-length piece) in
+    let f = ap (λ (p : List ℕ). fed (length (a .line .now)) (a .rec .now) (take (a .n) (a .line .now)) p)
+    (ap (λ (k : ℕ). take k piece) e ∙ take-length piece) in
     (v .record-is ∙ ap (λ (f : Fed). f .after) f, v .line-is ∙ ap (λ (f : Fed). f .line) f)
 
 pub take-piece-spec : {M : Type 1} → statement M

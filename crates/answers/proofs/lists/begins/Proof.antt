@@ -28,7 +28,8 @@ returns-2 : tie.Need-returns-2
 returns-2 c =
     let a = c .before .before .before .before .before .args in
     let l = a .rec .now in
-    sym (begins-left width (membersIn l) (meaning l .link) (a .k) (a .s) (sym (c .before .before .before .is-member .ensures) ∙ not-false _ (c .before .before .if1 .left))
+    sym (begins-left width (membersIn l) (meaning l .link) (a .k) (a .s)
+    (sym (c .before .before .before .is-member .ensures) ∙ not-false _ (c .before .before .if1 .left))
     (sym (c .before .link .ensures) ∙ linkOf-some (c .before .link .result) (c .if2 .taken)))
 
 link-requires-2 : tie.Need-link-requires-2
@@ -38,7 +39,8 @@ returns-3 : tie.Need-returns-3
 returns-3 c =
     let a = c .before .before .before .before .before .before .args in
     let l = a .rec .now in
-    sym (begins-right width (membersIn l) (meaning l .link) (a .k) (a .s) (sym (c .before .before .before .before .is-member .ensures) ∙ not-false _ (c .before .before .before .if1 .left))
+    sym (begins-right width (membersIn l) (meaning l .link) (a .k) (a .s)
+    (sym (c .before .before .before .before .is-member .ensures) ∙ not-false _ (c .before .before .before .if1 .left))
     (sym (c .before .before .link .ensures) ∙ linkOf-none (c .before .before .link .result) (c .before .if2 .left))
     ∙ rw (← c .link2 .ensures) (is-there (c .link2 .result)))
 

@@ -63,7 +63,8 @@ loop-again c =
     let a = o .before .before .before .args in
     let rest = a .k - (o .loop .j + 1) in
     let e : a .k - o .loop .j ≡ suc rest = omega arith in
-    let d : c .before .before .before .bit .result ≡ oneIf (bit width (o .loop .j) (a .vector)) = one-if _ (c .before .before .before .bit .ensures .1) ∙ ap oneIf (c .before .before .before .bit .ensures .0) in
+    let d : c .before .before .before .bit .result ≡ oneIf (bit width (o .loop .j) (a .vector)) = one-if _ (c .before .before .before .bit .ensures .1)
+    ∙ ap oneIf (c .before .before .before .bit .ensures .0) in
     (omega arith, puts-more (rw (e, digits-more width (a .vector) rest (o .loop .j), ← d) at (o .loop .inv .1)) (c .before .before .byte .ensures))
 
 same-length-2 : tie.Need-same-length-2 Inv-loop μ-loop

@@ -20,7 +20,8 @@ returns c =
     let a = c .before .before .before .before .args in
     let l = a .rec .now in
     rw (c .before .before .shared-bits .ensures, c .before .shared-bits2 .ensures)
-    (sym (before-bits width (membersIn l) (a .k) (a .x) (a .y) (λ e. c .if1 .taken (c .before .before .shared-bits .ensures ∙ e ∙ sym (c .before .shared-bits2 .ensures)))))
+    (sym (before-bits width (membersIn l) (a .k) (a .x) (a .y)
+    (λ e. c .if1 .taken (c .before .before .shared-bits .ensures ∙ e ∙ sym (c .before .shared-bits2 .ensures)))))
 
 number-requires : tie.Need-number-requires
 number-requires c κs = search needs
@@ -32,7 +33,8 @@ returns-2 : tie.Need-returns-2
 returns-2 c =
     let a = c .before .before .before .before .before .before .args in
     let l = a .rec .now in
-    let e = sym (c .before .before .before .before .shared-bits .ensures) ∙ c .before .before .if1 .left ∙ c .before .before .before .shared-bits2 .ensures in
+    let e = sym (c .before .before .before .before .shared-bits .ensures) ∙ c .before .before .if1 .left
+    ∙ c .before .before .before .shared-bits2 .ensures in
     rw (c .before .number .ensures, c .number2 .ensures, ← number-bytes l (a .x) (search needs), ← number-bytes l (a .y) (search needs))
     (sym (before-number width (membersIn l) (a .k) (a .x) (a .y) e))
 

@@ -17,7 +17,8 @@ returns : tie.Need-returns
 returns c =
     let a = c .before .before .before .args in
     let l = a .rec .now in
-    sym (first-no-list width (membersIn l) (meaning l .link) (a .k) (linkOf (a .last)) (a .s) (linkOf (a .best)) (sym (c .before .begins .ensures) ∙ not-true _ (c .if1 .taken)))
+    sym (first-no-list width (membersIn l) (meaning l .link) (a .k) (linkOf (a .last)) (a .s) (linkOf (a .best))
+    (sym (c .before .begins .ensures) ∙ not-true _ (c .if1 .taken)))
 
 comes-after-requires : tie.Need-comes-after-requires
 comes-after-requires c κs = search needs
@@ -26,7 +27,8 @@ returns-2 : tie.Need-returns-2
 returns-2 c =
     let a = c .before .before .before .before .before .args in
     let l = a .rec .now in
-    sym (first-passed width (membersIn l) (meaning l .link) (a .k) (linkOf (a .last)) (a .s) (linkOf (a .best)) (sym (c .before .before .before .begins .ensures) ∙ not-false _ (c .before .before .if1 .left))
+    sym (first-passed width (membersIn l) (meaning l .link) (a .k) (linkOf (a .last)) (a .s) (linkOf (a .best))
+    (sym (c .before .before .before .begins .ensures) ∙ not-false _ (c .before .before .if1 .left))
     (sym (c .before .comes-after .ensures) ∙ not-true _ (c .if2 .taken)))
 
 earlier-requires : tie.Need-earlier-requires
@@ -37,7 +39,8 @@ returns-3 c =
     let a = c .before .before .before .before .before .before .args in
     let l = a .rec .now in
     c .earlier .ensures
-    ∙ sym (first-found width (membersIn l) (meaning l .link) (a .k) (linkOf (a .last)) (a .s) (linkOf (a .best)) (sym (c .before .before .before .before .begins .ensures) ∙ not-false _ (c .before .before .before .if1 .left))
+    ∙ sym (first-found width (membersIn l) (meaning l .link) (a .k) (linkOf (a .last)) (a .s) (linkOf (a .best))
+    (sym (c .before .before .before .before .begins .ensures) ∙ not-false _ (c .before .before .before .if1 .left))
     (sym (c .before .before .comes-after .ensures) ∙ not-false _ (c .before .if2 .left)))
 
 pub first-of-spec : {M : Type 1} → statement M

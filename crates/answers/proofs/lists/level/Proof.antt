@@ -62,8 +62,11 @@ loop-again c =
     let rest = seats - (o .loop .counter + 1) in
     let e : seats - o .loop .counter ≡ suc rest = omega arith in
     let f = linkOf-some x (c .before .before .before .before .if1 .left) in
-    let g = sym (c .before .before .before .before .before .next-first .ensures) ∙ f in
-    (omega arith, rw f (puts-more (rw (e, lists-more seats width (membersIn l) (meaning l .link) (a .k) rest (linkOf (o .loop .last)) x g) at (o .loop .inv .1)) (c .before .before .list .ensures)))
+    let g = sym (c .before .before .before .before .before .next-first .ensures) ∙ f in (
+      omega arith,
+      rw f (puts-more (rw (e, lists-more seats width (membersIn l) (meaning l .link) (a .k) rest (linkOf (o .loop .last)) x g) at (o .loop .inv .1))
+          (c .before .before .list .ensures)),
+    )
 
 same-length-2 : tie.Need-same-length-2 Inv-loop μ-loop
 same-length-2 c = puts-length (c .before .loop .inv .1)
@@ -75,7 +78,8 @@ returns-2 c =
     let a = o .before .before .before .args in
     let l = a .rec .now in
     let e : seats - o .loop .counter ≡ 0 = omega arith in
-    rw (← linkOf-none seats (omega arith)) (puts-none (rw (e, lists-zero seats width (membersIn l) (meaning l .link) (a .k) (linkOf (o .loop .last))) at (o .loop .inv .1)))
+    rw (← linkOf-none seats (omega arith)) (puts-none (rw (e, lists-zero seats width (membersIn l) (meaning l .link) (a .k) (linkOf (o .loop .last))) at
+    (o .loop .inv .1)))
 
 pub level-spec : {M : Type 1} → statement M
 level-spec =

@@ -36,15 +36,20 @@ same-length c = search needs
 returns : tie.Need-returns
 unfolding listText ascii
 returns c =
-    let a = c .before .before .before .before .before .before .before .before .before .before .before .before .before .before .before .before .before .before .before .before .before .before .before .before .before .before .before .args in
+    let g = c .before .before .before .before .before .before in
+    let f = g .before .before .before .before in
+    let e = f .before .before .before .before in
+    let d = e .before .before .before .before .before in
+    let b = d .before .before .before .before in
+    let a = b .before .before .before .before .args in
     let l = a .rec .now in
-    let v = vector-bytes l (a .s) (search needs) ∙ sym (c .before .before .before .before .before .before .before .before .before .before .before .before .before .before .before .before .vector .ensures) in
+    let v = vector-bytes l (a .s) (search needs) ∙ sym (e .before .before .vector .ensures) in
     rw (v, ← linkOf-some (a .s) (search needs))
-    (put-then (c .before .before .before .before .before .before .before .before .before .before .before .before .before .before .before .before .before .before .before .before .before .before .before .decimal .ensures)
-    (put-then (c .before .before .before .before .before .before .before .before .before .before .before .before .before .before .before .before .before .before .before .byte .ensures)
-    (put-then (c .before .before .before .before .before .before .before .before .before .before .before .before .before .before .bits .ensures)
-    (put-then (c .before .before .before .before .before .before .before .before .before .before .byte2 .ensures)
-    (put-then (c .before .before .before .before .before .before .numbers .ensures) (c .before .before .byte3 .ensures))))))
+    (put-then (b .decimal .ensures)
+    (put-then (d .byte .ensures)
+    (put-then (e .bits .ensures)
+    (put-then (f .byte2 .ensures)
+    (put-then (g .numbers .ensures) (c .before .before .byte3 .ensures))))))
 
 pub list-spec : {M : Type 1} → statement M
 list-spec =

@@ -39,8 +39,11 @@ loop-again : tie.Need-loop-again Inv-loop μ-loop
 loop-again c =
     let o = c .before .before in
     let a = o .before .before .args in
-    let l = a .rec .now in
-    (omega arith, c .first-of .ensures ∙ rw (o .loop .inv .1, add-one) (sym (next-more width (membersIn l) (meaning l .link) (a .k) (o .loop .s) (linkOf (a .last)))))
+    let l = a .rec .now in (
+      omega arith,
+      c .first-of .ensures ∙ rw (o .loop .inv .1, add-one)
+          (sym (next-more width (membersIn l) (meaning l .link) (a .k) (o .loop .s) (linkOf (a .last)))),
+    )
 
 returns : tie.Need-returns Inv-loop μ-loop
 returns c =

@@ -40,7 +40,8 @@ returns c =
     let o = c .before .before in
     let a = o .before .before .before .args in
     let l = a .rec .now in
-    puts-none (rw (linkOf-none (o .loop .seat) (c .if1 .taken), numbers-none (seatsIn l .number) (meaning l .link) (a .k) (seats - o .loop .counter)) at (o .loop .inv .1))
+    puts-none (rw (linkOf-none (o .loop .seat) (c .if1 .taken), numbers-none (seatsIn l .number) (meaning l .link) (a .k) (seats - o .loop .counter)) at
+    (o .loop .inv .1))
 
 byte-requires : tie.Need-byte-requires Inv-loop μ-loop
 byte-requires c κs = tt
@@ -69,10 +70,15 @@ loop-again c =
     let rest = seats - (o .loop .counter + 1) in
     let e : seats - o .loop .counter ≡ suc rest = omega arith in
     let h : s < seats = c .before .before .before .before .before .before .before .before .before .before .if1 .left in
-    let x : c .before .before .before .before .number .result ≡ seatsIn l .number s = c .before .before .before .before .number .ensures ∙ sym (number-bytes l s h) in
-    let p : Put (o .loop .out) (o .loop .at) ((32 ∷ []) ++ shown (seatsIn l .number s)) (c .before .before .before .decimal .last .0) (c .before .before .before .decimal .result) =
-    rw (← x) (put-then (c .before .before .before .before .before .before .before .before .byte .ensures) (c .before .before .before .decimal .ensures)) in
-    (omega arith, rw (c .link .ensures) (puts-more (rw (e, linkOf-some s h, numbers-more (seatsIn l .number) (meaning l .link) (a .k) rest s) at (o .loop .inv .1)) p))
+    let x : c .before .before .before .before .number .result ≡ seatsIn l .number s = c .before .before .before .before .number .ensures
+    ∙ sym (number-bytes l s h) in
+    let p : Put (o .loop .out) (o .loop .at) ((32 ∷ []) ++ shown (seatsIn l .number s)) (c .before .before .before .decimal .last .0)
+    (c .before .before .before .decimal .result) =
+    rw (← x) (put-then (c .before .before .before .before .before .before .before .before .byte .ensures) (c .before .before .before .decimal .ensures)) in (
+      omega arith,
+      rw (c .link .ensures) (puts-more (rw (e, linkOf-some s h, numbers-more (seatsIn l .number) (meaning l .link) (a .k) rest s) at
+          (o .loop .inv .1)) p),
+    )
 
 same-length-2 : tie.Need-same-length-2 Inv-loop μ-loop
 same-length-2 c = puts-length (c .before .loop .inv .1)

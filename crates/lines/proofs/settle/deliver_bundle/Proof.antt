@@ -22,7 +22,8 @@ same-length c = search needs
 
 returns : tie.Need-returns
 returns c =
-    let e = sym (c .before .before .before .before .before .bundle .ensures .0) ∙ ap (λ a. bundleOutcome a (c .before .before .before .before .before .bundle .last .0)) (c .before .n .given .1) in
+    let e = sym (c .before .before .before .before .before .bundle .ensures .0)
+    ∙ ap (λ a. bundleOutcome a (c .before .before .before .before .before .bundle .last .0)) (c .before .n .given .1) in
     (ap (λ (o : BundleOutcome). eqb (o .delivered) 65535) (sym e), ap (λ (o : BundleOutcome). o .after) (sym e))
 
 same-length-2 : tie.Need-same-length-2
@@ -30,7 +31,8 @@ same-length-2 c = search needs
 
 returns-2 : tie.Need-returns-2
 returns-2 c =
-    let e = sym (c .before .before .before .before .bundle .ensures .0) ∙ ap (λ a. bundleOutcome a (c .before .before .before .before .bundle .last .0)) (c .enum-told .given .1) in
+    let e = sym (c .before .before .before .before .bundle .ensures .0)
+    ∙ ap (λ a. bundleOutcome a (c .before .before .before .before .bundle .last .0)) (c .enum-told .given .1) in
     (ap (λ (o : BundleOutcome). eqb (o .delivered) 65535) (sym e), ap (λ (o : BundleOutcome). o .after) (sym e))
 
 pub deliver-bundle-spec : {M : Type 1} → statement M

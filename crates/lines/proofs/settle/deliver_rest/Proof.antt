@@ -37,8 +37,11 @@ loop-again : tie.Need-loop-again Inv-loop μ-loop
 loop-again c =
     let o = c .before .before .before .before .before in
     let d = c .before .before .before .deliver-bundle in
-    let l = o .loop .rec in
-    (rw (d .ensures .1) (settled-after l (o .loop .inv .1) 65535) ∙ o .loop .inv .0, λ j. omega (arith, c .before .slice-known2 .given j), d .kept .0 ∙ o .loop .inv .2)
+    let l = o .loop .rec in (
+      rw (d .ensures .1) (settled-after l (o .loop .inv .1) 65535) ∙ o .loop .inv .0,
+      λ j. omega (arith, c .before .slice-known2 .given j),
+      d .kept .0 ∙ o .loop .inv .2,
+    )
 
 same-length : tie.Need-same-length Inv-loop μ-loop
 same-length c = c .before .before .before .deliver-bundle .kept .0 ∙ c .before .before .before .before .before .loop .inv .2
@@ -48,7 +51,11 @@ returns c =
     let o = c .before .before .before .before .before in
     let r = c .before .before .before .deliver-bundle .ensures in
     let l = o .loop .rec in
-    let few : bundled l 65535 .delivered < 65535 = omega (arith, bundle-limit l 65535, eqb-false (bundled l 65535 .delivered) 65535 (sym (r .0) ∙ c .if1 .left)) in
+    let few : bundled l 65535 .delivered < 65535 = omega (
+      arith,
+      bundle-limit l 65535,
+      eqb-false (bundled l 65535 .delivered) 65535 (sym (r .0) ∙ c .if1 .left),
+    ) in
     r .1 ∙ sym (settled-less l (o .loop .inv .1) 65535 few) ∙ o .loop .inv .0
 
 pub deliver-rest-spec : {M : Type 1} → statement M

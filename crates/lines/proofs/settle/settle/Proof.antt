@@ -36,7 +36,8 @@ returns c =
     let e = sym (b .ensures .0) ∙ ap (λ a. bundleOutcome a (b .last .0)) q in
     let d = ap (λ (o : BundleOutcome). o .delivered) e in (
       ap (λ (o : BundleOutcome). o .refused) (sym e) ∙ same-refusal l 65535,
-      ap (λ (o : BundleOutcome). o .after) (sym e) ∙ sym (settled-less l (λ j. omega (arith, c .before .before .before .before .before .before .before .slice-known .given j)) 65535 (omega (arith, d))),
+      ap (λ (o : BundleOutcome). o .after) (sym e) ∙ sym (settled-less l
+          (λ j. omega (arith, c .before .before .before .before .before .before .before .slice-known .given j)) 65535 (omega (arith, d))),
       subst BundleNumbered q (b .ensures .1),
     )
 
@@ -47,11 +48,12 @@ returns-2 : tie.Need-returns-2
 unfolding numberOf
 returns-2 c =
     let b = c .before .before .before .before .before .before .before .before .before .before .bundle in
-    let l = c .before .before .before .before .before .before .before .before .before .before .before .before .before .args .rec .now in
+    let k = c .before .before .before .before .before .before .before .before .before .before .before .before in
+    let l = k .before .args .rec .now in
     let e = sym (b .ensures .0) ∙ ap (λ a. bundleOutcome a (b .last .0)) (c .before .before .before .before .before .before .n2 .given .1) in (
       ap (λ (o : BundleOutcome). o .refused) (sym e) ∙ same-refusal l 65535,
       c .before .before .deliver-rest .ensures ∙ ap (λ (o : BundleOutcome). settled (o .after) .after) (sym e)
-          ∙ settled-after l (λ j. omega (arith, c .before .before .before .before .before .before .before .before .before .before .before .before .slice-known .given j)) 65535,
+          ∙ settled-after l (λ j. omega (arith, k .slice-known .given j)) 65535,
       tt,
     )
 
@@ -67,7 +69,8 @@ returns-3 c =
     let d = ap (λ (o : BundleOutcome). o .delivered) e in (
       ap (λ (o : BundleOutcome). o .refused) (sym e) ∙ same-refusal l 65535,
       ap (λ (o : BundleOutcome). o .after) (sym e)
-          ∙ sym (settled-less l (λ j. omega (arith, c .before .before .before .before .before .before .before .before .slice-known .given j)) 65535 (omega (arith, d, bundle-limit l 65535, c .if1 .left))),
+          ∙ sym (settled-less l (λ j. omega (arith, c .before .before .before .before .before .before .before .before .slice-known .given j)) 65535
+          (omega (arith, d, bundle-limit l 65535, c .if1 .left))),
       tt,
     )
 
