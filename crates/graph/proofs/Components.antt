@@ -30,7 +30,7 @@ joined-member (turned j) = ((joined-member j).1, (joined-member j).0)
 joined-member (through i j) = (λ m. (joined-member j).0 ((joined-member i).0 m), λ m. (joined-member i).1 ((joined-member j).1 m))
 
 module _ {W : ℕ} {G : Lots} {L : Links} (c : Constraints W G L) where
-  walk-joined : {j x z : ℕ} {d : Side} → T (G.member x) → Walk L 0 d j x z → Joined W G L x z
+  walk-joined : {d : Side} {j x z : ℕ} → T (G.member x) → Walk L 0 d j x z → Joined W G L x z
   walk-joined m here = same
   walk-joined {d = d} m (there {x = x} {y = y} e w) = let n = c.within x 0 y d m (omega arith) e in
       through (linked {k = 0} m n (omega arith) e) (walk-joined n w)

@@ -88,7 +88,7 @@ module _ {N W : ℕ} {G : Lots} {L : Links} (laws : Laws N G) (g : IsGraph N W G
   reach-graph {x} {z = z} m l p s = reached (suc (distance (G.number x) (G.number z))) (omega arith) m l p s
 
   -- and only those are
-  pub walk-list : {x k j z : ℕ} {d : Side} → T (G.member x) → k ≤ W → Walk L k d j x z → InList W G k x z
+  pub walk-list : {k : ℕ} {d : Side} {j x z : ℕ} → T (G.member x) → k ≤ W → Walk L k d j x z → InList W G k x z
   walk-list m l here = list-refl m l
   walk-list m l (there e w) = let q = nearest-list (link-nearest m l e) in list-trans q (walk-list q.member l w)
 

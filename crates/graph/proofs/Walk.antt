@@ -97,7 +97,7 @@ module _ {W : ℕ} {G : Lots} {L : Links} (sorted : Sorted W G L) {k : ℕ} (l :
       omega (arith, walk-length n w, distance-less (sorted.order m l e) (walk-beyond n w))
 
 -- the way back
-pub walk-reverse : {W k j x z : ℕ} {G : Lots} {L : Links} {d : Side} → Constraints W G L → k ≤ W → T (G.member x)
+pub walk-reverse : {W k : ℕ} {G : Lots} {L : Links} {d : Side} {j x z : ℕ} → Constraints W G L → k ≤ W → T (G.member x)
     → Walk L k d j x z → Walk L k (opp d) j z x
 walk-reverse c l m here = here
 walk-reverse {k = k} {d = d} c l m (there {x = x} {y = y} e w) =
