@@ -11,4 +11,4 @@ overflow_sub-x c = and_le_l _ _
 pub returns : goal.returns
 returns c =
     let a = c.args in
-    clear-word a.rec.now a.base a.i (λ j. omega (arith, c.type_inv.rec j)) (search rules) c.word-x.ensures c.put_word.ensures
+    clear-word a.rec.now a.base a.i (λ j. omega (arith, c.slice_known-1.given j)) (search rules) c.word-x.ensures c.put_word.ensures

@@ -28,10 +28,8 @@ overflow_sub-rest c = first-within 64 c.word-x.result (some (goal.at.overflow_su
 pub returns : goal.returns
 returns c =
     let l = c.args.rec.now in
-    let known : AreBytes l = λ j. omega (arith, c.type_inv.rec j) in (
-      word_first l c.args.base c.args.w known (search rules) c.requires.1 c.word-x.ensures,
-      (
-        first-cleared l c.args.base c.args.w known (search rules) c.requires.1 c.word-x.ensures c.put_word.ensures,
-        rest-none l c.args.base c.args.w known (search rules) c.requires.1 c.word-x.ensures c.put_word.ensures,
-      ),
-    )
+    let known : AreBytes l = λ j. omega (arith, c.slice_known-1.given j) in record {
+      bit = word_first l c.args.base c.args.w known (search rules) c.requires.1 c.word-x.ensures;
+      cleared = first-cleared l c.args.base c.args.w known (search rules) c.requires.1 c.word-x.ensures c.put_word.ensures;
+      last = rest-none l c.args.base c.args.w known (search rules) c.requires.1 c.word-x.ensures c.put_word.ensures;
+    }

@@ -7,4 +7,4 @@ use Rattle.memory.proofs.set_bit.Goals as goal
 pub returns : goal.returns
 returns c =
     let a = c.args in
-    set_word a.rec.now a.base a.i (λ j. omega (arith, c.type_inv.rec j)) (search rules) c.word-x.ensures c.put_word.ensures
+    set_word a.rec.now a.base a.i (λ j. omega (arith, c.slice_known-1.given j)) (search rules) c.word-x.ensures c.put_word.ensures
