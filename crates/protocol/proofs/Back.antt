@@ -11,7 +11,7 @@ use Rattle.base.proofs.Tests.{none-some}
 use Rattle.protocol.specs.Message.{Msg, meet}
 use Rattle.protocol.proofs.World.{World, State, seat-tri}
 use Rattle.protocol.proofs.Delivery.{link-cases, link-kept}
-use Rattle.protocol.proofs.Open.{no_old, far, on, back, hand, Sets, sets, Opened, Proper, ok-pair}
+use Rattle.protocol.proofs.Open.{no_old, far, on, back, hand, Sets, sets, Opened, Proper, ok-pair, meet-lot}
 
 module _ (G : World) where
   -- what has become of a delivered MEET(x, y, k)
@@ -43,13 +43,13 @@ module _ {G : World} where
     where
       same : {o : ℕ} → o ≡ y → (S'.link x k d ≡ some o) ⊎ ((v : Option ℕ) × Sets G S (meet x y k) x k d v) → Met G S' x y k d
       same q (inl f) = linked (f ∙ ap some q)
-      same q (inr (v, sets l' o')) = linked (t.moved (sets l' o'))
+      same q (inr (v, s)) = linked (t.moved s ∙ meet-lot s)
 
       near : {o : ℕ} → S.link x k d ≡ some o → Lt G.num d o y
           → (S'.link x k d ≡ some o) ⊎ ((v : Option ℕ) × Sets G S (meet x y k) x k d v)
           → Met G S' x y k d
       near {o} e n (inl f) = passed o f (h.link_side e) n (t.came (on l e n))
-      near e n (inr (v, sets l' o')) = linked (t.moved (sets l' o'))
+      near e n (inr (v, s)) = linked (t.moved s ∙ meet-lot s)
 
       tri : (o : ℕ) → S.link x k d ≡ some o → (o ≡ y) ⊎ (Lt G.num d o y ⊎ Lt G.num d y o) → Met G S' x y k d
       tri o e (inl q) = same q (link-kept t e)

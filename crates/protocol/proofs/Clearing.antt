@@ -103,6 +103,8 @@ module _ {G : World} {Stay : ℕ → Type 0} where
 
   sends-ok : {L : Links} {S : State} {m n : Msg} → AllLinks G Stay L → Clearing G Stay L S → Ok G Stay m → Sends G Stay S m n → Ok G Stay n
   sends-ok b c (ok-going sx w) (asks st e) = let g = good b c st e in ok-seek st g.pair g.side g.near
+  sends-ok b c (ok-found st l q) s = elim s [ ]
+  sends-ok b c (ok-none sx w st q) s = elim s [ ]
   sends-ok b c (ok-seek st p l near) (answers sz) = ok-found st l (nearest p sz l near)
   sends-ok b c (ok-seek {z} {x} {k} {d} st p l near) (passes {w = w} ns l' e) =
       let f = sym (c.leaver z k d ns) ∙ (rw (lt-side l' l) at e) in
@@ -115,10 +117,14 @@ module _ {G : World} {Stay : ℕ → Type 0} where
   sets-stay : {S : State} {m : Msg} {x k : ℕ} {d : Side} {o : Option ℕ} → Ok G Stay m → Sets G Stay S m x k d o → Stay x
   sets-stay (ok-found st l b) (to-found l') = st
   sets-stay (ok-none sx w st b) to_none = st
+  sets-stay (ok-going sx w) s = elim s [ ]
+  sets-stay (ok-seek st p l near) s = elim s [ ]
 
   sets-target : {S : State} {m : Msg} {x k : ℕ} {d : Side} {o : Option ℕ} → Ok G Stay m → Sets G Stay S m x k d o → Target G Stay k x d o
   sets-target {x = x} {k = k} (ok-found {z = z} st l b) (to-found l') = subst (λ (a : Side). Target G Stay k x a (some z)) (lt-side l l') b
   sets-target (ok-none sx w st b) to_none = b
+  sets-target (ok-going sx w) s = elim s [ ]
+  sets-target (ok-seek st p l near) s = elim s [ ]
 
   set-target : {L : Links} {S S' : State} {m : Msg} {x k : ℕ} {d : Side} {o : Option ℕ} → Clearing G Stay L S → Cleared G Stay S m S'
       → Sets G Stay S m x k d o → Target G Stay k x d (S'.link x k d)

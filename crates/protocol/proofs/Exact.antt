@@ -56,15 +56,15 @@ pub data Path (S : State) (k : ℕ) (d : Side) : ℕ → ℕ → Type 0 where
   here : {x : ℕ} → Path S k d x x
   there : {x y z : ℕ} → S.link x k d ≡ some y → Path S k d y z → Path S k d x z
 
-path-app : {S : State} {k x y z : ℕ} {d : Side} → Path S k d x y → Path S k d y z → Path S k d x z
+path-app : {S : State} {k : ℕ} {d : Side} {x y z : ℕ} → Path S k d x y → Path S k d y z → Path S k d x z
 path-app here q = q
 path-app (there e p) q = there e (path-app p q)
 
-path-rev : {S : State} {k x y : ℕ} {d : Side} → Sym S → Path S k d x y → Path S k (opp d) y x
+path-rev : {S : State} {k : ℕ} {d : Side} {x y : ℕ} → Sym S → Path S k d x y → Path S k (opp d) y x
 path-rev h here = here
 path-rev h (there e p) = path-app (path-rev h p) (there (h.back e) here)
 
-path-det : {S : State} {k x y z : ℕ} {d : Side} → Path S k d x y → Path S k d x z → Path S k d y z ⊎ Path S k d z y
+path-det : {S : State} {k : ℕ} {d : Side} {x y z : ℕ} → Path S k d x y → Path S k d x z → Path S k d y z ⊎ Path S k d z y
 path-det here q = inl q
 path-det (there e p) here = inr (there e p)
 path-det {S} {k} {d = d} (there {y = v} e p) (there {y = w} {z = z} f q) =
@@ -107,7 +107,7 @@ module _ (G : World) where
     pub last : {x : ℕ} {d : Side} → S.link x k d ≡ none → (z : ℕ) → Pair G k x z → Lt G.num d x z → ⊥
 
 module _ {G : World} where
-  path-lt : {S : State} {k x y : ℕ} {d : Side} → Proper G S → Path S k d x y → (x ≡ y) ⊎ Lt G.num d x y
+  path-lt : {S : State} {k : ℕ} {d : Side} {x y : ℕ} → Proper G S → Path S k d x y → (x ≡ y) ⊎ Lt G.num d x y
   path-lt h here = inl refl
   path-lt h (there e p) = inr (lt-then (h.link_side e) (path-lt h p))
 
@@ -214,7 +214,7 @@ module _ {G : World} {S : State} where
       by (yes p) = rec z 0 (ctrans n (quiet-done q (i.seg (since-seg sy s e p)))) (share-trans G (suc k) z c b (rw (share-sym G z c) p) l) since-new
       by (no p) = rec c (suc m) n l (since-more s e p)
 
-  walk : {k a b c m x : ℕ} {d : Side} → Sym S → Quiet S → Segments G S → Path S k d x b → Conn S (suc k) a c → k < share G c b
+  walk : {k : ℕ} {d : Side} {a b c m x : ℕ} → Sym S → Quiet S → Segments G S → Path S k d x b → Conn S (suc k) a c → k < share G c b
       → Since G S k d c m x
       → Conn S (suc k) a b
   walk {m = m} sy q i here n l s = walk_end m n l s

@@ -87,9 +87,14 @@ module _ {N W : ℕ} {M : Meaning} (h : Sound N W M) where
       let q = link-linked h e in
       p-seek (two-via q.0 t (lt-ne' (lt_trans l q.1))) s
   sends-proper (p-seek t s) (Clearing.gives_up {d = d} ns l e) = p-none {d = d} s (two-level t)
+  sends-proper (p-found t s u) q = elim q [ ]
+  sends-proper (p-none s w) q = elim q [ ]
 
   sets-linked : {m : Msg} {x k y : ℕ} {d : Side} → Proper W r clearing m → Clearing.Sets G (Stayer r) (state_of M) m x k d (some y) → Linked W r x k d y
   sets-linked (p-found t s u) (Clearing.to-found l) = (t, l)
+  sets-linked (p-going s w) q = elim q [ ]
+  sets-linked (p-seek t s) q = elim q [ ]
+  sets-linked (p-none s w) q = elim q [ ]
 
   clearing-fits : {m : Msg} → Proper W r clearing m → Fits W M clearing m
   clearing-fits {m} p = record { sends = λ n i. sends-proper p (does.mem i); links = λ k y d f. sets-linked p (does.sets f) }

@@ -72,9 +72,18 @@ module _ {G : World} where
 
   pub sets-pair : {S : State} {m : Msg} {x k y : ℕ} {d : Side} → Ok G m → Sets G S m x k d (some y) → Pair G k x y
   sets-pair (ok-meet p ne) (sets l o) = p
+  sets-pair (ok-probe p ne w) s = elim s [ ]
+  sets-pair (ok-pull s w) t = elim t [ ]
 
   pub sets-side : {S : State} {m : Msg} {x k y : ℕ} {d : Side} → Sets G S m x k d (some y) → Lt G.num d x y
   sets-side (sets l o) = l
+
+  -- what a MEET sets is a link to its lot, on a side where that lies
+  pub meet-lot : {S : State} {x y k a j : ℕ} {c : Side} {v : Option ℕ} → Sets G S (meet x y k) a j c v → v ≡ some y
+  meet-lot (sets l o) = refl
+
+  pub meet-side : {S : State} {x y k a j : ℕ} {c : Side} {v : Option ℕ} → Sets G S (meet x y k) a j c v → Lt G.num c x y
+  meet-side (sets l o) = l
 
   -- a link that is y or nearer is not old
   pub not-old : {S : State} {x y k o : ℕ} {d : Side} {A : Type 0} → S.link x k d ≡ some o → (o ≡ y) ⊎ Lt G.num d o y → Old G S x k d y → A

@@ -113,13 +113,13 @@ module _ (G : World) (S : State) (st : SeatState) where
   meet_right {x} {y} {k} {d} l (beyond {o} e n) =
       let t : on_side d (G.num o) (G.num y) ≡ true = T_true (lt-on G.num n) in
       let ons : Sends G S (meet x y k) (meet o y k) = on l e n in
-      rw (side-of G.num l, e, ne_eqb o y (lt-ne n), t)
+      rw (side-of G.num l, e, ne_eqb o y (lt-ne n), side-of G.num l, t)
       (keeps-right refl (λ a j c v s. none-set l e (inr n) s) (λ m s. Memᴰ.cast (beyond-sends e n (meet-sends l s)) (search is-sent))
       (search all-sent))
-  meet_right {x} {y} {k} {d} l (nearer (no_old e)) = rw (side-of G.num l, e) (sets_it x y k d l (no_old e))
+  meet_right {x} {y} {k} {d} l (nearer (no_old e)) = rw (side-of G.num l, e, side-of G.num l) (sets_it x y k d l (no_old e))
   meet_right {x} {y} {k} {d} l (nearer (far o e n)) =
       let f : on_side d (G.num o) (G.num y) ≡ false = not-T-false (λ t. lt-asym (on-lt G.num d o y t) n) in
-      rw (side-of G.num l, e, ne_eqb o y (lt-ne' n), f) (sets_it x y k d l (far o e n))
+      rw (side-of G.num l, e, ne_eqb o y (lt-ne' n), side-of G.num l, f) (sets_it x y k d l (far o e n))
 
   -- PROBE: the side away from y
   away : {x y : ℕ} {d : Side} → Lt G.num d y x → opp (side_of (G.num x) (G.num y)) ≡ d

@@ -13,7 +13,7 @@ use Rattle.graph.proofs.Order.{opp-opp}
 use Rattle.base.proofs.Tests.{dec-T, not-T-false, false-T, none-some}
 use Rattle.protocol.specs.Message.{Msg, going}
 use Rattle.base.specs.Loops.{any}
-use Rattle.protocol.specs.Rules.{SeatState, free, staying, leaving, is_staying}
+use Rattle.protocol.specs.Rules.{SeatState, free, staying, leaving, reserved, is_staying}
 use Rattle.protocol.specs.State.{Phase, open_phase, clearing, Seats, Meaning, is_seated, is_leaving, seated, stays, leaves}
 use Rattle.protocol.specs.Calls.{turn, seats_after, sends, takes, links_after, accept}
 use Rattle.protocol.specs.pages.Turn.{after_turn, farewell, farewells, turn_sends, turn_links}
@@ -72,6 +72,7 @@ seated-leaves r x t n = by (r.state x) t n
     by free t n = t
     by staying t n = absurd (n tt)
     by leaving t n = tt
+    by reserved t n = t
 
 leaves-off : (r : Seats) (x : ℕ) → T (stays r x) → leaves r x ≡ false
 leaves-off r x t = by (r.state x) t
@@ -80,6 +81,7 @@ leaves-off r x t = by (r.state x) t
     by free t = absurd t
     by staying t = refl
     by leaving t = absurd t
+    by reserved t = absurd t
 
 -- every leaver sends GOING to each of its links
 farewell-in : (N W : ℕ) (r : Seats) (L : Links) (y k x : ℕ) (d : Side) → y < N → k ≤ W → T (leaves r y) → L y k d ≡ some x
@@ -131,6 +133,7 @@ module _ (comp : ℕ → ℕ) {N W : ℕ} {M : Meaning} (h : Sound N W M) (q : Q
       by free t = t
       by staying t = t
       by leaving t = t
+      by reserved t = t
 
   stays-freed : (x : ℕ) → T (stays M.seats x) → T (seated r' x)
   unfolding after_turn
@@ -140,6 +143,7 @@ module _ (comp : ℕ → ℕ) {N W : ℕ} {M : Meaning} (h : Sound N W M) (q : Q
       by free t = t
       by staying t = t
       by leaving t = t
+      by reserved t = t
 
   shrinks : (l : Laws M.seats) (l' : Laws r') → Shrinks (world_of comp W M.seats l) (Stayer M.seats) (world_of comp W r' l')
   unfolding after_turn

@@ -12,7 +12,7 @@ use Rattle.graph.proofs.Order.{opp-opp, opp-lt, lt-asym}
 use Rattle.protocol.specs.Message.{Msg, probe, pull}
 use Rattle.protocol.proofs.World.{World, State, share, bit_of, share-sym, bit_up}
 use Rattle.protocol.proofs.Delivery.{link-cases}
-use Rattle.protocol.proofs.Open.{Sends, ask, call, up, pass, hit, go, Sets, sets, Opened, Proper, proper-kept}
+use Rattle.protocol.proofs.Open.{Sends, ask, call, up, pass, hit, go, Sets, sets, Opened, Proper, proper-kept, meet-side}
 use Rattle.protocol.proofs.Conn.{Conn, cmeet, csym, conn-kept}
 use Rattle.protocol.proofs.Segment.{Segment, Todo, out, home, pullb, pullf, Done, joined, todo, Segments, rev, seg-level, seg-bits, seg-lt}
 use Rattle.protocol.proofs.Segment.{seg-pair, seg-rev, done-rev}
@@ -109,7 +109,7 @@ module _ {G : World} {S : State} where
 
   -- one delivery does not set both links of a lot
   sets-one : {n : Msg} {x k : ℕ} {d : Side} {v w : Option ℕ} → Sets G S n x k d v → Sets G S n x k (opp d) w → ⊥
-  sets-one (sets l o) (sets l' o') = lt-asym l (opp-lt l')
+  sets-one (sets l o) s = lt-asym l (opp-lt (meet-side s))
 
 module _ {G : World} {S S' : State} {n : Msg} where
   -- a segment that the delivery completed: its new link is fwd i

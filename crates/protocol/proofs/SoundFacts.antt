@@ -48,9 +48,13 @@ stays-seated r x t = by (r.state x) t
     by free t = t
     by staying t = t
     by leaving t = tt
+    by reserved t = t
 
 pub is_free_lem : (s : SeatState) → T (is_free s) → s ≡ free
 is_free_lem free t = refl
+is_free_lem staying t = absurd t
+is_free_lem leaving t = absurd t
+is_free_lem reserved t = absurd t
 
 -- a seat with a lot is taken
 pub seated-taken : (r : Seats) (x : ℕ) → T (seated r x) → T (taken r x)
@@ -60,6 +64,7 @@ seated-taken r x t = by (r.state x) t
     by free t = t
     by staying t = tt
     by leaving t = tt
+    by reserved t = tt
 
 pub seated-held : (r : Seats) (x : ℕ) → seated r x ≡ true → taken r x ≡ true
 seated-held r x e = T_true (seated-taken r x (true-T e))
@@ -69,12 +74,18 @@ pub held-taken : (r : Seats) (x : ℕ) → held r x ≡ true → taken r x ≡ t
 held-taken r x e = by (r.state x) (true-T e)
   where
     by : (s : SeatState) → T (is_reserved s) → not (is_free s) ≡ true
+    by free t = absurd t
+    by staying t = absurd t
+    by leaving t = absurd t
     by reserved t = refl
 
 pub held-empty : (r : Seats) (x : ℕ) → held r x ≡ true → seated r x ≡ false
 held-empty r x e = by (r.state x) (true-T e)
   where
     by : (s : SeatState) → T (is_reserved s) → is_seated s ≡ false
+    by free t = absurd t
+    by staying t = absurd t
+    by leaving t = absurd t
     by reserved t = refl
 
 -- who is not seated does not stay
