@@ -103,8 +103,6 @@ module _ {G : World} {Stay : ℕ → Type 0} where
 
   sends-ok : {L : Links} {S : State} {m n : Msg} → AllLinks G Stay L → Clearing G Stay L S → Ok G Stay m → Sends G Stay S m n → Ok G Stay n
   sends-ok b c (ok-going sx w) (asks st e) = let g = good b c st e in ok-seek st g.pair g.side g.near
-  sends-ok b c (ok-found st l q) s = elim s [ ]
-  sends-ok b c (ok-none sx w st q) s = elim s [ ]
   sends-ok b c (ok-seek st p l near) (answers sz) = ok-found st l (nearest p sz l near)
   sends-ok b c (ok-seek {z} {x} {k} {d} st p l near) (passes {w = w} ns l' e) =
       let f = sym (c.leaver z k d ns) ∙ (rw (lt-side l' l) at e) in
@@ -113,6 +111,8 @@ module _ {G : World} {Stay : ℕ → Type 0} where
       let f = sym (c.leaver z k d ns) ∙ (rw (lt-side l' l) at e) in
       ok-none {k = k} p.fst (pair-level p) st
       (subst (λ (a : Side). Target G Stay k x a none) (lt-side l l') (nobody (past {A = λ v. ⊥} ns p near (b.last f))))
+  sends-ok b c (ok-found st l q) s = elim s [ ]
+  sends-ok b c (ok-none sx w st q) s = elim s [ ]
 
   sets-stay : {S : State} {m : Msg} {x k : ℕ} {d : Side} {o : Option ℕ} → Ok G Stay m → Sets G Stay S m x k d o → Stay x
   sets-stay (ok-found st l b) (to-found l') = st

@@ -86,8 +86,8 @@ calls =
 
 refused : refusals (log_of (meaning_run 3 2 calls).history)
     ≡ 9 ∷ 0 ∷ 11 ∷ 10 ∷ 10 ∷ 0 ∷ 10 ∷ 3 ∷ 0 ∷ 6 ∷ 3 ∷ 3 ∷ 5 ∷ 0 ∷ 0 ∷ 6 ∷ []
-unfolding refusals calls log_of meaning_run steps_from step steps opened nobody call unless_refused accept refusal rows first any is_pending seats_after at sends
-    takes is_taken pending_after delivery_sends links_after delivery_links applied rule effect setting meeting probing pulling parting passing
+unfolding refusals calls log_of meaning_run steps_from step steps opened nobody call unless_refused accept refusal rows first any is_pending seats_after at
+    sends takes is_taken pending_after delivery_sends links_after delivery_links applied rule effect setting meeting probing pulling parting passing
     seeking to_link on_side side_of bit equal_bits shared named if_zero if_bit same_msg among some_pending message_at split pair_at pull_at
     side_at
 refused = refl

@@ -1,7 +1,7 @@
 -- The invariant of phase open goes over into a world that has the old lots, with the old links and messages: one with the same lots, and one in which
 -- the MEET just sent ties two lots: a newcomer and its contact, or two components that become one. Assumes nothing.
 use Prim.Native.Nat.{ℕ, suc, ◌≤◌, ◌<◌}
-use mathlib.Core.Path.{◌≡◌, refl, sym, ◌∙◌, ap, subst}
+use mathlib.Core.Path.{◌≡◌, refl, sym, ◌∙◌, subst}
 use mathlib.Core.Logic.{◌⊎◌, inl, inr, ◌≢◌}
 use mathlib.Core.Option.{some}
 use native.Mathlib.Omega.{arith}

@@ -1,9 +1,8 @@
 -- The bound on deliveries is at most a number that depends on the seats and the width alone. Assumes nothing.
 use Prim.Native.Nat.{ℕ, zero, suc, ◌+◌, ◌*◌, ◌≤◌, ◌<◌}
-use mathlib.Core.Path.{◌≡◌, refl}
 use mathlib.Core.Option.{Option, none, some}
 use mathlib.Core.Bool.{Bool, true, false}
-use native.Mathlib.Nat.{mul-le-mul_left, suc-mul}
+use native.Mathlib.Nat.{mul-le-mul_left}
 use native.Mathlib.Omega.{arith}
 use Rattle.graph.specs.Side.{left, right, side_of}
 use Rattle.protocol.specs.Message.{Msg, meet, probe, pull, going, seek, found, none_found}
@@ -11,7 +10,7 @@ use Rattle.protocol.specs.Numbering.{count, message_at}
 use Rattle.protocol.specs.State.{Phase, open_phase, clearing, Meaning}
 use Rattle.protocol.specs.Sound.{Sound}
 use Rattle.protocol.proofs.Sum.{sum, weigh, mass}
-use Rattle.protocol.proofs.Measure.{numbers, rank, reach, reaches, weight, bound, room_most, dist-most, rank-meet, rank-probe, rank-pull}
+use Rattle.protocol.proofs.Measure.{numbers, rank, reach, reaches, weight, bound, room_most, dist-most}
 
 sum-most : (n : ℕ) (f : ℕ → ℕ) (c : ℕ) → ((i : ℕ) → f i ≤ c) → sum n f ≤ n * c
 unfolding sum

@@ -13,7 +13,7 @@ use Rattle.protocol.specs.Tied.{Uniting}
 use Rattle.protocol.proofs.World.{World}
 use Rattle.protocol.proofs.Join.{zero-pair, Near, Ties, invariant-tied}
 use Rattle.protocol.proofs.Accepted.{Merges}
-use Rattle.protocol.proofs.Reached.{Laws, sound-laws, world_of, Sane, in_open}
+use Rattle.protocol.proofs.Reached.{Laws, world_of, Sane, in_open}
 use Rattle.protocol.proofs.ReachedCalls.{meets-sent}
 
 -- what is of one component in one sense is in another, for lots

@@ -1,27 +1,27 @@
 -- The components of a reached meaning are those of its links and pending MEETs together, at every time: in phase open by the invariant; in clearing
 -- no MEET is pending, and each link of the graph before the turn is still there from one of its ends. Assumes nothing.
-use Prim.Native.Nat.{ℕ, ◌≤◌}
+use Prim.Native.Nat.{ℕ}
 use mathlib.Core.Path.{◌≡◌, refl, sym, ◌∙◌, ap}
 use mathlib.Core.Logic.{◌↔◌, ◌⊎◌, inl, inr}
-use mathlib.Core.Option.{Option, none, some}
+use mathlib.Core.Option.{Option, some}
 use lib.Dec.{T}
 use Rattle.graph.specs.Side.{Side, opp}
 use Rattle.graph.specs.Graph.{Links}
 use Rattle.graph.specs.inner.Order.{Lt}
-use Rattle.graph.proofs.Order.{lt-asym, lt-ne}
+use Rattle.graph.proofs.Order.{lt-asym}
 use Rattle.base.proofs.Tests.{dec-T, some_inj, none-some}
-use Rattle.protocol.specs.Message.{Msg, meet}
-use Rattle.protocol.specs.State.{Phase, open_phase, clearing, Meaning, seated, stays}
+use Rattle.protocol.specs.Message.{meet}
+use Rattle.protocol.specs.State.{Phase, Meaning, seated, stays}
 use Rattle.protocol.specs.Tied.{Tied, same, linked, met, turned, through}
-use Rattle.protocol.proofs.World.{World, State, Pair}
+use Rattle.protocol.proofs.World.{World, State}
 use Rattle.protocol.proofs.Delivery.{state_of}
-use Rattle.protocol.proofs.Open.{Proper, ok-pair}
+use Rattle.protocol.proofs.Open.{ok-pair}
 use Rattle.protocol.proofs.Conn.{Conn, crefl, clink, cmeet, csym, ctrans}
 use Rattle.protocol.proofs.Exact.{Exact}
 use Rattle.protocol.proofs.Invariant.{Invariant, exact-sym, exact-whole}
 use Rattle.protocol.proofs.Join.{zero-pair}
 use Rattle.protocol.proofs.Clearing.{Target, nobody, nearest, AllLinks, Ok, Clearing}
-use Rattle.protocol.proofs.Reached.{Laws, sound-laws, world_of, Stayer, Sane, in_open, in-clearing, Reached}
+use Rattle.protocol.proofs.Reached.{Laws, sound-laws, Sane, in_open, in-clearing, Reached}
 
 -- links and MEETs stay within the components
 record Inside (c : ℕ → ℕ) (M : Meaning) : Type 0 where
