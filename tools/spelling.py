@@ -75,13 +75,15 @@ def declared(top):
             line, _ = strip_comment(line, "--")
             if line and not line[0].isspace():
                 block = line if re.match(r"(pub )?(record|data)\b", line) else ""
+            for name in re.findall(r"◌? as (" + WORD + r")", line) if line.startswith("use ") and own(line[4:]) else []:
+                names.add(name)
+            several = re.match(r"^\s+((?:" + WORD + r" )+)" + WORD + r" :(?!\S)", line) if block.lstrip("pub ").startswith("data") else None
             m = SIGNATURE.match(line) or re.match(r"^\s*\| (" + WORD + r")", line)
-            if not m:
-                continue
-            name = m.group(1)
-            if "/specs/" in path or block:
-                STATED.add(name)
-            names.add(name)
+            found = several.group(0).split()[:-1] if several else [m.group(1)] if m else []
+            for name in found:
+                if "/specs/" in path or block:
+                    STATED.add(name)
+                names.add(name)
     return {n for n in names if respellable(n)}
 
 

@@ -8,7 +8,7 @@ use lib.ListN.{length}
 use Rattle.base.specs.Loops.{any}
 use Rattle.graph.specs.Side.{on_side, side_of}
 use Rattle.graph.specs.Vector.{bit, equal_bits, shared}
-use Rattle.graph.specs.Graph.{in_list, beside as besideIn, nearer, nearest, graph}
+use Rattle.graph.specs.Graph.{in_list, beside as beside_in, nearer, nearest, graph}
 use Rattle.protocol.specs.Message.{name, if_zero, if_bit, named, same_msg, among}
 use Rattle.protocol.specs.Numbering.{pair_at, pull_at, side_at, split, message_at, some_pending}
 use Rattle.protocol.specs.Rules.{to_link, setting, meeting, probing, pulling, parting, passing, seeking, effect}
@@ -47,5 +47,5 @@ unfolding links left-Q after settled-Q joined-Q drained bundled bundle_of left_b
     after_turn each farewell farewells turn_sends unlinked turn_links meaning_run steps_from step steps opened nobody call unless_refused
     accept refusal rows first any is_pending seats_after at sends takes is_taken pending_after delivery_sends links_after delivery_links
     applied rule effect setting meeting probing pulling parting passing seeking to_link on_side side_of bit equal_bits shared named if_zero
-    if_bit same_msg among some_pending message_at split pair_at pull_at side_at graph nearest nearer besideIn in_list member
+    if_bit same_msg among some_pending message_at split pair_at pull_at side_at graph nearest nearer beside_in in_list member
 case-k = refl

@@ -14,7 +14,7 @@ use Rattle.base.specs.Loops.{all}
 use Rattle.base.proofs.Cases.{eq-or-ne}
 use Rattle.memory.specs.Bits.{has_bit}
 use Rattle.graph.specs.Side.{Side, left, right, side_number, side_of_number}
-use Rattle.protocol.specs.Rules.{set as linkTo}
+use Rattle.protocol.specs.Rules.{set as link_to}
 use Rattle.protocol.specs.State.{Meaning}
 use Rattle.protocol.specs.Freeing.{unlinked, unlinking}
 use Rattle.protocol.specs.pages.Deliver.{applied}
@@ -88,11 +88,11 @@ module _ (set : ℕ) where
         bytes_same (same-links refl refl (λ y j c p q. by y j c q (eq-or-ne (link_place y j (side_number c)) here)))
         ∙ bytes-with_link (freed_to set s here M) x k d o h g n
       where
-        at_here : (freed_to set s (here + 1) M).link x k d ≡ applied x (linkTo k d o) (freed_to set s here M).link x k d
+        at_here : (freed_to set s (here + 1) M).link x k d ≡ applied x (link_to k d o) (freed_to set s here M).link x k d
         at_here = rw (lt-ltb here (here + 1) (omega arith)) (e ∙ sym (applied-at x k d o (freed_to set s here M).link))
 
         by : (y j : ℕ) (c : Side) → j < levels → (link_place y j (side_number c) ≡ here) ⊎ (link_place y j (side_number c) ≡ here → ⊥)
-            → (freed_to set s (here + 1) M).link y j c ≡ applied x (linkTo k d o) (freed_to set s here M).link y j c
+            → (freed_to set s (here + 1) M).link y j c ≡ applied x (link_to k d o) (freed_to set s here M).link y j c
         by y j c q (inl f) =
             let i = place-once x k y j d c g q f in
             let a = i.0 in
@@ -107,7 +107,7 @@ module _ (set : ℕ) where
             let b : j ≡ k = cc in
             let v : c ≡ d = cc in
             absurd (f (rw (a, b, v))))
-            (applied-frame x (linkTo k d o) (freed_to set s here M).link y j c)))
+            (applied-frame x (link_to k d o) (freed_to set s here M).link y j c)))
 
     module _ {l : List ℕ} (e : l ≡ bytes_of (freed_to set s here M)) (b : ℕ) (f : b ≡ get_or l (link_at x k d) 0) where
       -- the byte as the test of the code has it

@@ -28,7 +28,7 @@ use Rattle.protocol.proofs.Accepted.{deliver-row}
 use Rattle.protocol.proofs.Local.{delivery-local, entry-local, one_link, link_set, pending-exactly}
 use Rattle.record.specs.Layout.{seats, levels, state_offset, number_offset, vector_offset, links_offset, link_size, entry_size, entry_at, link_at, pending_from, size}
 use Rattle.record.specs.Local.{AgreeBytes, Outside, BesideLink}
-use Rattle.record.specs.Cell.{Cell, phase_cell, stateCell, numberCell, vectorCell, link_cell, pending_cell, cell_from, cell_size}
+use Rattle.record.specs.Cell.{Cell, phase_cell, state_cell, number_cell, vector_cell, link_cell, pending_cell, cell_from, cell_size}
 use Rattle.record.specs.inner.Cell.{InRecord}
 use Rattle.record.specs.Meaning.{meaning, state_byte, link_byte, value_of, bytes_of}
 use Rattle.record.proofs.Places.{get_d-bytes_of}
@@ -96,9 +96,9 @@ module _ (l : List ℕ) (b : AreBytes l) (m : Msg) (e : (called l (deliver (name
   agree : (c : Cell) (j : ℕ) → InRecord c → j < cell_size c → Stays (cell_from c + j) → value_of after c ≡ value_of M c
   unfolding accept seats_after
   agree phase_cell j p h q = refl
-  agree (stateCell s) j p h q = refl
-  agree (numberCell s) j p h q = refl
-  agree (vectorCell s) j p h q = refl
+  agree (state_cell s) j p h q = refl
+  agree (number_cell s) j p h q = refl
+  agree (vector_cell s) j p h q = refl
   agree (link_cell s k d) j p h q = ap link_byte (⊎_elim (λ e. e) (λ (o, e, r). absurd (apart e (q.1 k d o r))) (one_link seats width M m s k d))
     where
       -- it would be the link that is set
@@ -182,11 +182,11 @@ module _ (l l' : List ℕ) (b : AreBytes l) (b' : AreBytes l') (m : Msg) (e : (c
 
   own : (c : Cell) (j : ℕ) → InRecord c → j < cell_size c → Own (cell_from c + j) → value_of left c ≡ value_of left' c
   own phase_cell j p h q = absurd (omega (arith, q.0))
-  own (stateCell s) j p h q =
+  own (state_cell s) j p h q =
       ap (λ (x : Entry). state_byte x.state) (entry-same s (same-seat s _ (state_offset + j) (omega arith) (omega (arith, q.0)) (omega (arith, q.1))))
-  own (numberCell s) j p h q =
+  own (number_cell s) j p h q =
       ap (λ (x : Entry). x.number) (entry-same s (same-seat s _ (number_offset + j) (omega arith) (omega (arith, q.0)) (omega (arith, q.1))))
-  own (vectorCell s) j p h q =
+  own (vector_cell s) j p h q =
       ap (λ (x : Entry). x.vector) (entry-same s (same-seat s _ (vector_offset + j) (omega arith) (omega (arith, q.0)) (omega (arith, q.1))))
   own (link_cell s k d) j p h q =
       let o = side_number-lt d in

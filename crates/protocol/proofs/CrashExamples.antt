@@ -10,7 +10,7 @@ use Rattle.base.specs.Loops.{any, first_from}
 use Rattle.base.specs.Bits.{bit_of}
 use Rattle.graph.specs.Side.{right, on_side, side_of}
 use Rattle.graph.specs.Vector.{bit, equal_bits, shared}
-use Rattle.graph.specs.Graph.{in_list, beside as besideIn, nearer, nearest, graph}
+use Rattle.graph.specs.Graph.{in_list, beside as beside_in, nearer, nearest, graph}
 use Rattle.graph.specs.Components.{names, links_to, linked_with, joined_below, component_of}
 use Rattle.protocol.specs.Message.{Msg, meet, if_zero, if_bit, named, same_msg, among}
 use Rattle.protocol.specs.Numbering.{pair_at, pull_at, side_at, split, message_at, some_pending}
@@ -91,7 +91,7 @@ evaluated : Evaluated
 unfolding settled-Q cut-Q left-Q cleared-Q apart one-sided two-joined other-vectors components refused four
     links all_among count_of same-messages joined-Q after bundled drained bundle_of left_by onward smallest_from smallest_of smaller
     before or_next components_after cut component_of joined_below linked_with links_to names first_from roster_of roster_after log_of
-    graph nearest nearer besideIn in_list member introduced introductions unlinked bit_of after_turn farewell farewells turn_sends turn_links
+    graph nearest nearer beside_in in_list member introduced introductions unlinked bit_of after_turn farewell farewells turn_sends turn_links
     meaning_run steps_from step steps opened nobody call unless_refused accept refusal rows first any is_pending seats_after at each
     sends takes is_taken pending_after delivery_sends links_after delivery_links applied rule effect setting meeting probing pulling
     parting passing seeking to_link on_side side_of bit equal_bits shared named if_zero if_bit same_msg among some_pending message_at split

@@ -9,7 +9,7 @@ use mathlib.Core.List.{List, [], ◌∷◌}
 use lib.Dec.{eqb}
 use Rattle.graph.specs.Side.{Side, left, right, on_side, side_of}
 use Rattle.graph.specs.Vector.{bit, equal_bits, shared}
-use Rattle.graph.specs.Graph.{in_list, beside as besideIn, nearer, nearest, graph}
+use Rattle.graph.specs.Graph.{in_list, beside as beside_in, nearer, nearest, graph}
 use Rattle.protocol.specs.Message.{Msg, meet, probe, Name, name, if_zero, if_bit, named, same_msg, among}
 use Rattle.base.specs.Loops.{any}
 use Rattle.protocol.specs.Numbering.{pair_at, pull_at, side_at, split, message_at, some_pending}
@@ -113,7 +113,7 @@ links M =
     ∷ M.link 0 1 right ∷ M.link 2 1 left ∷ M.link 1 1 left ∷ M.link 1 1 right ∷ M.link 0 2 right ∷ []
 
 settled-links : links settled-Q ≡ some 1 ∷ some 0 ∷ some 2 ∷ some 1 ∷ some 2 ∷ some 0 ∷ none ∷ none ∷ none ∷ []
-unfolding links settled-Q joined-Q graph nearest nearer besideIn in_list member meaning_run steps_from step steps opened nobody call
+unfolding links settled-Q joined-Q graph nearest nearer beside_in in_list member meaning_run steps_from step steps opened nobody call
     unless_refused accept refusal rows first any is_pending seats_after at sends takes is_taken pending_after links_after on_side bit equal_bits
     shared
 settled-links = refl

@@ -13,7 +13,7 @@ use Rattle.memory.proofs.Digits.{digit-zero, digit-last}
 use Rattle.graph.specs.Side.{Side, side_number, side_of_number}
 use Rattle.protocol.proofs.Numbering.{side_number-lt}
 use Rattle.record.specs.Layout.{seats, levels, no_link, link_size, links_size, links_from, size}
-use Rattle.record.specs.Cell.{Cell, phase_cell, stateCell, numberCell, vectorCell, link_cell, pending_cell, cell_from, cell_size}
+use Rattle.record.specs.Cell.{Cell, phase_cell, state_cell, number_cell, vector_cell, link_cell, pending_cell, cell_from, cell_size}
 use Rattle.record.specs.inner.Cell.{InRecord, Holds}
 use Rattle.record.specs.inner.Opened.{opened_value, IsOpened}
 use Rattle.record.proofs.Places.{side_number-side}
@@ -93,8 +93,8 @@ links-all {l} b = record { sized = b.sized; cells = cells }
 
     cells : (c : Cell) → InRecord c → Holds l c (opened_value c)
     cells phase_cell p = zeros phase_cell p (λ x k d e. let z : ◌≡◌ {A = ℕ} 0 1 = cc in omega arith)
-    cells (stateCell s) p = zeros (stateCell s) p (λ x k d e. let z : ◌≡◌ {A = ℕ} 0 1 = cc in omega arith)
-    cells (numberCell s) p = zeros (numberCell s) p (λ x k d e. let z : ◌≡◌ {A = ℕ} 0 1 = cc in omega arith)
-    cells (vectorCell s) p = zeros (vectorCell s) p (λ x k d e. let z : ◌≡◌ {A = ℕ} 0 1 = cc in omega arith)
+    cells (state_cell s) p = zeros (state_cell s) p (λ x k d e. let z : ◌≡◌ {A = ℕ} 0 1 = cc in omega arith)
+    cells (number_cell s) p = zeros (number_cell s) p (λ x k d e. let z : ◌≡◌ {A = ℕ} 0 1 = cc in omega arith)
+    cells (vector_cell s) p = zeros (vector_cell s) p (λ x k d e. let z : ◌≡◌ {A = ℕ} 0 1 = cc in omega arith)
     cells (link_cell s k d) p = link s k d p.0 p.1
     cells (pending_cell i) p = zeros (pending_cell i) p (λ x k d e. let z : ◌≡◌ {A = ℕ} 0 1 = cc in omega arith)

@@ -92,7 +92,7 @@ accepted-same M h [] = refl
 accepted-same M h (n ∷ ns) =
     ap (λ (o : Outcome (List ℕ)). unless_refused o.refused 0 1 + accepted called o.after (map deliver ns)) (call-bytes M h (deliver n))
     ∙ ap (λ (a : ℕ). unless_refused (call seats width M (deliver n)).refused 0 1 + a)
-    (accepted-same _ (call-sound seats width M h (deliver n) tt) ns)
+    (accepted-same (call seats width M (deliver n)).after (call-sound seats width M h (deliver n) tt) ns)
 
 pub deliveries-end : (l : List ℕ) → Fine l → (ns : List Name) → accepted called l (map deliver ns) ≤ measure.bound seats width (meaning l)
 deliveries-end l f ns =

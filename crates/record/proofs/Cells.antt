@@ -16,7 +16,7 @@ use Rattle.protocol.specs.State.{Meaning}
 use Rattle.protocol.proofs.Numbering.{side_number-lt}
 use Rattle.record.specs.Layout.{seats, phase_size, state_size, number_size, vector_size, links_size, entry_size, size}
 use Rattle.record.specs.Layout.{state_offset, number_offset, vector_offset, links_offset, phase_at, entries_from, entry_at, links_from, pending_from}
-use Rattle.record.specs.Cell.{Cell, phase_cell, stateCell, numberCell, vectorCell, link_cell, pending_cell, cell_from, cell_size, entry_cell, cell_at}
+use Rattle.record.specs.Cell.{Cell, phase_cell, state_cell, number_cell, vector_cell, link_cell, pending_cell, cell_from, cell_size, entry_cell, cell_at}
 use Rattle.record.specs.Local.{Outside}
 use Rattle.record.specs.inner.Cell.{InRecord, cell_in, put_cell, Holds}
 use Rattle.record.specs.Meaning.{value_of, byte_of, bytes_of}
@@ -25,33 +25,33 @@ use Rattle.record.proofs.Places.{side-side_number, side_number-side, get_d-bytes
 -- every cell lies in the record, and has a byte
 pub cell-within : (c : Cell) → InRecord c → cell_from c + cell_size c ≤ size
 cell-within phase_cell p = omega arith
-cell-within (stateCell s) p = omega arith
-cell-within (numberCell s) p = omega arith
-cell-within (vectorCell s) p = omega arith
+cell-within (state_cell s) p = omega arith
+cell-within (number_cell s) p = omega arith
+cell-within (vector_cell s) p = omega arith
 cell-within (link_cell s k d) p = omega (arith, side_number-lt d)
 cell-within (pending_cell b) p = omega arith
 
 pub cell-first : (c : Cell) → 0 < cell_size c
 cell-first phase_cell = omega arith
-cell-first (stateCell s) = omega arith
-cell-first (numberCell s) = omega arith
-cell-first (vectorCell s) = omega arith
+cell-first (state_cell s) = omega arith
+cell-first (number_cell s) = omega arith
+cell-first (vector_cell s) = omega arith
 cell-first (link_cell s k d) = omega arith
 cell-first (pending_cell b) = omega arith
 
 -- the cell of each byte of an entry
 module _ (s : ℕ) where
-  entry_cell-state : (j : ℕ) → j < state_size → entry_cell s (state_offset + j) ≡ stateCell s
+  entry_cell-state : (j : ℕ) → j < state_size → entry_cell s (state_offset + j) ≡ state_cell s
   unfolding entry_cell
   entry_cell-state j h = rw (lt-ltb (state_offset + j) number_offset (omega arith))
 
-  entry_cell-number : (j : ℕ) → j < number_size → entry_cell s (number_offset + j) ≡ numberCell s
+  entry_cell-number : (j : ℕ) → j < number_size → entry_cell s (number_offset + j) ≡ number_cell s
   unfolding entry_cell
   entry_cell-number j h =
       let i = number_offset + j in
       rw (le-ltb i number_offset (omega arith), lt-ltb i vector_offset (omega arith))
 
-  entry_cell-vector : (j : ℕ) → j < vector_size → entry_cell s (vector_offset + j) ≡ vectorCell s
+  entry_cell-vector : (j : ℕ) → j < vector_size → entry_cell s (vector_offset + j) ≡ vector_cell s
   unfolding entry_cell
   entry_cell-vector j h =
       let i = vector_offset + j in
@@ -88,9 +88,9 @@ at-pending b j h =
 -- the cell of a byte in a cell is that cell
 pub cell_at-cell : (c : Cell) → InRecord c → (j : ℕ) → j < cell_size c → cell_at (cell_from c + j) ≡ c
 cell_at-cell phase_cell p j h = at-phase j h
-cell_at-cell (stateCell s) p j h = ap cell_at (omega arith) ∙ at_entry s (state_offset + j) p (omega arith) ∙ entry_cell-state s j h
-cell_at-cell (numberCell s) p j h = ap cell_at (omega arith) ∙ at_entry s (number_offset + j) p (omega arith) ∙ entry_cell-number s j h
-cell_at-cell (vectorCell s) p j h = ap cell_at (omega arith) ∙ at_entry s (vector_offset + j) p (omega arith) ∙ entry_cell-vector s j h
+cell_at-cell (state_cell s) p j h = ap cell_at (omega arith) ∙ at_entry s (state_offset + j) p (omega arith) ∙ entry_cell-state s j h
+cell_at-cell (number_cell s) p j h = ap cell_at (omega arith) ∙ at_entry s (number_offset + j) p (omega arith) ∙ entry_cell-number s j h
+cell_at-cell (vector_cell s) p j h = ap cell_at (omega arith) ∙ at_entry s (vector_offset + j) p (omega arith) ∙ entry_cell-vector s j h
 cell_at-cell (link_cell s k d) p j h =
     let o = side_number-lt d in
     ap cell_at (omega arith) ∙ at_entry s (links_offset + 2 * k + side_number d) p.0 (omega arith) ∙ entry_cell-link s k d
@@ -135,19 +135,19 @@ by-cell P f i h = ⊎_elim
 
     vector : (s j : ℕ) → s < seats → vector_offset ≤ j → j < entry_size → P (entry_at s + j)
     vector s j p l q = ⊎_elim
-        (λ r. subst P (omega arith) (f (vectorCell s) (j - vector_offset) p (omega arith)))
+        (λ r. subst P (omega arith) (f (vector_cell s) (j - vector_offset) p (omega arith)))
         (λ r. subst P (omega arith) (links s (j - links_offset) p (omega arith)))
         (lt-or-ge j links_offset)
 
     number : (s j : ℕ) → s < seats → number_offset ≤ j → j < entry_size → P (entry_at s + j)
     number s j p l q = ⊎_elim
-        (λ r. subst P (omega arith) (f (numberCell s) (j - number_offset) p (omega arith)))
+        (λ r. subst P (omega arith) (f (number_cell s) (j - number_offset) p (omega arith)))
         (λ r. vector s j p r q)
         (lt-or-ge j vector_offset)
 
     state : (s j : ℕ) → s < seats → j < entry_size → P (entry_at s + j)
     state s j p q = ⊎_elim
-        (λ r. subst P (omega arith) (f (stateCell s) (j - state_offset) p (omega arith)))
+        (λ r. subst P (omega arith) (f (state_cell s) (j - state_offset) p (omega arith)))
         (λ r. number s j p r q)
         (lt-or-ge j number_offset)
 

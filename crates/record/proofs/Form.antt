@@ -24,7 +24,7 @@ use Rattle.protocol.specs.Rules.{free}
 use Rattle.protocol.specs.Sound.{number_bits}
 use Rattle.record.specs.Layout.{seats, levels, byte_bits, number_size, vector_size, no_link, messages, phase_at, state_at, number_from, vector_from, link_at}
 use Rattle.record.specs.Layout.{states, pending_from, size}
-use Rattle.record.specs.Cell.{Cell, phase_cell, stateCell, numberCell, vectorCell, link_cell, pending_cell, cell_size}
+use Rattle.record.specs.Cell.{Cell, phase_cell, state_cell, number_cell, vector_cell, link_cell, pending_cell, cell_size}
 use Rattle.record.specs.inner.Cell.{InRecord, cell_in}
 use Rattle.record.specs.Meaning.{phase_of, state_of, link_of, seats_in, meaning, phase_byte, state_byte, link_byte, value_of}
 use Rattle.record.proofs.Places.{exists-at, place_at}
@@ -33,18 +33,18 @@ use Rattle.record.proofs.Values.{phase_byte-phase_of, state_byte-state_of, link_
 -- the numbers that a cell can hold
 abbrev pub CellFits : Cell → (v : ℕ) → Type 0
 CellFits phase_cell v = v < 2
-CellFits (stateCell s) v = v < states
-CellFits (numberCell s) v = v < 2 ^ number_bits
-CellFits (vectorCell s) v = v < 2 ^ width
+CellFits (state_cell s) v = v < states
+CellFits (number_cell s) v = v < 2 ^ number_bits
+CellFits (vector_cell s) v = v < 2 ^ width
 CellFits (link_cell s k d) v = (v ≡ no_link) ⊎ (v < seats)
 CellFits (pending_cell b) v = v < 2 ^ byte_bits
 
 -- its bytes have room for them
 pub fits_lt : (c : Cell) (v : ℕ) → CellFits c v → v < 256 ^ cell_size c
 fits_lt phase_cell v h = omega arith
-fits_lt (stateCell s) v h = omega arith
-fits_lt (numberCell s) v h = h
-fits_lt (vectorCell s) v h = h
+fits_lt (state_cell s) v h = omega arith
+fits_lt (number_cell s) v h = h
+fits_lt (vector_cell s) v h = h
 fits_lt (link_cell s k d) v h = ⊎_elim (λ e. omega arith) (λ e. omega arith) h
 fits_lt (pending_cell b) v h = h
 
@@ -116,11 +116,11 @@ module _ (l : List ℕ) where
 pub value-meaning : {l : List ℕ} → Form l → (c : Cell) → InRecord c → value_of (meaning l) c ≡ cell_in l c
 value-meaning {l} f phase_cell p =
     ap phase_byte (meaning-phase l ∙ ap phase_of (sym (number_at-one l phase_at))) ∙ phase_byte-phase_of (cell_in l phase_cell) (f.cells phase_cell p)
-value-meaning {l} f (stateCell s) p =
+value-meaning {l} f (state_cell s) p =
     ap state_byte (meaning-state l s p ∙ ap state_of (sym (number_at-one l (state_at s))))
-    ∙ state_byte-state_of (cell_in l (stateCell s)) (f.cells (stateCell s) p)
-value-meaning {l} f (numberCell s) p = meaning-number l s p
-value-meaning {l} f (vectorCell s) p = meaning-vector l s p
+    ∙ state_byte-state_of (cell_in l (state_cell s)) (f.cells (state_cell s) p)
+value-meaning {l} f (number_cell s) p = meaning-number l s p
+value-meaning {l} f (vector_cell s) p = meaning-vector l s p
 value-meaning {l} f (link_cell s k d) p =
     ap link_byte (meaning-link l s k d p.0 p.1 ∙ ap link_of (sym (number_at-one l (link_at s k d))))
     ∙ link_byte-link_of (cell_in l (link_cell s k d)) (f.cells (link_cell s k d) p)

@@ -18,7 +18,7 @@ use Rattle.protocol.specs.Message.{Msg}
 use Rattle.protocol.specs.Numbering.{message_at}
 use Rattle.protocol.specs.State.{Seats, Meaning}
 use Rattle.record.specs.Layout.{seats, levels, byte_bits, messages, pending_size, size}
-use Rattle.record.specs.Cell.{Cell, phase_cell, stateCell, numberCell, vectorCell, link_cell, pending_cell, cell_from, cell_size}
+use Rattle.record.specs.Cell.{Cell, phase_cell, state_cell, number_cell, vector_cell, link_cell, pending_cell, cell_from, cell_size}
 use Rattle.record.specs.inner.Cell.{InRecord, put_cell, Holds}
 use Rattle.record.specs.Meaning.{phase_byte, state_byte, link_byte, value_of, byte_of, bytes_of}
 use Rattle.record.proofs.Places.{length-bytes_of}
@@ -31,7 +31,7 @@ unfolding bytes_of
 bytes-are M {l} e f =
     tabulate-is size (byte_of M) l e (by-cell (λ i. byte_of M i ≡ get_or l i 0) (λ c j p q. byte-cell M c p j q ∙ sym (f c p j q)))
 
-module _ {M N : Meaning} where
+module _ (M N : Meaning) where
   -- at the bytes of Q, if the values are the same of the cells with a byte in Q
   pub frame : (Q : ℕ → Type 0) → ((c : Cell) (j : ℕ) → InRecord c → j < cell_size c → Q (cell_from c + j) → value_of M c ≡ value_of N c)
       → (i : ℕ) → i < size → Q i → byte_of M i ≡ byte_of N i
@@ -76,13 +76,13 @@ pending-value M N b p f =
     (λ j g. f (b * byte_bits + j) (omega arith))
 
 pub bytes_same : {M N : Meaning} → Same M N → bytes_of M ≡ bytes_of N
-bytes_same {M} {N} a = same-values by
+bytes_same {M} {N} a = same-values M N by
   where
     by : (c : Cell) → InRecord c → value_of M c ≡ value_of N c
     by phase_cell p = ap phase_byte a.phase
-    by (stateCell s) p = ap state_byte (a.state s p)
-    by (numberCell s) p = a.number s p
-    by (vectorCell s) p = a.vector s p
+    by (state_cell s) p = ap state_byte (a.state s p)
+    by (number_cell s) p = a.number s p
+    by (vector_cell s) p = a.vector s p
     by (link_cell s k d) p = ap link_byte (a.link s k d p.0 p.1)
     by (pending_cell b) p = pending-value M N b p a.pending
 

@@ -9,7 +9,7 @@ use Rattle.graph.specs.Vector.{width}
 use Rattle.protocol.specs.State.{nobody, opened}
 use Rattle.protocol.proofs.KeepSound.{opened-sound}
 use Rattle.record.specs.Layout.{seats}
-use Rattle.record.specs.Cell.{Cell, phase_cell, stateCell, numberCell, vectorCell, link_cell, pending_cell}
+use Rattle.record.specs.Cell.{Cell, phase_cell, state_cell, number_cell, vector_cell, link_cell, pending_cell}
 use Rattle.record.specs.inner.Cell.{Holds}
 use Rattle.record.specs.Meaning.{meaning, value_of, bytes_of}
 use Rattle.record.specs.Sound.{sound}
@@ -23,9 +23,9 @@ use Rattle.record.proofs.Sound.{bytes-sound}
 opened-value : (c : Cell) → value_of opened c ≡ opened_value c
 unfolding opened nobody packed
 opened-value phase_cell = refl
-opened-value (stateCell s) = refl
-opened-value (numberCell s) = refl
-opened-value (vectorCell s) = refl
+opened-value (state_cell s) = refl
+opened-value (number_cell s) = refl
+opened-value (vector_cell s) = refl
 opened-value (link_cell s k d) = refl
 opened-value (pending_cell b) = refl
 

@@ -8,7 +8,7 @@ use mathlib.Core.List.{List, [], ◌∷◌}
 use lib.Dec.{T, eqb}
 use lib.ListN.{length}
 use borrow.Author.Tests.{lt-ltb, eqb-true}
-use Rattle.base.specs.Loops.{one_if, count as howMany}
+use Rattle.base.specs.Loops.{one_if, count as how_many}
 use Rattle.memory.specs.Bits.{bit_set}
 use Rattle.base.proofs.Count.{count_same, count-zero}
 use Rattle.graph.specs.Side.{Side, side_number}
@@ -31,7 +31,7 @@ use Rattle.record.proofs.Refused.{Passed, record-goes, record-passed}
 
 -- how many messages are pending
 abbrev pub pending_count : Meaning → ℕ
-pending_count M = howMany messages (λ i. M.pending (message_at seats width i))
+pending_count M = how_many messages (λ i. M.pending (message_at seats width i))
 
 -- none exactly if the count is 0
 pub pending_count-zero : (M : Meaning) → (pending_count M ≡ 0) ↔ (some_pending seats width M.pending ≡ false)
@@ -47,7 +47,7 @@ pending_count-zero M = (to, from)
         none-pending seats width M.pending e (message_at seats width i) (exists-at i h))
 
 module _ (l : List ℕ) where
-  pub count_bits : howMany messages (bit_set l pending_from) ≡ pending_count (meaning l)
+  pub count_bits : how_many messages (bit_set l pending_from) ≡ pending_count (meaning l)
   count_bits = count_same messages (bit_set l pending_from) (λ i. (meaning l).pending (message_at seats width i)) (λ i h. sym (meaning-bit l i h))
 
 module _ (l : List ℕ) (e : length l ≡ size) (s : sound l ≡ true) where
@@ -117,7 +117,7 @@ module _ (l : List ℕ) (e : length l ≡ size) (s : sound l ≡ true) where
 
   pub counts-read : read_counts l ≡ record {
     refused = 0;
-    lots = howMany seats (seated (meaning l).seats);
+    lots = how_many seats (seated (meaning l).seats);
     phase = phase_byte (meaning l).seats.phase;
     pending = pending_count (meaning l);
   }

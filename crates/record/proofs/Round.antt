@@ -27,7 +27,7 @@ use Rattle.protocol.proofs.Numbering.{message_at-place}
 use Rattle.protocol.proofs.SoundFacts.{two-level, link-linked, pending-exists, seated-below}
 use Rattle.record.specs.Layout.{seats, levels, byte_bits, number_size, vector_size, messages, phase_at, state_at, number_from, vector_from, link_at}
 use Rattle.record.specs.Layout.{pending_from, size}
-use Rattle.record.specs.Cell.{Cell, phase_cell, stateCell, numberCell, vectorCell, link_cell, pending_cell, cell_from, cell_size}
+use Rattle.record.specs.Cell.{Cell, phase_cell, state_cell, number_cell, vector_cell, link_cell, pending_cell, cell_from, cell_size}
 use Rattle.record.specs.inner.Cell.{InRecord, cell_in}
 use Rattle.record.specs.Meaning.{phase_of, state_of, link_of, seats_in, meaning, phase_byte, state_byte, link_byte, value_of, byte_of, bytes_of}
 use Rattle.record.proofs.Values.{NamesSeat, phase_of-phase_byte, state_of-state_byte, link_of-link_byte}
@@ -54,13 +54,13 @@ module _ (M : Meaning) where
 
   module _ (s : ℕ) (h : s < seats) where
     pub read-state : get_or (bytes_of M) (state_at s) 0 ≡ state_byte (M.seats.state s)
-    read-state = sym (number_at-one (bytes_of M) (state_at s)) ∙ cell-read M (stateCell s) h (omega (arith, state_byte-lt (M.seats.state s)))
+    read-state = sym (number_at-one (bytes_of M) (state_at s)) ∙ cell-read M (state_cell s) h (omega (arith, state_byte-lt (M.seats.state s)))
 
     pub read_number : M.seats.number s < 2 ^ number_bits → number_at (bytes_of M) (number_from s) number_size ≡ M.seats.number s
-    read_number b = cell-read M (numberCell s) h b
+    read_number b = cell-read M (number_cell s) h b
 
     pub read_vector : M.seats.vector s < 2 ^ width → number_at (bytes_of M) (vector_from s) vector_size ≡ M.seats.vector s
-    read_vector b = cell-read M (vectorCell s) h b
+    read_vector b = cell-read M (vector_cell s) h b
 
     pub read-link : (k : ℕ) (d : Side) → k < levels → NamesSeat (M.link s k d) → get_or (bytes_of M) (link_at s k d) 0 ≡ link_byte (M.link s k d)
     read-link k d g n =
@@ -102,9 +102,9 @@ module _ {M : Meaning} (h : Sound seats width M) where
   -- the cells hold numbers that fit them
   value-fits : (c : Cell) → InRecord c → CellFits c (value_of M c)
   value-fits phase_cell p = phase_byte-lt M.seats.phase
-  value-fits (stateCell s) p = state_byte-lt (M.seats.state s)
-  value-fits (numberCell s) p = h.numbers s
-  value-fits (vectorCell s) p = h.vectors s
+  value-fits (state_cell s) p = state_byte-lt (M.seats.state s)
+  value-fits (number_cell s) p = h.numbers s
+  value-fits (vector_cell s) p = h.vectors s
   value-fits (link_cell s k d) p = link_byte-lt (M.link s k d) (λ y e. link_seat s k y d e)
   value-fits (pending_cell b) p = packed_lt byte_bits (λ j. M.pending (message_at seats width (b * byte_bits + j)))
 

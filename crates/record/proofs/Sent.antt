@@ -23,7 +23,7 @@ use Rattle.protocol.specs.State.{Meaning}
 use Rattle.protocol.specs.Page.{pending_after}
 use Rattle.protocol.proofs.Numbering.{message_at-place}
 use Rattle.record.specs.Layout.{seats, byte_bits, messages, pending_from, pending_size}
-use Rattle.record.specs.Cell.{Cell, phase_cell, stateCell, numberCell, vectorCell, link_cell, pending_cell}
+use Rattle.record.specs.Cell.{Cell, phase_cell, state_cell, number_cell, vector_cell, link_cell, pending_cell}
 use Rattle.record.specs.inner.Cell.{InRecord, put_cell}
 use Rattle.record.specs.inner.Sent.{sent_bits}
 use Rattle.record.specs.Meaning.{value_of, bytes_of}
@@ -52,9 +52,9 @@ module _ (M : Meaning) (p : Msg → Bool) (m : Msg) (x : T (exists seats width m
   -- other cells stay
   kept : (c : Cell) → InRecord c → c ≢ pending_cell (place seats width m / byte_bits) → value_of (with_pending M p) c ≡ value_of M c
   kept phase_cell q ne = refl
-  kept (stateCell s) q ne = refl
-  kept (numberCell s) q ne = refl
-  kept (vectorCell s) q ne = refl
+  kept (state_cell s) q ne = refl
+  kept (number_cell s) q ne = refl
+  kept (vector_cell s) q ne = refl
   kept (link_cell s k d) q ne = refl
   kept (pending_cell i) q ne =
       packed-same byte_bits (λ j. p (message_at seats width (i * byte_bits + j))) (λ j. M.pending (message_at seats width (i * byte_bits + j)))
@@ -62,7 +62,7 @@ module _ (M : Meaning) (p : Msg → Bool) (m : Msg) (x : T (exists seats width m
 
   pub bytes-with_bit : bytes_of (with_pending M p) ≡ put_bit (bytes_of M) pending_from (place seats width m) b
   bytes-with_bit =
-      bytes-put (pending_cell (c / byte_bits)) within kept
+      bytes-put M (with_pending M p) (pending_cell (c / byte_bits)) within kept
       ∙ ap (put_cell (bytes_of M) (pending_cell (c / byte_bits))) new
       ∙ put_number-one (bytes_of M) (pending_from + c / byte_bits) (with_bit y (c % byte_bits) b) (with_bit-lt byte_bits y (c % byte_bits) b low (omega arith))
     where

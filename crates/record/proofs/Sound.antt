@@ -23,7 +23,7 @@ use Rattle.protocol.specs.Sound.{Sound, link_ok, message_ok, number_bits}
 use Rattle.protocol.proofs.Numbering.{message_at-place}
 use Rattle.record.specs.Layout.{seats, levels, number_size, vector_size, no_link, messages, size}
 use Rattle.record.specs.Layout.{phase_at, state_at, number_from, vector_from, link_at, pending_from}
-use Rattle.record.specs.Cell.{Cell, phase_cell, stateCell, numberCell, vectorCell, link_cell, pending_cell}
+use Rattle.record.specs.Cell.{Cell, phase_cell, state_cell, number_cell, vector_cell, link_cell, pending_cell}
 use Rattle.record.specs.inner.Cell.{InRecord, cell_in}
 use Rattle.record.specs.Meaning.{link_of, seats_in, meaning, bytes_of}
 use Rattle.record.specs.Sound.{sound}
@@ -42,9 +42,9 @@ link_of-no_link b e = rw e
 module _ {l : List ℕ} (bytes : AreBytes l) (f : Fits l) where
   cells_fit : (c : Cell) → InRecord c → CellFits c (cell_in l c)
   cells_fit phase_cell p = rw (number_at-one l phase_at) f.phase
-  cells_fit (stateCell s) p = rw (number_at-one l (state_at s)) (f.states s p)
-  cells_fit (numberCell s) p = number_at-lt l (number_from s) number_size bytes
-  cells_fit (vectorCell s) p = number_at-lt l (vector_from s) vector_size bytes
+  cells_fit (state_cell s) p = rw (number_at-one l (state_at s)) (f.states s p)
+  cells_fit (number_cell s) p = number_at-lt l (number_from s) number_size bytes
+  cells_fit (vector_cell s) p = number_at-lt l (vector_from s) vector_size bytes
   cells_fit (link_cell s k d) p = rw (number_at-one l (link_at s k d)) (⊎_elim (λ q. inl q) (λ q. inr q.0) (f.links s k d p.0 p.1))
   cells_fit (pending_cell b) p = number_at-lt l (pending_from + b) 1 bytes
 
@@ -151,7 +151,7 @@ module _ {l : List ℕ} (f : Form l) (h : Sound seats width (meaning l)) where
   unfolding meaning
   form-fits = record {
     phase = rw (← number_at-one l phase_at) (f.cells phase_cell tt);
-    states = λ s p. rw (← number_at-one l (state_at s)) (f.cells (stateCell s) p);
+    states = λ s p. rw (← number_at-one l (state_at s)) (f.cells (state_cell s) p);
     unused = sound-unused;
     differ = λ x y p q s t e. omega (arith, h.differ x y s t e);
     links = sound-link;

@@ -73,3 +73,4 @@ pub is_free-free : (s : SeatState) → T (is_free s) → s ≡ free
 is_free-free free t = refl
 is_free-free staying t = absurd t
 is_free-free leaving t = absurd t
+is_free-free reserved t = absurd t

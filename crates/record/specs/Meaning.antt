@@ -10,7 +10,7 @@ use Rattle.protocol.specs.Rules.{SeatState, free, staying, leaving, reserved}
 use Rattle.protocol.specs.State.{Phase, open_phase, clearing, Seats, Meaning}
 use Rattle.record.specs.Layout.{seats, levels, byte_bits, number_size, vector_size, no_link, phase_at, state_at, number_from, vector_from, link_at}
 use Rattle.record.specs.Layout.{pending_from, size}
-use Rattle.record.specs.Cell.{Cell, phase_cell, stateCell, numberCell, vectorCell, link_cell, pending_cell, cell_from, cell_size, cell_at}
+use Rattle.record.specs.Cell.{Cell, phase_cell, state_cell, number_cell, vector_cell, link_cell, pending_cell, cell_from, cell_size, cell_at}
 
 -- a byte as phase, state and link
 unfoldable pub phase_of : ℕ → Phase
@@ -57,9 +57,9 @@ link_byte (some x) = x
 -- the number that a meaning has in a cell; a byte of the pending bits has a bit for each of its messages
 abbrev pub value_of : Meaning → Cell → ℕ
 value_of M phase_cell = phase_byte M.seats.phase
-value_of M (stateCell s) = state_byte (M.seats.state s)
-value_of M (numberCell s) = M.seats.number s
-value_of M (vectorCell s) = M.seats.vector s
+value_of M (state_cell s) = state_byte (M.seats.state s)
+value_of M (number_cell s) = M.seats.number s
+value_of M (vector_cell s) = M.seats.vector s
 value_of M (link_cell s k d) = link_byte (M.link s k d)
 value_of M (pending_cell b) = packed byte_bits (λ j. M.pending (message_at seats width (b * byte_bits + j)))
 

@@ -2,14 +2,14 @@
 use Rattle.std.specs.Prelude.{ℕ, ◌+◌, ◌<◌, ◌≡◌, List, get_or}
 use Rattle.memory.specs.Bytes.{number_at, put_number, digit}
 use Rattle.record.specs.Layout.{seats, levels, pending_size}
-use Rattle.record.specs.Cell.{Cell, phase_cell, stateCell, numberCell, vectorCell, link_cell, pending_cell, cell_from, cell_size}
+use Rattle.record.specs.Cell.{Cell, phase_cell, state_cell, number_cell, vector_cell, link_cell, pending_cell, cell_from, cell_size}
 
 -- seat, level and byte exist
 abbrev pub InRecord : Cell → Type 0
 InRecord phase_cell = Unit {0}
-InRecord (stateCell s) = s < seats
-InRecord (numberCell s) = s < seats
-InRecord (vectorCell s) = s < seats
+InRecord (state_cell s) = s < seats
+InRecord (number_cell s) = s < seats
+InRecord (vector_cell s) = s < seats
 InRecord (link_cell s k d) = (s < seats) × (k < levels)
 InRecord (pending_cell b) = b < pending_size
 

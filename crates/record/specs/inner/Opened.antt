@@ -1,15 +1,15 @@
 -- The bytes that open writes, cell by cell. Assumes nothing.
 use Rattle.std.specs.Prelude.{ℕ, ◌≡◌, List, length}
 use Rattle.record.specs.Layout.{no_link, size}
-use Rattle.record.specs.Cell.{Cell, phase_cell, stateCell, numberCell, vectorCell, link_cell, pending_cell}
+use Rattle.record.specs.Cell.{Cell, phase_cell, state_cell, number_cell, vector_cell, link_cell, pending_cell}
 use Rattle.record.specs.inner.Cell.{InRecord, Holds}
 
 -- links are none, and every other cell holds 0
 abbrev pub opened_value : Cell → ℕ
 opened_value phase_cell = 0
-opened_value (stateCell s) = 0
-opened_value (numberCell s) = 0
-opened_value (vectorCell s) = 0
+opened_value (state_cell s) = 0
+opened_value (number_cell s) = 0
+opened_value (vector_cell s) = 0
 opened_value (link_cell s k d) = no_link
 opened_value (pending_cell b) = 0
 

@@ -6,7 +6,7 @@ use Rattle.memory.specs.Bits.{with_bit, set_bit}
 use Rattle.graph.specs.Vector.{width}
 use Rattle.protocol.specs.Message.{Msg}
 use Rattle.protocol.specs.Numbering.{place}
-use Rattle.protocol.specs.Rules.{Change, keep, Effect, set as setLink}
+use Rattle.protocol.specs.Rules.{Change, keep, Effect, set as set_link}
 use Rattle.record.specs.Layout.{seats, link_at, pending_from}
 use Rattle.record.specs.Meaning.{link_byte}
 use Rattle.record.specs.inner.Sent.{sent_bits}
@@ -15,7 +15,7 @@ use Rattle.index.specs.inner.Index.{noting}
 -- a change of the links of seat t
 unfoldable pub changed : ℕ → Change → List ℕ → List ℕ
 changed t keep l = l
-changed t (setLink k d o) l = set l (link_at t k d) (link_byte o)
+changed t (set_link k d o) l = set l (link_at t k d) (link_byte o)
 
 -- the effect of a rule at seat t
 unfoldable pub done : ℕ → Effect → List ℕ → List ℕ
