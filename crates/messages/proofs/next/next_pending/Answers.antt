@@ -14,8 +14,7 @@ use Rattle.record.specs.Layout.{seats, messages}
 use Rattle.record.specs.Meaning.{meaning}
 use Rattle.messages.specs.inner.Numbers.{first_pending}
 use Rattle.messages.proofs.First.{first-pending-smallest, none-pending-from}
-use Rattle.messages.proofs.next.next_pending.Statement.{statement}
-use Rattle.messages.proofs.next.next_pending.Tie as tie
+use Rattle.messages.proofs.next.next_pending.Goals as goal
 
 -- the place that the search gave, from the place that it began at
 module _ (l : List ℕ) (n : Name) {i from : ℕ} (e : from ≡ place_from seats width n) (f : i ≡ first_pending l from) where
@@ -28,26 +27,13 @@ module _ (l : List ℕ) (n : Name) {i from : ℕ} (e : from ≡ place_from seats
   none-at : i ≡ messages → smallest_from seats width (meaning l).pending n ≡ none
   none-at h = none-pending-from l n (sym place ∙ h)
 
-place-from-requires : tie.Need-place-from-requires
-place-from-requires c κs = search rules
 
-first-pending-requires : tie.Need-first-pending-requires
-first-pending-requires c κs = search rules
-
-returns : tie.Need-returns
+pub returns-then-i-eq-MESSAGES : goal.returns-then-i-eq-MESSAGES
 unfolding name_or_zeros
-returns c = let b = c.before in
-    rw (none-at _ _ b.before.place-from.ensures.0 b.first-pending.ensures.0 c.if1.true)
+returns-then-i-eq-MESSAGES c =
+    rw (none-at _ _ c.place_from.ensures.0 c.first_pending-i.ensures.0 c.if-i-eq-MESSAGES.true)
 
-message-at-requires : tie.Need-message-at-requires
-message-at-requires c κs = search rules
-
-returns-2 : tie.Need-returns-2
+pub returns : goal.returns
 unfolding name_or_zeros
-returns-2 c = let b = c.before.before in
-    rw (smallest-at _ _ b.before.place-from.ensures.0 b.first-pending.ensures.0 (search rules)) c.message-at.ensures.is_named
-
-pub next-pending-spec : {M : Type 1} → statement M
-next-pending-spec =
-    tie.close
-    (tie.spec place-from-requires first-pending-requires returns message-at-requires returns-2)
+returns c =
+    rw (smallest-at _ _ c.place_from.ensures.0 c.first_pending-i.ensures.0 (search rules)) c.message_at.ensures.is_named

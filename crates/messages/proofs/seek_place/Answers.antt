@@ -1,0 +1,8 @@
+-- `messages::seek_place` meets its contract. Assumes nothing.
+use native.Mathlib.Omega.{arith}
+use Rattle.protocol.specs.Numbering.{place}
+use Rattle.messages.proofs.seek_place.Goals as goal
+
+pub returns : goal.returns
+unfolding place
+returns c = (omega arith, omega arith)
