@@ -1,0 +1,29 @@
+-- `rules::probe` meets its contract. Assumes nothing.
+use native.Mathlib.Numerals.{add-one}
+use borrow.Author.Tests.{lt-ltb, le-ltb}
+use Rattle.protocol.specs.Rules.{effect, probing}
+use Rattle.protocol.specs.pages.Deliver.{rule}
+use Rattle.rules.specs.inner.Done.{changed, send_all, carried}
+use Rattle.record.proofs.Links.{side-opp}
+use Rattle.rules.proofs.probe.Goals as goal
+
+pub returns-then-level-share : goal.returns-then-level-share
+unfolding carried send_all changed rule effect probing
+returns-then-level-share c =
+    rw (
+      ← c.share.ensures,
+      lt-ltb _ _ c.if-level-share.true,
+      ← add-one c.args.level,
+      ← c.meet_place.ensures.0,
+    ) c.send.ensures
+
+pub returns : goal.returns
+unfolding carried send_all changed rule effect probing
+returns c =
+    rw (
+      ← c.share.ensures,
+      le-ltb _ _ c.if-level-share.false,
+      ← c.side_of-d.ensures.0,
+      ← side-opp _ c.side_of-d.ensures.1,
+      ← c.link-away.ensures,
+    ) c.probe_link.ensures

@@ -1,0 +1,64 @@
+-- `soundness::entries::seats_fit` meets its contract. The loop's invariant: the seats below s pass, their lots are kept, and from `top` on none of
+-- them is a lot. Assumes nothing.
+use Rattle.soundness.proofs.entries.seats_fit.Invariants.{passes}
+use borrow.Author.Rules.{rules}
+use Prim.Native.Nat.{ℕ, ◌+◌, ◌≤◌, ◌<◌, ◌-◌}
+use mathlib.Core.Path.{◌≡◌, sym, ◌∙◌, ap}
+use mathlib.Core.Logic.{⊎_elim}
+use mathlib.Core.Bool.{true, false, not}
+use native.Mathlib.Omega.{arith}
+use borrow.Author.Tests.{not-false, le-leb}
+use Rattle.base.proofs.All.{all_none}
+use Rattle.protocol.specs.State.{taken}
+use Rattle.record.specs.Layout.{seats}
+use Rattle.record.specs.Meaning.{seats_in}
+use Rattle.base.proofs.Stops.{all-stop, all_go, all_end}
+use Rattle.soundness.specs.inner.Parts.{seat_fits}
+use Rattle.soundness.proofs.Numbers.{seat-clauses}
+use Rattle.soundness.proofs.Kept.{kept-none, none_above}
+use Rattle.soundness.proofs.entries.seats_fit.Goals as goal
+use Rattle.soundness.proofs.entries.seats_fit.Goals.{Joined-is_taken}
+
+pub loop-s-init : goal.loop-s-init
+loop-s-init c = (search rules, search rules, all_none _, kept-none _ _ c.requires.1, λ y h. absurd (omega arith))
+
+pub returns-then-not-seat_fits : goal.returns-then-not-seat_fits
+returns-then-not-seat_fits c = let l = c.args.rec.now in
+    let s = c.loop-s.s in
+    let test = c.loop-s-test.true in record {
+      says = all-stop seats s (passes l) test c.seat_fits.ensures.0 (ap not c.if-not-seat_fits.true) ∙ seat-clauses l;
+      numbers = λ h. absurd (omega (arith, h));
+      above = λ s h g. absurd (omega arith);
+    }
+
+-- where the last lot below s + 1 is
+top-next : (c : Joined-is_taken) → let s = c.loop-s.s in
+    let l = c.args.rec.now in
+    (c.if-is_taken.top ≤ s + 1) × ((y : ℕ) → y < s + 1 → c.if-is_taken.top ≤ y → taken (seats_in l) y ≡ false)
+top-next c =
+    let i = c.loop-s.invariant in
+    ⊎_elim
+    (λ (t, e). (omega (arith, e), λ y h g. absurd (omega (arith, e))))
+    (λ (f, e). (
+      omega (arith, e, i.1),
+      λ y h g.
+          none_above _ c.loop-s.s c.loop-s.top i.4 (sym c.is_taken.ensures ∙ f.left) y h (omega (arith, e, g)),
+    ))
+    c.if-is_taken.branch
+
+pub loop-s-preserved : goal.loop-s-preserved
+loop-s-preserved c = let i = c.loop-s.invariant in
+    let fits = c.seat_fits.ensures in
+    let passed = (ap not c.if-not-seat_fits.false) in
+    (search rules, (top-next (goal.at.loop-s-preserved c).Joined-is_taken).0, all_go _ _ i.2 fits.0 passed, fits.1 (not-false _ passed), (top-next (goal.at.loop-s-preserved c).Joined-is_taken).1)
+
+pub returns : goal.returns
+returns c = let i = c.loop-s.invariant in
+    let s = c.loop-s.s in
+    let l = c.args.rec.now in
+    let end : s ≡ seats = omega (arith, i.0, c.loop-s-test.false) in record {
+      says = le-leb c.loop-s.top seats (omega (arith, i.0, i.1)) ∙ all_end seats s (passes l) i.0 c.loop-s-test.false i.2
+          ∙ seat-clauses l;
+      numbers = λ h y g. i.3.number y (omega (arith, g, end));
+      above = λ y h. i.4 y (omega (arith, h, end));
+    }
