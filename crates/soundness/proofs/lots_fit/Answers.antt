@@ -19,17 +19,17 @@ with-links l e = rw (← e) (and_assoc (all seats (seat_fits l)) (numbers_differ
 
 pub returns-then-top-gt-SEATS : goal.returns-then-top-gt-SEATS
 returns-then-top-gt-SEATS c = let l = c.args.rec.now in
-    let fails = sym c.seats_fit-top.ensures.0 ∙ lt-leb c.seats_fit-top.result seats c.if-top-gt-SEATS.true in
+    let fails = sym c.seats_fit-top.ensures.says ∙ lt-leb c.seats_fit-top.result seats c.if-top-gt-SEATS.true in
     with-links l fails
 
 pub links_fit-requires : goal.links_fit-requires
 links_fit-requires c =
     let e = c.seats_fit-top.ensures in
     let low : c.seats_fit-top.result ≤ seats = omega (arith, c.if-top-gt-SEATS.false) in
-    let passes = sym e.0 ∙ le-leb c.seats_fit-top.result seats low in
-    (c.requires, e.1.0 low, and_left (all seats (seat_fits c.args.rec.now)) _ passes, low, e.1.1)
+    let passes = sym e.says ∙ le-leb c.seats_fit-top.result seats low in
+    (c.requires, e.numbers low, and_left (all seats (seat_fits c.args.rec.now)) _ passes, low, e.above)
 
 pub returns : goal.returns
 returns c = let s = c.seats_fit-top in
-    let passes = sym s.ensures.0 ∙ le-leb s.result seats (omega (arith, c.if-top-gt-SEATS.false)) in
+    let passes = sym s.ensures.says ∙ le-leb s.result seats (omega (arith, c.if-top-gt-SEATS.false)) in
     c.links_fit.ensures ∙ with-links c.args.rec.now passes

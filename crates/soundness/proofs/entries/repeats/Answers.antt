@@ -64,11 +64,12 @@ goes_on c =
     let s = c.args.s in
     let x = c.loop-y.y - 1 in
     let m = c.loop-y.invariant in
-    let below : x < s = omega (arith, (lot c.before.before.before.before.before).below, m.1.1) in
-    let at = c.requires.2.number x below (lot c.before.before.before.before.before).lot in
+    let found = last-lot _ _ _ _ m.1.2 c.loop-y-test.true in
+    let below : x < s = omega (arith, found.below, m.1.1) in
+    let at = c.requires.2.number x below found.lot in
     let other : (seats_in l).number s ≡ (seats_in l).number x → ⊥ = λ e. c.if-numbers-y.false (at ∙ sym e ∙ sym m.0) in (
-      c.requires.2.links x below (lot c.before.before.before.before.before).lot ∙ ap (last_in l x) (lot c.before.before.before.before.before).same,
-      m.1.3 ∙ any_below l s m.1.0 c.loop-y.y m.1.2 c.loop-y-test.true (rw (lot c.before.before.before.before.before).lot (ne_eqb _ _ other)),
+      c.requires.2.links x below found.lot ∙ ap (last_in l x) found.same,
+      m.1.3 ∙ any_below l s m.1.0 c.loop-y.y m.1.2 c.loop-y-test.true (rw found.lot (ne_eqb _ _ other)),
     )
 
 pub overflow_cast-y-in-loop-y : goal.overflow_cast-y-in-loop-y

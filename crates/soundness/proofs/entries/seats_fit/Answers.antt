@@ -17,7 +17,7 @@ use Rattle.soundness.specs.inner.Parts.{seat_fits}
 use Rattle.soundness.proofs.Numbers.{seat-clauses}
 use Rattle.soundness.proofs.Kept.{kept-none, none_above}
 use Rattle.soundness.proofs.entries.seats_fit.Goals as goal
-use Rattle.soundness.proofs.entries.seats_fit.Goals.{Joined-is_taken}
+use Rattle.soundness.proofs.entries.seats_fit.Goals.{Joined-is_taken, then-is_taken, else-is_taken}
 
 pub loop-s-init : goal.loop-s-init
 loop-s-init c = (search rules, search rules, all_none _, kept-none _ _ c.requires.1, λ y h. absurd (omega arith))
@@ -37,14 +37,11 @@ top-next : (c : Joined-is_taken) → let s = c.loop-s.s in
     (c.if-is_taken.top ≤ s + 1) × ((y : ℕ) → y < s + 1 → c.if-is_taken.top ≤ y → taken (seats_in l) y ≡ false)
 top-next c =
     let i = c.loop-s.invariant in
-    ⊎_elim
-    (λ (t, e). (omega (arith, e), λ y h g. absurd (omega (arith, e))))
-    (λ (f, e). (
-      omega (arith, e, i.1),
-      λ y h g.
-          none_above _ c.loop-s.s c.loop-s.top i.4 (sym c.is_taken.ensures ∙ f.left) y h (omega (arith, e, g)),
-    ))
-    c.if-is_taken.branch
+    elim c.if-is_taken.branch [
+      then-is_taken w ↦ (omega arith, λ y h g. absurd (omega arith))
+      | else-is_taken w ↦
+          (omega (arith, i.1), λ y h g. none_above _ c.loop-s.s c.loop-s.top i.4 (sym c.is_taken.ensures ∙ w.if-is_taken.false) y h (omega arith))
+    ]
 
 pub loop-s-preserved : goal.loop-s-preserved
 loop-s-preserved c = let i = c.loop-s.invariant in
