@@ -112,7 +112,7 @@ module _ (l : List ℕ) (b : AreBytes l) (m : Msg) (e : (called l (deliver (name
       let w : i < size = omega arith in
       ap (λ (x : List ℕ). get_or x i 0) bytes_after
       ∙ get_d-bytes_of after i w
-      ∙ frame Stays agree i w (h, o)
+      ∙ frame after M Stays agree i w (h, o)
       ∙ sym (get_d-bytes_of M i w)
       ∙ ap (λ (x : List ℕ). get_or x i 0) (bytes-meaning form)
 
@@ -203,7 +203,7 @@ module _ (l l' : List ℕ) (b : AreBytes l) (b' : AreBytes l') (m : Msg) (e : (c
       let w : a < size = omega arith in
       ap (λ (x : List ℕ). get_or x a 0) (bytes_after l b m e)
       ∙ get_d-bytes_of left a w
-      ∙ frame Own own a w (omega arith, omega arith)
+      ∙ frame left left' Own own a w (omega arith, omega arith)
       ∙ sym (get_d-bytes_of left' a w)
       ∙ ap (λ (x : List ℕ). get_or x a 0) (sym (bytes_after l' b' m e'))
 

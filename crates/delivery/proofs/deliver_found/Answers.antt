@@ -1,0 +1,28 @@
+-- `delivery::deliver_found` meets its contract. Assumes nothing.
+use mathlib.Core.Path.{◌∙◌}
+use native.Mathlib.Omega.{arith}
+use Rattle.protocol.specs.Message.{name}
+use Rattle.delivery.proofs.ByKind.{found-kind, found_in}
+use Rattle.delivery.proofs.Steps.{sized, idle, fits, carried-out}
+use Rattle.delivery.proofs.deliver_found.Goals as goal
+
+pub returns-then-not-take_named : goal.returns-then-not-take_named
+returns-then-not-take_named c =
+    let a = c.args in
+    idle a.rec.now c.requires (name 6 a.to a.about a.level a.side) c.take_named.ensures c.if-not-take_named.true
+
+pub found-requires : goal.found-requires
+found-requires c =
+    let a = c.args in
+    let k = found-kind a.to a.about a.level a.side in
+    let f = fits a.rec.now c.requires k c.take_named.ensures c.if-not-take_named.false in
+    let p = found_in a.to a.about a.level a.side f.1 in
+    let z = c.take_named.auto.rec ∙ sized a.rec.now c.requires in
+    (z, p.0, p.1, p.2)
+
+pub returns : goal.returns
+returns c =
+    let a = c.args in
+    let k = found-kind a.to a.about a.level a.side in
+    carried-out a.rec.now c.requires k c.take_named.ensures c.if-not-take_named.false
+    (λ j. omega (arith, c.slice_known-1.given j)) c.found.ensures

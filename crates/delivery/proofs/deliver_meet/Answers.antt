@@ -1,0 +1,28 @@
+-- `delivery::deliver_meet` meets its contract. Assumes nothing.
+use mathlib.Core.Path.{refl, ◌∙◌}
+use native.Mathlib.Omega.{arith}
+use Rattle.protocol.specs.Message.{name}
+use Rattle.delivery.proofs.ByKind.{meet-kind, meet-in}
+use Rattle.delivery.proofs.Steps.{sized, idle, fits, carried-noted}
+use Rattle.delivery.proofs.deliver_meet.Goals as goal
+
+pub returns-then-not-take_named : goal.returns-then-not-take_named
+returns-then-not-take_named c =
+    let a = c.args in
+    idle a.rec.now c.requires (name 1 a.to a.about a.level a.side) c.take_named.ensures c.if-not-take_named.true
+
+pub meet-requires : goal.meet-requires
+meet-requires c =
+    let a = c.args in
+    let k = meet-kind a.to a.about a.level a.side in
+    let f = fits a.rec.now c.requires k c.take_named.ensures c.if-not-take_named.false in
+    let p = meet-in a.to a.about a.level a.side f.1 in
+    let z = c.take_named.auto.rec ∙ sized a.rec.now c.requires in
+    (z, refl, p.0, p.1, p.2)
+
+pub returns : goal.returns
+returns c =
+    let a = c.args in
+    let k = meet-kind a.to a.about a.level a.side in
+    carried-noted a.rec.now c.requires k c.take_named.ensures c.if-not-take_named.false
+    (λ j. omega (arith, c.slice_known-1.given j)) _ 0 c.meet.ensures
