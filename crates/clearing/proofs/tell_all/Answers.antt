@@ -19,7 +19,7 @@ loop-y-preserved c =
     let y = c.loop-y.y in
     let b = c.tell_if_leaving in (
       search rules,
-      b.auto.0 ∙ c.loop-y.invariant.1,
+      b.auto.rec ∙ c.loop-y.invariant.1,
       λ M f e.
           b.ensures (saying M (each y (farewells_from M))) f (c.loop-y.invariant.2 M f e) ∙ ap bytes_of (saying-next M y (farewells_from M)),
     )

@@ -22,7 +22,7 @@ loop-k-preserved c =
     let b = c.tell in
     let d = c.tell-in-loop-k in (
       search rules,
-      d.auto.0 ∙ b.auto.0 ∙ c.loop-k.invariant.1,
+      d.auto.rec ∙ b.auto.rec ∙ c.loop-k.invariant.1,
       λ M f e.
           let sent = level_farewells M.link s.y in
           let first = farewell M.link s.y k left in

@@ -1,7 +1,6 @@
 -- `reading::read_counts` meets its contract. Assumes nothing.
 use Prim.Native.Nat.{ℕ, ◌^◌, ◌≤◌, ◌<◌}
 use mathlib.Core.Path.{◌≡◌, sym, ◌∙◌, subst}
-use mathlib.Core.Logic.{⊎_elim}
 use mathlib.Core.Bool.{Bool}
 use native.Mathlib.Omega.{arith}
 use borrow.Author.Rules.{rules}
@@ -13,6 +12,7 @@ use Rattle.messages.specs.inner.Numbers.{NoneBefore}
 use Rattle.messages.proofs.First.{none-before-zero, none-before-end}
 use Rattle.reading.proofs.Values.{counts-refused, counts-values}
 use Rattle.reading.proofs.read_counts.Goals as goal
+use Rattle.reading.proofs.read_counts.Goals.{then-pending-eq0, else-pending-eq0}
 
 -- a count of messages fits
 count_fits : (n : ℕ) (p : ℕ → Bool) {m : ℕ} → m ≡ count n p → n ≤ messages → m < 2 ^ 32
@@ -24,10 +24,11 @@ returns-then-rec-ne-SIZE c = (counts-refused _ (wrong_size_lem _ c.if-rec-ne-SIZ
 pub sized_refusal-n-requires : goal.sized_refusal-n-requires
 sized_refusal-n-requires c = (
   search rules,
-  ⊎_elim
-      (λ w. subst (NoneBefore _) (sym w.1) (none-before-end _ (sym c.count_bits-pending.ensures ∙ w.0.taken)))
-      (λ w. subst (NoneBefore _) (sym w.1) (none-before-zero _))
-      c.if-pending-eq0.branch,
+  elim c.if-pending-eq0.branch [
+    then-pending-eq0 w ↦
+        subst (NoneBefore _) (sym w.sized_refusal-is) (none-before-end _ (sym c.count_bits-pending.ensures ∙ w.if-pending-eq0.true))
+    | else-pending-eq0 w ↦ subst (NoneBefore _) (sym w.sized_refusal-is) (none-before-zero _)
+  ],
 )
 
 pub returns-then-n-ne0 : goal.returns-then-n-ne0

@@ -16,7 +16,7 @@ pub loop-s-preserved : goal.loop-s-preserved
 loop-s-preserved c =
     let b = c.clear_seat in
     let d = c.unlink_seat in
-    (search rules, d.auto.0 ∙ b.auto.0 ∙ c.loop-s.invariant.1, λ M f e. d.ensures M f (b.ensures M f (c.loop-s.invariant.2 M f e)))
+    (search rules, d.auto.rec ∙ b.auto.rec ∙ c.loop-s.invariant.1, λ M f e. d.ensures M f (b.ensures M f (c.loop-s.invariant.2 M f e)))
 
 pub shape_of-rec : goal.shape_of-rec
 shape_of-rec c = c.loop-s.invariant.1

@@ -18,7 +18,7 @@ loop-k-preserved c =
     let b = c.unlink in
     let d = c.unlink-in-loop-k in (
       search rules,
-      d.auto.0 ∙ b.auto.0 ∙ c.loop-k.invariant.1,
+      d.auto.rec ∙ b.auto.rec ∙ c.loop-k.invariant.1,
       λ M f e.
           let u : link_place x k 0 + 1 ≡ link_place x k 1 = omega arith in
           let v : link_place x k 1 + 1 ≡ link_place x (k + 1) 0 = omega arith in

@@ -1,6 +1,5 @@
 -- `reading::counts::seated_lots` meets its contract. The loop's invariant: n is the count of the seated lots passed. Assumes nothing.
 use mathlib.Core.Path.{◌≡◌, sym, ap, ◌∙◌}
-use mathlib.Core.Logic.{⊎_elim}
 use Prim.Native.Nat.{ℕ, ◌-◌}
 use native.Mathlib.Omega.{arith}
 use borrow.Author.Rules.{rules}
@@ -10,6 +9,7 @@ use Rattle.protocol.specs.State.{seated}
 use Rattle.record.specs.Layout.{seats}
 use Rattle.record.specs.Meaning.{seats_in}
 use Rattle.reading.proofs.counts.seated_lots.Goals as goal
+use Rattle.reading.proofs.counts.seated_lots.Goals.{then-is_seated, else-is_seated}
 
 pub loop-s-init : goal.loop-s-init
 loop-s-init c = (search rules, sym (count_none (seated (seats_in c.args.rec.now))))
@@ -23,10 +23,10 @@ loop-s-preserved c =
     let more = count-more c.loop-s.s (seated (seats_in c.args.rec.now)) in
     let one = ap one_if c.is_seated.ensures in (
       search rules,
-      ⊎_elim
-          (λ w. omega (arith, more, one, ap one_if w.0.taken))
-          (λ w. omega (arith, more, one, ap one_if w.0.left))
-          c.if-is_seated.branch,
+      elim c.if-is_seated.branch [
+        then-is_seated w ↦ omega (arith, more, one, ap one_if w.if-is_seated.true)
+        | else-is_seated w ↦ omega (arith, more, one, ap one_if w.if-is_seated.false)
+      ],
     )
 
 pub returns : goal.returns
