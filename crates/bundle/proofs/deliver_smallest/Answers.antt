@@ -2,7 +2,6 @@
 -- nothing.
 use Prim.Native.Nat.{◌-◌}
 use mathlib.Core.Path.{refl, sym, ◌∙◌}
-use mathlib.Core.Logic.{⊎_elim}
 use native.Mathlib.Omega.{arith}
 use borrow.Author.Rules.{rules}
 use Rattle.memory.proofs.Zeros.{replicate-zero}
@@ -12,7 +11,7 @@ use Rattle.bundle.specs.inner.Steps.{Tracks, IsReady}
 use Rattle.bundle.proofs.Ready.{none_left}
 use Rattle.bundle.proofs.Going.{going-first, going-none, going-limit, going_on, next-noted, next-found}
 use Rattle.bundle.proofs.deliver_smallest.Goals as goal
-use Rattle.bundle.proofs.deliver_smallest.Goals.{Joined-is_beyond}
+use Rattle.bundle.proofs.deliver_smallest.Goals.{Joined-is_beyond, then-is_beyond+else-i-eq-MESSAGES, else-is_beyond}
 
 pub loop-n-init : goal.loop-n-init
 loop-n-init c =
@@ -46,12 +45,13 @@ stands : (c : Joined-is_beyond) → let l = c.loop-n.rec in
     Tracks l c.if-is_beyond.index c.if-is_beyond.top c.if-is_beyond.reach × IsReady l c.if-is_beyond.index c.if-is_beyond.top
 stands c =
     let g = c.loop-n.invariant in
-    ⊎_elim
-    (λ (t, _, f, n, _, o, _, ei, et, er).
-    rw (ei ∙ o.ensures.0, et ∙ o.ensures.1, er)
-    (next-found g.tracks c.is_beyond.ensures t.taken f.ensures.0 (omega (arith, f.ensures.1, n.left))))
-    (λ (t, ei, et, er). rw (ei, et, er) (next-noted g.tracks c.is_beyond.ensures t.left))
-    c.if-is_beyond.branch
+    elim c.if-is_beyond.branch [
+      then-is_beyond+else-i-eq-MESSAGES w ↦
+          rw (w.index-is ∙ w.note-top.ensures.0, w.top-is ∙ w.note-top.ensures.1, w.reach-is)
+          (next-found g.tracks c.is_beyond.ensures w.if-is_beyond.true w.first_pending-i.ensures.0
+          (omega (arith, w.first_pending-i.ensures.1, w.if-i-eq-MESSAGES.false)))
+      | else-is_beyond w ↦ rw (w.index-is, w.top-is, w.reach-is) (next-noted g.tracks c.is_beyond.ensures w.if-is_beyond.false)
+    ]
 
 pub slice_bounds-deliver_first-end : goal.slice_bounds-deliver_first-end
 slice_bounds-deliver_first-end c = sym (stands (goal.at.slice_bounds-deliver_first-end c).Joined-is_beyond).0.exact.long

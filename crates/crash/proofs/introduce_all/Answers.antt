@@ -20,7 +20,7 @@ loop-x-preserved c =
     let x = c.loop-x.x in
     let b = c.introduce_seat in (
       search rules,
-      b.auto.0 ∙ c.loop-x.invariant.1,
+      b.auto.rec ∙ c.loop-x.invariant.1,
       λ M f e.
           let sent = lot_introductions M.link in
           b.ensures (saying M (each x sent)) f (c.loop-x.invariant.2 M f e) ∙ ap bytes_of (saying-next M x sent),

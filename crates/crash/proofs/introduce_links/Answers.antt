@@ -25,7 +25,7 @@ loop-k-preserved c =
     let d = c.introduce-in-loop-k in (
       search rules,
       search rules,
-      d.auto.0 ∙ b.auto.0 ∙ c.loop-k.invariant.2,
+      d.auto.rec ∙ b.auto.rec ∙ c.loop-k.invariant.2,
       λ M f e.
           let sent = level_introductions M.link x in
           let first = introduced M.link x k left in

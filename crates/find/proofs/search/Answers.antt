@@ -6,11 +6,11 @@ use mathlib.Core.Bool.{cond}
 use native.Mathlib.Omega.{arith}
 use Rattle.record.specs.Layout.{seats}
 use Rattle.find.specs.Find.{searched, scan_of}
-use Rattle.find.specs.inner.Steps.{ReadyLeft, prints}
+use Rattle.find.specs.inner.Steps.{prints}
 use Rattle.find.proofs.Steps.{start-ready, end-ready, end-found}
 use Rattle.find.proofs.Leftward.{holder-seat}
 use Rattle.find.proofs.search.Goals as goal
-use Rattle.find.proofs.search.Goals.{After-advance-e, After-to_holder-r}
+use Rattle.find.proofs.search.Goals.{After-to_holder-r}
 
 pub advance-e-requires : goal.advance-e-requires
 advance-e-requires c =
@@ -18,16 +18,15 @@ advance-e-requires c =
     (λ j. omega (arith, c.type_inv.rec j)) (omega arith)
 
 -- the end of the walk
-ready : (c : After-advance-e) → ReadyLeft c.args.rec.now c.advance-e.result
-ready c =
-    end-ready c.args.rec.now c.args.x c.args.s c.requires.0 c.requires.1 _ (omega arith) c.advance-e.result c.advance-e.ensures
-
 pub to_holder-r-requires : goal.to_holder-r-requires
-to_holder-r-requires c = ready (goal.at.to_holder-r-requires c).After-advance-e
+to_holder-r-requires c =
+    end-ready c.args.rec.now c.args.x c.args.s c.requires.0 c.requires.1 _ (omega arith) c.advance-e.result c.advance-e.ensures
 
 -- where the left steps end: a seat, and what the search answers
 ends : (c : After-to_holder-r) → c.to_holder-r.result.seat < seats
-ends c = holder-seat (ready c.before) c.args.x c.to_holder-r.result c.to_holder-r.ensures
+ends c =
+    let r = end-ready c.args.rec.now c.args.x c.args.s c.requires.0 c.requires.1 _ (omega arith) c.advance-e.result c.advance-e.ensures in
+    holder-seat r c.args.x c.to_holder-r.result c.to_holder-r.ensures
 
 found : (c : After-to_holder-r) → let l = c.args.rec.now in let r = c.to_holder-r.result in
     scan_of l c.args.s c.args.x
