@@ -59,9 +59,9 @@ module _ {comp : ℕ → ℕ} {N W : ℕ} where
       → Reached comp N W (left_by (call N W) M ns) × ((left_by (call N W) M ns).seats ≡ M.seats)
   unfolding left_by
   reached-deliveries g [] = (g, refl)
-  reached-deliveries g (n ∷ ns) =
+  reached-deliveries {M = M} g (n ∷ ns) =
       let (h, e) = reached-delivery g n in
-      let (k, f) = reached-deliveries h ns in
+      let (k, f) = reached-deliveries {M = (call N W M (deliver n)).after} h ns in
       (k, f ∙ e)
 
 -- deliveries on the bytes of sound meanings

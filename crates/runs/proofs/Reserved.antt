@@ -13,7 +13,7 @@ use Rattle.base.proofs.Tests.{true-T, false-T}
 use Rattle.memory.specs.Bytes.{AreBytes}
 use Rattle.graph.specs.Side.{Side}
 use Rattle.graph.specs.Vector.{width}
-use Rattle.protocol.specs.Rules.{SeatState, reserved}
+use Rattle.protocol.specs.Rules.{SeatState, free, staying, leaving, reserved}
 use Rattle.protocol.specs.State.{Phase, open_phase, clearing, Seats, is_clearing, is_leaving, is_reserved, taken, seated, stays, leaves, held, no_seat, member}
 use Rattle.protocol.specs.Refusals.{no_such_seat, in_clearing, seat_taken, number_in_use, no_contact, empty_seat, not_reserved, first}
 use Rattle.protocol.specs.pages.Join.{in_use}
@@ -41,9 +41,15 @@ use Rattle.runs.proofs.SameLots.{below}
 
 -- a reserved seat by its state
 is-reserved : (t : SeatState) → T (is_reserved t) → t ≡ reserved
+is-reserved free h = absurd h
+is-reserved staying h = absurd h
+is-reserved leaving h = absurd h
 is-reserved reserved h = refl
 
 held_stays : (t : SeatState) → T (is_reserved t) → is_leaving t ≡ false
+held_stays free h = absurd h
+held_stays staying h = absurd h
+held_stays leaving h = absurd h
 held_stays reserved h = refl
 
 module _ (r : Seats) (x : ℕ) (h : held r x ≡ true) where

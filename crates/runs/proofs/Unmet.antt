@@ -14,7 +14,7 @@ use Rattle.memory.specs.Bytes.{AreBytes}
 use Rattle.graph.specs.Side.{Side, side_number}
 use Rattle.graph.specs.Vector.{width}
 use Rattle.graph.specs.Graph.{graph}
-use Rattle.protocol.specs.Rules.{SeatState, free, staying, leaving, is_staying}
+use Rattle.protocol.specs.Rules.{SeatState, free, staying, leaving, is_staying, reserved}
 use Rattle.protocol.specs.State.{clearing, Seats, Meaning, is_free, is_leaving, stays, leaves, seated, member}
 use Rattle.protocol.specs.Refusals.{first}
 use Rattle.protocol.specs.Calls.{turn, rows, refusal, seats_after, links_after, accept, unless_refused}
@@ -40,11 +40,13 @@ stays-not : (t : SeatState) → T (is_staying t) → T (is_leaving t) → ⊥
 stays-not free p q = q
 stays-not staying p q = q
 stays-not leaving p q = p
+stays-not reserved p q = p
 
 leaving-taken : (t : SeatState) → T (is_leaving t) → is_free t ≡ false
 leaving-taken free q = absurd q
 leaving-taken staying q = refl
 leaving-taken leaving q = refl
+leaving-taken reserved q = absurd q
 
 -- the members in clearing are the staying lots
 member-stays : (r : Seats) → r.phase ≡ clearing → (x : ℕ) → member r x ≡ stays r x
