@@ -85,6 +85,7 @@ clauses-held p t m h x = by t h ∙ ap (λ (b : Bool). true ∷ true ∷ true �
     one = rw (and-true (exists seats width m)) x
 
     by : (t : SeatState) → T (not (is_free t)) → clauses (held_in p t m) ≡ true ∷ true ∷ true ∷ true ∷ true ∷ (fitted t && true) ∷ []
+    by free h = absurd h
     by staying h = clauses-small p (holds 63 staying 400 0 ∷ three) [] (m ∷ []) tt tt one
     by leaving h = clauses-small p (holds 63 leaving 400 0 ∷ three) [] (m ∷ []) tt tt one
     by reserved h = clauses-small p (holds 63 reserved 400 0 ∷ three) [] (m ∷ []) tt tt one
@@ -121,6 +122,7 @@ phase_2 =
 
 last-held : (t : SeatState) → T (not (is_free t)) → AllHold (holding (holds 63 t 400 0))
 unfolding held_fit unused_of numbers_of links_of all field_in link_in at
+last-held free h = absurd h
 last-held staying h = clauses-holding (holds 63 staying 400 0) tt
 last-held leaving h = clauses-holding (holds 63 leaving 400 0) tt
 last-held reserved h = clauses-holding (holds 63 reserved 400 0) tt

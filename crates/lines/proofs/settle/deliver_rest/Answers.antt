@@ -27,7 +27,7 @@ loop-preserved c =
     let l = c.loop.rec in (
       rw d.ensures.1 (settled-after l c.loop.invariant.1 65535) ∙ c.loop.invariant.0,
       λ j. omega (arith, c.type_inv.rec j),
-      d.auto.0 ∙ c.loop.invariant.2,
+      d.auto.rec ∙ c.loop.invariant.2,
     )
 
 pub shape_of-rec : goal.shape_of-rec

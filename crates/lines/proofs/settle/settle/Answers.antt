@@ -14,7 +14,7 @@ unfolding number_of
 returns-in-Refused c = let b = c.bundle in
     let l = c.args.rec.now in
     let q = c.in-Refused.is in
-    let e = sym b.ensures.0 ∙ ap (λ a. bundle_outcome a b.new.0) q in
+    let e = sym b.ensures.0 ∙ ap (λ a. bundle_outcome a b.new.rec) q in
     let d = ap (λ (o : BundleOutcome). o.delivered) e in (
       ap (λ (o : BundleOutcome). o.refused) (sym e) ∙ same-refusal l 65535,
       ap (λ (o : BundleOutcome). o.after) (sym e) ∙ sym (settled-less l
@@ -26,7 +26,7 @@ pub returns-then-n : goal.returns-then-n
 unfolding number_of
 returns-then-n c = let b = c.bundle in
     let l = c.args.rec.now in
-    let e = sym b.ensures.0 ∙ ap (λ a. bundle_outcome a b.new.0) c.in-Delivered.is in (
+    let e = sym b.ensures.0 ∙ ap (λ a. bundle_outcome a b.new.rec) c.in-Delivered.is in (
       ap (λ (o : BundleOutcome). o.refused) (sym e) ∙ same-refusal l 65535,
       c.deliver_rest.ensures ∙ ap (λ (o : BundleOutcome). (settled o.after).after) (sym e)
           ∙ settled-after l (λ j. omega (arith, c.slice_known-1.given j)) 65535,
@@ -37,7 +37,7 @@ pub returns-else-n : goal.returns-else-n
 unfolding number_of
 returns-else-n c = let b = c.bundle in
     let l = c.args.rec.now in
-    let e = sym b.ensures.0 ∙ ap (λ a. bundle_outcome a b.new.0) c.in-Delivered.is in
+    let e = sym b.ensures.0 ∙ ap (λ a. bundle_outcome a b.new.rec) c.in-Delivered.is in
     let d = ap (λ (o : BundleOutcome). o.delivered) e in (
       ap (λ (o : BundleOutcome). o.refused) (sym e) ∙ same-refusal l 65535,
       ap (λ (o : BundleOutcome). o.after) (sym e)
