@@ -1,7 +1,7 @@
 //! Tests a program's standard input and output: an answer is one write, after a
 //! write or a read that fails nothing more is written or carried out, and the
-//! program ends and says so on standard error. What arrives is then a beginning
-//! of the right output, which the model gives.
+//! program ends with status 1 and says so on standard error. What arrives is then
+//! a beginning of the right output, which the model gives.
 
 use compare::text;
 use std::fs::{File, OpenOptions};
@@ -128,19 +128,23 @@ impl Run {
         })
     }
 
-    /// Waits for the program to end, which it must though its input goes on;
-    /// gives what it wrote to standard error.
+    /// Waits for the program to end, which it must though its input goes on, with
+    /// status 1; gives what it wrote to standard error.
     fn end(mut self) -> io::Result<Result<String, String>> {
         let start = Instant::now();
-        while self.child.try_wait()?.is_none() {
+        let status = loop {
+            if let Some(status) = self.child.try_wait()? {
+                break status;
+            }
             if start.elapsed() > TIME_LIMIT {
                 self.child.kill()?;
                 self.child.wait()?;
                 return Ok(Err(String::from("the program went on")));
             }
             thread::sleep(LOOK);
-        }
-        Ok(Ok(self.errors.join().unwrap_or_default()))
+        };
+        let errors = self.errors.join().unwrap_or_default();
+        Ok(holds(status.code() == Some(1), status.to_string()).map(|()| errors))
     }
 }
 
@@ -330,17 +334,17 @@ fn full_device(program: &Path) -> io::Result<Done> {
     Ok(ended.and_then(|errors| holds(errors == WRITE_FAILED, format!("{errors:?}"))))
 }
 
-/// A reader that takes the first answers and goes. By default the signal of a
-/// broken pipe ends the program; if it is ignored, the write fails.
+/// A reader that takes the first answers and goes. The write fails, also where the
+/// program is started with the signal of a broken pipe at its default.
 fn early_close(program: &Path) -> io::Result<Done> {
-    let default = close_early(Command::new(program), "")?;
+    let default = close_early(Command::new(program))?;
     let mut shell = Command::new("sh");
     shell.args(["-c", "trap '' PIPE; exec \"$0\""]).arg(program);
-    let ignored = close_early(shell, WRITE_FAILED)?;
+    let ignored = close_early(shell)?;
     Ok(default.and(ignored))
 }
 
-fn close_early(command: Command, message: &str) -> io::Result<Done> {
+fn close_early(command: Command) -> io::Result<Done> {
     let script = questions(64, 2_000);
     let expected = text::run(&script);
     let (mut reader, writer) = output_pipe(4096, false)?;
@@ -349,7 +353,10 @@ fn close_early(command: Command, message: &str) -> io::Result<Done> {
     drop(reader);
     let ended = run.end()?;
     Ok(ended.and_then(|errors| {
-        holds(errors == message, format!("standard error has {errors:?}"))?;
+        holds(
+            errors == WRITE_FAILED,
+            format!("standard error has {errors:?}"),
+        )?;
         let difference = difference(&arrived, &expected);
         holds(expected.starts_with(&arrived), difference)
     }))
@@ -368,7 +375,9 @@ fn folder(program: &Path) -> io::Result<Done> {
     let output = Command::new(program).stdin(File::open("/")?).output()?;
     let errors = String::from_utf8_lossy(&output.stderr);
     let done = holds(output.stdout.is_empty(), "something was written");
-    Ok(done.and_then(|()| holds(errors == READ_FAILED, format!("{errors:?}"))))
+    Ok(done
+        .and_then(|()| holds(errors == READ_FAILED, format!("{errors:?}")))
+        .and_then(|()| holds(output.status.code() == Some(1), output.status.to_string())))
 }
 
 /// A line that neither a newline nor the end of input has ended is not carried
@@ -388,7 +397,8 @@ fn failed_read_in_a_line(program: &Path) -> io::Result<Done> {
         let errors = String::from_utf8_lossy(&output.stderr);
         let arrived = String::from_utf8_lossy(&output.stdout);
         let done = holds(arrived == expected, format!("{arrived:?} for {script:?}"))
-            .and_then(|()| holds(errors == READ_FAILED, format!("{errors:?}")));
+            .and_then(|()| holds(errors == READ_FAILED, format!("{errors:?}")))
+            .and_then(|()| holds(output.status.code() == Some(1), output.status.to_string()));
         if done.is_err() {
             return Ok(done);
         }
