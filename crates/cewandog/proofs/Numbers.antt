@@ -1,7 +1,6 @@
 -- The numbers of a refused search, as they are exported. Assumes nothing.
-use Prim.Native.Nat.{ℕ, ◌<◌}
-use mathlib.Core.Path.{◌≡◌}
-use native.Mathlib.Omega.{arith}
+use Rattle.std.specs.Prelude.{ℕ, ◌≡◌, ◌<◌}
+use Rattle.std.proofs.Common.{arith}
 use borrow.Author.Tests.{ne_eqb}
 use Rattle.find.specs.Answer.{found_numbers}
 use Rattle.find.specs.declared.Found.TheVariants.{Refused}

@@ -1,9 +1,11 @@
-// What other languages call, by a static library (`rt staticlib cewandog`): one function for each public call, over lent bytes and numbers. Each
-// gives the refusal number, 0 if the call is accepted, and writes every value of the answer, 0 where the call is refused. The contracts cite
-// the definitions that the public calls' own contracts cite.
+// What other languages call, by the static library over this crate (crates/cewandog_c): one function for each public call, over lent bytes and
+// numbers. Each gives the refusal number, 0 if the call is accepted, and writes every value of the answer, 0 where the call is refused. The
+// contracts cite the definitions that the public calls' own contracts cite.
+#![tactic(auto)]
+
 ghost use Rattle.std.specs.Prelude.{◌≡◌};
 ghost use Rattle.protocol.specs.Message.{name};
-ghost use Rattle.protocol.specs.Calls.{join as joining, reserve as reserving, confirm as confirming, give_back as givingBack};
+ghost use Rattle.protocol.specs.Calls.{join as joining, reserve as reserving, confirm as confirming, give_back as giving_back};
 ghost use Rattle.protocol.specs.Calls.{leave as leaving, deliver as delivering, turn as turning, crash as crashing, merge as merging};
 ghost use Rattle.record.specs.Reading.{record_refusal, open_refusal, open_bytes, read_lot, read_link, read_message, read_counts};
 ghost use Rattle.record.specs.Call.{called};
@@ -32,63 +34,49 @@ fn number_of(answer: Answer) -> u8
 }
 
 // Writes the empty record in phase open. Refused: 1.
-#[unsafe(no_mangle)]
-pub extern "C" fn lots_open(rec: &mut [u8]) -> u8
+pub fn lots_open(rec: &mut [u8]) -> u8
     ensures { (result ≡ open_refusal rec.old) × (rec.new ≡ open_bytes rec.old) }
 {
     number_of(reading::open(rec))
 }
 
 // Seats a lot. Refused: 1, 2, 3, 7, 4, 5, 6.
-#[unsafe(no_mangle)]
-pub extern "C" fn lots_join(rec: &mut [u8], seat: u8, number: u64, vector: u8, contact: u8) -> u8
+pub fn lots_join(rec: &mut [u8], seat: u8, number: u64, vector: u8, contact: u8) -> u8
     ensures { record { refused = result; after = rec.new } ≡ called rec.old (joining seat number vector contact) }
 {
     number_of(joining::join(rec, seat, number, vector, contact))
 }
 
 // Holds a free seat for a lot with a number and a vector. Refused: 1, 2, 3, 7, 4, 5.
-#[unsafe(no_mangle)]
-pub extern "C" fn lots_reserve(rec: &mut [u8], seat: u8, number: u64, vector: u8) -> u8
+pub fn lots_reserve(rec: &mut [u8], seat: u8, number: u64, vector: u8) -> u8
     ensures { record { refused = result; after = rec.new } ≡ called rec.old (reserving seat number vector) }
 {
     number_of(reserving::reserve(rec, seat, number, vector))
 }
 
 // Seats the lot of a reserved seat. Refused: 1, 2, 3, 7, 14, 6.
-#[unsafe(no_mangle)]
-pub extern "C" fn lots_confirm(rec: &mut [u8], seat: u8, contact: u8) -> u8
+pub fn lots_confirm(rec: &mut [u8], seat: u8, contact: u8) -> u8
     ensures { record { refused = result; after = rec.new } ≡ called rec.old (confirming seat contact) }
 {
     number_of(reserving::confirm(rec, seat, contact))
 }
 
 // Frees a reserved seat. Refused: 1, 2, 3, 14.
-#[unsafe(no_mangle)]
-pub extern "C" fn lots_give_back(rec: &mut [u8], seat: u8) -> u8
-    ensures { record { refused = result; after = rec.new } ≡ called rec.old (givingBack seat) }
+pub fn lots_give_back(rec: &mut [u8], seat: u8) -> u8
+    ensures { record { refused = result; after = rec.new } ≡ called rec.old (giving_back seat) }
 {
     number_of(reserving::give_back(rec, seat))
 }
 
 // Marks a lot as leaving. Refused: 1, 2, 3, 7, 8, 9.
-#[unsafe(no_mangle)]
-pub extern "C" fn lots_leave(rec: &mut [u8], seat: u8) -> u8
+pub fn lots_leave(rec: &mut [u8], seat: u8) -> u8
     ensures { record { refused = result; after = rec.new } ≡ called rec.old (leaving seat) }
 {
     number_of(joining::leave(rec, seat))
 }
 
 // Delivers the message that five numbers name. Refused: 1, 2, 10.
-#[unsafe(no_mangle)]
-pub extern "C" fn lots_deliver(
-    rec: &mut [u8],
-    kind: u8,
-    to: u8,
-    about: u8,
-    level: u8,
-    side: u8,
-) -> u8
+pub fn lots_deliver(rec: &mut [u8], kind: u8, to: u8, about: u8, level: u8, side: u8) -> u8
     ensures { record { refused = result; after = rec.new } ≡ called rec.old (delivering (name kind to about level side)) }
 {
     number_of(delivery::deliver(rec, kind, to, about, level, side))
@@ -96,8 +84,7 @@ pub extern "C" fn lots_deliver(
 
 // Delivers the smallest pending message by its five numbers, again and again, until none is pending or the limit is reached, and says how many it
 // delivered. Refused: 1, 2.
-#[unsafe(no_mangle)]
-pub extern "C" fn lots_bundle(rec: &mut [u8], limit: u16, delivered: &mut u16) -> u8
+pub fn lots_bundle(rec: &mut [u8], limit: u16, delivered: &mut u16) -> u8
     ensures { record { refused = result; delivered = delivered.new; after = rec.new } ≡ bundled rec.old limit }
 {
     match bundle::bundle(rec, limit) {
@@ -113,24 +100,21 @@ pub extern "C" fn lots_bundle(rec: &mut [u8], limit: u16, delivered: &mut u16) -
 }
 
 // Goes on from open with leavers to clearing, and from clearing to open. Refused: 1, 2, 11.
-#[unsafe(no_mangle)]
-pub extern "C" fn lots_turn(rec: &mut [u8]) -> u8
+pub fn lots_turn(rec: &mut [u8]) -> u8
     ensures { record { refused = result; after = rec.new } ≡ called rec.old turning }
 {
     number_of(clearing::turn(rec))
 }
 
 // Frees the seats of a set, whose lots are gone, and makes the ends of each link that remains above level 0 known to each other. Refused: 1, 2, 7, 8, 11.
-#[unsafe(no_mangle)]
-pub extern "C" fn lots_crash(rec: &mut [u8], seats: u64) -> u8
+pub fn lots_crash(rec: &mut [u8], seats: u64) -> u8
     ensures { record { refused = result; after = rec.new } ≡ called rec.old (crashing seats) }
 {
     number_of(crash::crash(rec, seats))
 }
 
 // Sends the lot on one seat MEET about the lot on another at level 0, so that their components become one. Refused: 1, 2, 3, 7, 8, 15.
-#[unsafe(no_mangle)]
-pub extern "C" fn lots_merge(rec: &mut [u8], first: u8, second: u8) -> u8
+pub fn lots_merge(rec: &mut [u8], first: u8, second: u8) -> u8
     ensures { record { refused = result; after = rec.new } ≡ called rec.old (merging first second) }
 {
     number_of(merge::merge(rec, first, second))
@@ -138,14 +122,7 @@ pub extern "C" fn lots_merge(rec: &mut [u8], first: u8, second: u8) -> u8
 
 // The staying lot that a scanned number belongs to, searched from the lot on a seat among those of its component: its seat, or 255 for none, and the
 // hops. Refused: 1, 2, 3, 8, 13.
-#[unsafe(no_mangle)]
-pub extern "C" fn lots_find(
-    rec: &[u8],
-    seat: u8,
-    number: u64,
-    holder: &mut u8,
-    hops: &mut u64,
-) -> u8
+pub fn lots_find(rec: &[u8], seat: u8, number: u64, holder: &mut u8, hops: &mut u64) -> u8
     ensures { record { refused = result; holder = holder.new; hops = hops.new }
         ≡ find_numbers (find_in rec.now seat number) }
 {
@@ -169,8 +146,7 @@ pub extern "C" fn lots_find(
 }
 
 // Whether every component of the links is the skip graph of its own lots: 1 yes, 0 no. Refused: 1, 2.
-#[unsafe(no_mangle)]
-pub extern "C" fn lots_check(rec: &[u8], yes: &mut u8) -> u8
+pub fn lots_check(rec: &[u8], yes: &mut u8) -> u8
     ensures { record { refused = result; yes = yes.new } ≡ check_numbers (check_in rec.now) }
 {
     match check_links::check(rec) {
@@ -190,14 +166,7 @@ pub extern "C" fn lots_check(rec: &[u8], yes: &mut u8) -> u8
 }
 
 // State, number and vector of a seat with a lot or a reservation. Refused: 1, 2, 3, 8.
-#[unsafe(no_mangle)]
-pub extern "C" fn lots_read_lot(
-    rec: &[u8],
-    seat: u8,
-    state: &mut u8,
-    number: &mut u64,
-    vector: &mut u8,
-) -> u8
+pub fn lots_read_lot(rec: &[u8], seat: u8, state: &mut u8, number: &mut u64, vector: &mut u8) -> u8
     ensures { record { refused = result; state = state.new; number = number.new; vector = vector.new }
         ≡ read_lot rec.now seat }
 {
@@ -218,8 +187,7 @@ pub extern "C" fn lots_read_lot(
 }
 
 // The link of a lot at a level, on side 0 left or 1 right: a seat, or 255 for none. Refused: 1, 2, 3, 12, 8.
-#[unsafe(no_mangle)]
-pub extern "C" fn lots_read_link(rec: &[u8], seat: u8, level: u8, side: u8, link: &mut u8) -> u8
+pub fn lots_read_link(rec: &[u8], seat: u8, level: u8, side: u8, link: &mut u8) -> u8
     ensures { record { refused = result; seat = link.new } ≡ read_link rec.now seat level side }
 {
     match reading::read_link(rec, seat, level, side) {
@@ -235,8 +203,7 @@ pub extern "C" fn lots_read_link(rec: &[u8], seat: u8, level: u8, side: u8, link
 }
 
 // Whether five numbers are a pending message: 1 or 0. Refused: 1, 2.
-#[unsafe(no_mangle)]
-pub extern "C" fn lots_read_message(
+pub fn lots_read_message(
     rec: &[u8],
     kind: u8,
     to: u8,
@@ -260,13 +227,7 @@ pub extern "C" fn lots_read_message(
 }
 
 // Seated lots, phase and pending messages. Refused: 1, 2.
-#[unsafe(no_mangle)]
-pub extern "C" fn lots_read_counts(
-    rec: &[u8],
-    lots: &mut u8,
-    phase: &mut u8,
-    pending: &mut u32,
-) -> u8
+pub fn lots_read_counts(rec: &[u8], lots: &mut u8, phase: &mut u8, pending: &mut u32) -> u8
     ensures { record { refused = result; lots = lots.new; phase = phase.new; pending = pending.new }
         ≡ read_counts rec.now }
 {
@@ -287,8 +248,7 @@ pub extern "C" fn lots_read_counts(
 }
 
 // 1 wrong size, 2 unsound, or 0: the test in front of every call but open.
-#[unsafe(no_mangle)]
-pub extern "C" fn lots_validate(rec: &[u8]) -> u8
+pub fn lots_validate(rec: &[u8]) -> u8
     ensures { result ≡ record_refusal rec.now }
 {
     soundness::record_refusal(rec)

@@ -6,8 +6,7 @@ ghost use Rattle.record.specs.Reading.{read_next};
 use reading::next::NextRead;
 
 // The smallest pending message, by its five numbers in order, that is not smaller than five given numbers; kind 0 if there is none. Refused: 1, 2.
-#[unsafe(no_mangle)]
-pub extern "C" fn lots_next_message(
+pub fn lots_next_message(
     rec: &[u8],
     kind: u8,
     to: u8,

@@ -1,5 +1,5 @@
--- `cewandog::lots_check` meets its contract. Assumes nothing.
-use mathlib.Core.Path.{sym, ap, ◌∙◌}
+-- What `check` answers, in numbers. Assumes nothing.
+use Rattle.std.proofs.Common.{sym, ap, ◌∙◌}
 use Rattle.check_links.specs.Answer.{verdict_numbers}
 use Rattle.cewandog.specs.Numbers.{check_numbers}
 use Rattle.cewandog.proofs.lots_check.Goals as goal

@@ -1,4 +1,4 @@
--- `cewandog::number_of` meets its contract. Assumes nothing.
+-- `number_of` gives the number that its definition gives. Assumes nothing.
 use Rattle.record.specs.Answer.{number_of}
 use Rattle.cewandog.proofs.number_of.Goals as goal
 
