@@ -1,5 +1,7 @@
 // The text of an answer of `lots`, put over the start of a lent buffer; nothing here reads or writes anything else. Each function gives the position
 // after its text. A buffer of ROOM bytes has room for every answer.
+#![tactic(auto)]
+
 ghost use Rattle.std.proofs.Math.Option.{none, some};
 ghost use Rattle.std.specs.Prelude.{◌++◌};
 ghost use Rattle.record.specs.Answer.{number_of, Numbered};

@@ -1,6 +1,8 @@
 // Deliveries by the bundle (document 02, #101): the smallest pending message by its five numbers, again and again. The record is tested once, in
 // front: deliveries keep it sound. The next smallest is in the first word of the pending bits that has a set bit; an index says which words have
 // one, and what a rule sends is noted there. The answer and the bytes left are those of record's specs/Bundle.antt.
+#![tactic(auto)]
+
 ghost use Rattle.std.specs.Prelude.{◌≡◌, true, ◌≤◌, ◌<◌, length};
 ghost use Rattle.graph.specs.Vector.{width};
 ghost use Rattle.protocol.specs.Message.{name_of};

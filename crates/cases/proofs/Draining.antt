@@ -1,6 +1,5 @@
 -- The definitions evaluated at three seats and width 2, before anything was proved of them: the record Q drained by bundles, and with its leave and
 -- turns (document 01, case (k)). Assumes nothing.
-use Prim.Native.Nat.{ℕ}
 use mathlib.Core.Path.{◌≡◌, refl}
 use mathlib.Core.Option.{none, some}
 use mathlib.Core.List.{[], ◌∷◌}

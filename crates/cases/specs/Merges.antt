@@ -6,7 +6,7 @@ use Rattle.graph.specs.Vector.{width}
 use Rattle.protocol.specs.Message.{Msg, meet, name, among}
 use Rattle.protocol.specs.Rules.{staying}
 use Rattle.protocol.specs.State.{open_phase, Seats}
-use Rattle.protocol.specs.Calls.{Call, join, leave, deliver, crash, merge, refusal}
+use Rattle.protocol.specs.Calls.{Call, leave, deliver, crash, merge, refusal}
 use Rattle.record.specs.Layout.{seats}
 use Rattle.record.specs.Call.{called}
 use Rattle.check_links.specs.Check.{check_in}

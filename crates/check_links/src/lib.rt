@@ -3,6 +3,8 @@
 // next bit; the left links then follow from the links back. That is Constraints 1 to 6 of document 000, so each component is a skip graph: which lot
 // is in which need not be known. A run to the right stops at the first lot with the bit, so that it passes only lots with the other bit; where links
 // have their links back each lot is passed by one run at most for each level, and the whole is linear.
+#![tactic(auto)]
+
 ghost use Rattle.std.specs.Prelude.{◌≡◌, true, ◌<◌, T, length};
 ghost use Rattle.graph.specs.Side.{side_of_number};
 ghost use Rattle.graph.specs.Vector.{width, bit};

@@ -1,4 +1,6 @@
 // Turn (document 01, "Calls"): into phase clearing, or out of it.
+#![tactic(auto)]
+
 ghost use Rattle.std.specs.Prelude.{◌≡◌, ℕ, ◌<◌, length};
 ghost use Rattle.graph.specs.Vector.{width};
 ghost use Rattle.memory.specs.Bits.{has_bit};

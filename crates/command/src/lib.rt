@@ -1,5 +1,7 @@
 // The parser of a line of `lots`: any bytes, of any length, without the newline. A command is a letter and its numbers, with one space
 // before each number. Positions count from the line's start.
+#![tactic(auto)]
+
 ghost use Rattle.std.specs.Prelude.{◌≡◌, [], ◌∷◌, drop};
 ghost use Rattle.command.specs.Command.{parsed, command_of, fields, byte_field, number_field};
 ghost use Rattle.command.specs.Answer.{as_command};

@@ -1,5 +1,7 @@
 // A scale dies (document 02, #106): the seats of a set become free, and every link that remains above level 0 makes its two ends known to each other.
 // Bit s of a set, the lowest is 0, is seat s.
+#![tactic(auto)]
+
 ghost use Rattle.std.specs.Prelude.{◌≡◌, ◌&&◌, ◌<◌, length};
 ghost use Rattle.memory.specs.Bits.{has_bit};
 ghost use Rattle.graph.specs.Side.{side_of_number};

@@ -1,5 +1,7 @@
 // Delivery over a lent record (document 01, "Messages", "Calls" and "Refused calls"). The answer and the bytes left are those of record's
 // specs/Call.antt.
+#![tactic(auto)]
+
 ghost use Rattle.std.specs.Prelude.{◌≡◌, cond};
 ghost use Rattle.memory.specs.Bits.{clear_bit};
 ghost use Rattle.protocol.specs.Message.{name, named};

@@ -1,6 +1,8 @@
 // The search for the lot of a scanned number over a lent record that is settled (document 01, "Find"; document 02, #102, #104 and #106): from the top
 // level toward the number, a level down where the link is none or lies beyond it, and at the end to the left, to a staying lot that is not above it.
 // Links stay within a component, so it finds lots of its start's component alone.
+#![tactic(auto)]
+
 ghost use Rattle.std.specs.Prelude.{◌≡◌, true, ◌<◌, T, length};
 ghost use Rattle.protocol.specs.State.{seated};
 ghost use Rattle.record.specs.Layout.{seats, levels, size};

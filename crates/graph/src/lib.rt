@@ -1,4 +1,6 @@
 // The two sides of a number and the bits of membership vectors, as plain numbers.
+#![tactic(auto)]
+
 ghost use Rattle.std.specs.Prelude.{◌≡◌, ◌<◌, eqb};
 ghost use Rattle.graph.specs.Side.{on_side, side_of, side_number, side_of_number};
 ghost use Rattle.graph.specs.Vector.{width, bit as bit_at, shared};

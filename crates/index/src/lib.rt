@@ -1,6 +1,8 @@
 // Which words of the pending bits have a set bit: a word is 64 bits, and place i is in word i / 64. The index has a bit for each word, in numbers
 // of 64 bits; one number more, the top, has a bit for each of them that is not 0, so that two counts give the first word. The top goes from call
 // to call by itself. A bundle keeps both beside the record; no format holds them.
+#![tactic(auto)]
+
 ghost use Rattle.std.specs.Prelude.{◌≡◌, true, false, ◌*◌, ◌/◌, ◌<◌, length};
 ghost use Rattle.base.specs.Loops.{first_from, any};
 ghost use Rattle.memory.specs.Bits.{has_bit, with_bit};

@@ -1,6 +1,6 @@
 -- An input makes the calls of its lines: the record after it is what the list of these calls leaves, and their arguments are those that the types of
 -- the code can hold. Assumes nothing.
-use Prim.Native.Nat.{ℕ, zero, suc, ◌^◌, ◌<◌}
+use Prim.Native.Nat.{ℕ, zero, suc, ◌<◌}
 use mathlib.Core.Path.{◌≡◌, refl, sym, ap, ◌∙◌}
 use mathlib.Core.Option.{Option, none, some}
 use mathlib.Core.Bool.{Bool, true, false, ◌&&◌}
@@ -13,9 +13,9 @@ use Rattle.graph.specs.Vector.{width}
 use Rattle.protocol.specs.Message.{Msg, Name, name_of, bit_number, meet, probe, pull, going, seek, found, none_found}
 use Rattle.protocol.specs.Numbering.{exists}
 use Rattle.protocol.specs.Order.{smallest}
-use Rattle.protocol.specs.Calls.{Call, Outcome, unless_refused}
+use Rattle.protocol.specs.Calls.{Call, unless_refused}
 use Rattle.protocol.specs.Calls.{deliver as delivering}
-use Rattle.protocol.specs.Bundle.{Item, one, onward, bundle_of, left_by, spread}
+use Rattle.protocol.specs.Bundle.{one, onward, bundle_of, left_by, spread}
 use Rattle.protocol.specs.Run.{Standing, step, steps, steps_from}
 use Rattle.protocol.proofs.Smallest.{smallest-all}
 use Rattle.record.specs.Layout.{seats}
@@ -28,7 +28,7 @@ use Rattle.runs.specs.Run.{bytes_run, list_run}
 use Rattle.command.specs.Command.{Command, join, leave, deliver, turn, settle, find, print, parsed}
 use Rattle.command.specs.Text.{fits}
 use Rattle.command.proofs.Text.{text-parsed}
-use Rattle.program.specs.Line.{Answered, settle_limit, settled, answer_to, answered}
+use Rattle.program.specs.Line.{settle_limit, settled, answer_to, answered}
 use Rattle.program.specs.Input.{lines_of, carried_out}
 use Rattle.inputs.specs.Made.{calls_of, calls_in}
 

@@ -1,20 +1,20 @@
 -- After every input the record is one that calls made: `every-input`. So demand 3 holds of it, no line meets 1 or 2, and with nothing pending P prints
 -- the lists of the skip graph of the roster's members. Assumes nothing.
 use Prim.Native.Nat.{ℕ}
-use mathlib.Core.Path.{◌≡◌, refl, sym, ap, ◌∙◌, subst}
-use mathlib.Core.Bool.{Bool, true}
-use mathlib.Core.List.{List, ◌++◌, map}
+use mathlib.Core.Path.{◌≡◌, refl, sym, ap, ◌∙◌}
+use mathlib.Core.Bool.{true}
+use mathlib.Core.List.{List, ◌++◌}
 use Rattle.memory.specs.Bytes.{AreBytes}
 use Rattle.graph.specs.Vector.{width}
-use Rattle.graph.specs.Graph.{Lots, Links, Laws, IsGraph}
+use Rattle.graph.specs.Graph.{Links}
 use Rattle.protocol.specs.State.{Seats, Meaning, members}
 use Rattle.protocol.specs.Calls.{Call}
-use Rattle.protocol.specs.Bundle.{Item, one, spread}
-use Rattle.protocol.specs.Run.{Past, Standing, log_of, Roster, members_of, roster_of, NothingPending}
+use Rattle.protocol.specs.Bundle.{spread}
+use Rattle.protocol.specs.Run.{Past, Standing, log_of, members_of, roster_of, NothingPending}
 use Rattle.protocol.proofs.Theorem as protocol-theorem
 use Rattle.record.specs.Layout.{seats}
 use Rattle.record.specs.Meaning.{seats_in, meaning}
-use Rattle.record.specs.Reading.{open_refusal, open_bytes, CountAnswer, record_refusal, read_counts}
+use Rattle.record.specs.Reading.{open_refusal, open_bytes, read_counts}
 use Rattle.record.specs.Call.{called}
 use Rattle.record.specs.Bundle.{bundle_in}
 use Rattle.record.proofs.Reading.{record-accepted}
@@ -33,8 +33,8 @@ use Rattle.listing.specs.Text.{text_of_all, text_below, list_text, level_text, l
 use Rattle.listing.proofs.Graph.{lists-graph}
 use Rattle.program.specs.Text.{counts_text}
 use Rattle.program.specs.Print.{print_text}
-use Rattle.program.specs.Input.{lines_of, carried_out}
-use Rattle.inputs.specs.Made.{calls_in, call_list, record_after, InputMade, EveryInput}
+use Rattle.program.specs.Input.{lines_of}
+use Rattle.inputs.specs.Made.{calls_in, call_list, InputMade, EveryInput}
 use Rattle.program.proofs.Printed.{print-yes, yes-lists}
 use Rattle.inputs.proofs.Calls.{input-made, calls-typed}
 

@@ -1,5 +1,7 @@
 // Join and leave over a lent record (document 01, "Calls" and "Refused calls"). The answer and the bytes left are those of record's
 // specs/Call.antt.
+#![tactic(auto)]
+
 ghost use Rattle.std.specs.Prelude.{◌≡◌, ℕ, length};
 ghost use Rattle.graph.specs.Vector.{width};
 ghost use Rattle.protocol.specs.Calls.{join as joining, leave as leaving, refusal, accept};

@@ -1,11 +1,11 @@
 -- What each arm of a line's command gives. Assumes nothing.
-use Prim.Native.Nat.{ℕ, ◌≤◌}
-use mathlib.Core.Path.{◌≡◌, refl, sym, ap, ◌∙◌}
-use mathlib.Core.Option.{some, Option}
+use Prim.Native.Nat.{ℕ}
+use mathlib.Core.Path.{◌≡◌, sym, ap, ◌∙◌}
+use mathlib.Core.Option.{Option}
 use mathlib.Core.List.{List}
 use native.Mathlib.Omega.{arith}
 use lib.ListN.{length}
-use Rattle.protocol.specs.Calls.{Call, Outcome}
+use Rattle.protocol.specs.Calls.{Call}
 use Rattle.record.specs.Call.{called}
 use Rattle.command.specs.Command.{Command, parsed}
 use Rattle.text.proofs.Put.{put_whole}

@@ -1,4 +1,6 @@
 // The lines of `lots`: what a line answers and does, and lines as they arrive in pieces of input. Nothing here reads or writes anything but the lent bytes.
+#![tactic(auto)]
+
 ghost use Rattle.std.specs.Prelude.{length, take};
 ghost use Rattle.program.specs.Line.{Gives, answered};
 ghost use Rattle.program.specs.Pieces.{Takes, fed_byte, ended};

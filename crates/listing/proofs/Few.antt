@@ -1,6 +1,6 @@
 -- The lists of a level have at most as many lots together as there are seats: a lot is in one list. Assumes the laws of the lots.
 use Prim.Native.Nat.{ℕ, zero, suc, ◌+◌, ◌≤◌, ◌<◌}
-use mathlib.Core.Path.{◌≡◌, refl, sym, ap, ◌∙◌, subst}
+use mathlib.Core.Path.{◌≡◌, refl, sym, subst}
 use mathlib.Core.Logic.{◌⊎◌, inl, inr}
 use mathlib.Core.Option.{Option, none, some}
 use mathlib.Core.Bool.{Bool, true, false, not, ◌&&◌}
@@ -10,18 +10,18 @@ use lib.Dec.{T, leb, leb→le, le→leb}
 use lib.ListN.{length}
 use Rattle.base.specs.Loops.{one_if, count, any}
 use Rattle.base.proofs.Cases.{lt-or-ge}
-use Rattle.base.proofs.Tests.{T_true, true-T, not-T-false, and_T, and-fst, and-snd, some_inj, none-some}
+use Rattle.base.proofs.Tests.{T_true, and_T, and-fst, and-snd}
 use Rattle.base.proofs.Any.{any-in, any_out}
 use Rattle.base.proofs.Count.{count-le}
-use Rattle.search.proofs.Count.{count-mono, count_less}
+use Rattle.search.proofs.Count.{count_less}
 use Rattle.graph.specs.Side.{left, right}
 use Rattle.graph.specs.Graph.{Lots, Links, Laws, in_list, graph}
 use Rattle.graph.specs.inner.Order.{Lt, to_l, to_r}
 use Rattle.graph.proofs.Neighbour.{InList, list-refl, list-sym, list-trans, test-list, list-test}
-use Rattle.graph.proofs.Neighbour.{Nearest, nearest-list, nearest-side, nobody_there, graph-nearest}
+use Rattle.graph.proofs.Neighbour.{nearest-list, nearest-side, nobody_there, graph-nearest}
 use Rattle.listing.specs.Lists.{is_there, onward, right_from, comes_before, comes_after, begins, next_first, firsts_after}
 use Rattle.listing.proofs.Firsts.{before-trans, before-irr, Listed, next-listed}
-use Rattle.listing.proofs.Graph.{begins-member, neighbour-member}
+use Rattle.listing.proofs.Graph.{begins-member}
 
 -- two tests that never pass together and make a third pass
 one_apart : (a b c : Bool) → (T a → T c) → (T b → T c) → (T a → T b → ⊥) → one_if a + one_if b ≤ one_if c

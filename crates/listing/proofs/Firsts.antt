@@ -3,13 +3,13 @@ use Prim.Native.Nat.{ℕ, zero, suc, ◌≤◌, ◌<◌}
 use mathlib.Core.Path.{◌≡◌, refl, sym, ◌∙◌}
 use mathlib.Core.Logic.{◌⊎◌, inl, inr}
 use mathlib.Core.Option.{Option, none, some}
-use mathlib.Core.Bool.{Bool, true, false, cond, ◌&&◌, ◌||◌}
+use mathlib.Core.Bool.{Bool, true, false, cond, ◌&&◌}
 use native.Mathlib.Omega.{arith}
 use lib.Dec.{T, eqb, ltb, eqb→eq, ltb→lt, lt→ltb, eqb_refl}
 use Rattle.base.proofs.Cases.{lt-or-ge}
 use Rattle.base.proofs.Tests.{true-T, and-fst, and-snd, and_T, or_cases, or_left, or_right, none-some, some_inj}
 use Rattle.graph.specs.Graph.{Lots, Links}
-use Rattle.listing.specs.Lists.{is_there, shared_bits, comes_before, comes_after, earlier, begins, first_of, next_first}
+use Rattle.listing.specs.Lists.{shared_bits, comes_before, comes_after, earlier, begins, first_of, next_first}
 
 -- the order of lists, as a relation: by bits, then by number
 data Before (b c m n : ℕ) : Type 0 where

@@ -1,19 +1,19 @@
 -- Links that are the graph's give the text of the graph. Assumes the laws of the lots.
 use Prim.Native.Nat.{ℕ, zero, suc, ◌≤◌, ◌<◌}
-use mathlib.Core.Path.{◌≡◌, refl, sym, ap, ◌∙◌}
+use mathlib.Core.Path.{◌≡◌, refl, sym, ◌∙◌}
 use mathlib.Core.Option.{Option, none, some}
 use mathlib.Core.Bool.{Bool, true, false, not, ◌&&◌}
-use mathlib.Core.List.{List, [], ◌∷◌, ◌++◌}
+use mathlib.Core.List.{List}
 use native.Mathlib.Omega.{arith}
 use lib.Dec.{T}
 use Rattle.base.proofs.Tests.{true-T, and-fst, some_inj}
 use Rattle.graph.specs.Side.{left, right}
 use Rattle.graph.specs.Graph.{Lots, Links, Laws, graph, IsGraph}
-use Rattle.graph.proofs.Neighbour.{Nearest, nearest-list, graph-nearest}
-use Rattle.listing.specs.Lists.{is_there, onward, right_from, comes_after, begins, first_of, next_first}
+use Rattle.graph.proofs.Neighbour.{nearest-list, graph-nearest}
+use Rattle.listing.specs.Lists.{is_there, onward, right_from, begins, first_of, next_first}
 use Rattle.listing.specs.Text.{text_below, list_text, level_text, lists_text, graph_text}
 use Rattle.listing.proofs.Steps.{lists_after, lists-zero, lists-none, lists-more}
-use Rattle.listing.proofs.Firsts.{Listed, next-listed}
+use Rattle.listing.proofs.Firsts.{next-listed}
 
 -- a list begins with a member
 pub begins-member : (W : ℕ) (G : Lots) (L : Links) (k x : ℕ) → T (begins W G L k x) → T (G.member x)

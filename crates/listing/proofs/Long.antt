@@ -1,13 +1,11 @@
 -- How long the text of all lists is at most: each lot counts once for each level, with its number and what stands before its list. Assumes the
 -- laws of the lots and numbers of 64 bits.
 use Prim.Native.Nat.{ℕ, zero, suc, ◌+◌, ◌*◌, ◌^◌, ◌≤◌, ◌<◌}
-use mathlib.Core.Path.{◌≡◌, refl, ap, ◌∙◌}
 use mathlib.Core.Option.{none, some}
-use mathlib.Core.List.{List, [], ◌∷◌, ◌++◌, map}
+use mathlib.Core.List.{List, [], ◌∷◌, map}
 use native.Mathlib.Nat.{mul-le-mul_left}
 use native.Mathlib.Omega.{arith}
 use lib.ListN.{length, length-append}
-use Rattle.base.specs.Loops.{tabulate}
 use Rattle.base.proofs.Tabulate.{length-tabulate}
 use Rattle.graph.specs.Graph.{Lots, Laws, graph}
 use Rattle.command.specs.Ascii.{ascii}

@@ -2,9 +2,9 @@
 -- ascending by number; each list of two or more is printed, once, bits ascending. Of the skip graph of the members, made within each component.
 -- Assumes nothing.
 use Rattle.std.specs.Prelude.{ℕ, ◌<◌, ◌≡◌, ◌↔◌, ◌≢◌, T}
-use Rattle.std.proofs.Math.Option.{Option, none, some}
+use Rattle.std.proofs.Math.Option.{some}
 use mathlib.Core.List.{List, [], ◌∷◌, Memᴰ}
-use Rattle.graph.specs.Graph.{Lots, Links, in_list, graph}
+use Rattle.graph.specs.Graph.{Lots, in_list, graph}
 use Rattle.listing.specs.Lists.{right_from, comes_before, firsts}
 
 -- each lot of a list has a larger number than the one before it

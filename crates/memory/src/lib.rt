@@ -1,5 +1,7 @@
 // Numbers and bits in lent bytes. A number is written highest byte first. Bit i of the bitmap at `base` is bit i % 8, the lowest is 0,
 // of byte base + i / 8. Each function asks that what it reads or writes lies within the bytes.
+#![tactic(auto)]
+
 ghost use Rattle.std.specs.Prelude.{◌≡◌, ◌+◌, ◌-◌, ◌*◌, ◌/◌, ◌%◌, ◌^◌, ◌≤◌, ◌<◌, length, true, not};
 ghost use Rattle.base.specs.Loops.{first_from, count as count_of};
 ghost use Rattle.memory.specs.Bytes.{number_at, put_number, digit, non_zero, zeros, fulls};

@@ -1,5 +1,5 @@
 -- The bytes of the meaning after an accepted merge: one message more. Assumes nothing.
-use Prim.Native.Nat.{ℕ, ◌<◌}
+use Prim.Native.Nat.{ℕ}
 use mathlib.Core.Path.{◌≡◌, ap, ◌∙◌}
 use mathlib.Core.List.{List}
 use Rattle.memory.specs.Bits.{set_bit}

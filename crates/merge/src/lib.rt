@@ -1,5 +1,7 @@
 // Two halves find each other (document 02, #107): of two seated lots the first gets MEET about the second at level 0. The answer and the bytes left are
 // those of record's specs/Call.antt.
+#![tactic(auto)]
+
 ghost use Rattle.std.specs.Prelude.{◌≡◌, ◌||◌, ◌<◌, length};
 ghost use Rattle.graph.specs.Vector.{width};
 ghost use Rattle.protocol.specs.State.{no_seat, empty};

@@ -1,6 +1,8 @@
 // The place of each message in the numbering of all messages (protocol's specs/Numbering.antt), the message at each place, and the first
 // place whose message is pending; module next has the smallest pending message at or after five given numbers. A message's place is the
 // bit of the record that it has.
+#![tactic(auto)]
+
 ghost use Rattle.std.specs.Prelude.{◌≡◌, ◌&&◌, ◌*◌, ◌/◌, ◌%◌, ◌≤◌, ◌<◌, eqb, ltb, length};
 ghost use Rattle.graph.specs.Vector.{width};
 ghost use Rattle.protocol.specs.Message.{name, named, meet, probe, pull, going, seek, found, none_found};

@@ -3,10 +3,6 @@ use Prim.Native.Nat.{ℕ}
 use mathlib.Core.Path.{◌≡◌, refl}
 use mathlib.Core.Option.{none, some}
 use mathlib.Core.List.{List, [], ◌∷◌}
-use lib.Dec.{eqb}
-use lib.ListN.{take}
-use Rattle.record.specs.Reading.{CountAnswer}
-use Rattle.find.specs.Find.{FindAnswer}
 use Rattle.command.specs.Ascii.{ascii}
 use Rattle.command.specs.Command.{reversed, fields_from, fields, digits_from, decimal, fitting, command_of, parsed}
 use Rattle.command.specs.Text.{shown_in, shown}

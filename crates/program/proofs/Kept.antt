@@ -1,15 +1,15 @@
 -- The bytes of an unfinished line in a buffer: one more, a full buffer, and none. Assumes nothing.
 use Prim.Native.Nat.{ℕ, zero, suc, ◌+◌, ◌≤◌, ◌<◌}
-use mathlib.Core.Path.{◌≡◌, refl, sym, ◌∙◌}
+use mathlib.Core.Path.{◌≡◌, refl, sym}
 use mathlib.Core.List.{List, [], ◌∷◌, ◌++◌}
 use native.Mathlib.Omega.{arith}
 use native.Mathlib.Numerals.{add-one}
 use lib.ListN.{length, take, set, length-append}
 use lib.Seq.{take_all, take-suc-set, take-append_seam, length-take-le, take-nil}
 use borrow.Author.Tests.{eq-eqb, ne_eqb}
-use Rattle.program.specs.Line.{Answered, Gives, answered}
+use Rattle.program.specs.Line.{Gives, answered}
 use Rattle.program.specs.Input.{newline}
-use Rattle.program.specs.Pieces.{Fed, ends_line, fed_byte, ended}
+use Rattle.program.specs.Pieces.{ends_line, fed_byte, ended}
 
 -- no text
 pub gives_nothing : (l o : List ℕ) → Gives (record { text = []; after = l }) l o o 0

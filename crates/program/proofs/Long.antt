@@ -1,6 +1,6 @@
 -- How long the texts of answers are at most. Assumes only that bytes are bytes.
-use Prim.Native.Nat.{ℕ, zero, suc, ◌+◌, ◌*◌, ◌^◌, ◌≤◌, ◌<◌}
-use mathlib.Core.Path.{◌≡◌, refl, sym, ap, ◌∙◌}
+use Prim.Native.Nat.{ℕ, ◌*◌, ◌^◌, ◌≤◌, ◌<◌}
+use mathlib.Core.Path.{◌≡◌, refl}
 use mathlib.Core.Logic.{◌⊎◌, inl, inr}
 use mathlib.Core.Option.{Option, none, some}
 use mathlib.Core.Bool.{Bool, true, false, not, cond}
@@ -23,15 +23,13 @@ use Rattle.record.specs.Reading.{CountAnswer, record_refusal, read_counts}
 use Rattle.record.proofs.Refused.{Passed}
 use Rattle.record.proofs.Reading.{counts-passed}
 use Rattle.record.proofs.Sound.{sound-is}
-use Rattle.find.specs.Find.{FindAnswer}
-use Rattle.check_links.specs.Check.{members_in, check_in}
+use Rattle.check_links.specs.Check.{members_in}
 use Rattle.check_links.proofs.Whole.{lots-laws}
 use Rattle.command.specs.Ascii.{ascii}
-use Rattle.command.specs.Text.{shown}
 use Rattle.command.proofs.Decimal.{shown-length}
 use Rattle.listing.specs.Text.{graph_text}
 use Rattle.listing.proofs.Long.{graph-length}
-use Rattle.program.specs.Text.{bad_text, refused_text, done_text, holder_text, hops_text, found_text, phase_text, counts_text}
+use Rattle.program.specs.Text.{bad_text, refused_text, done_text, holder_text, hops_text, phase_text, counts_text}
 use Rattle.program.specs.Print.{has_lists, print_text}
 use Rattle.program.specs.inner.Room.{lot_room, room}
 

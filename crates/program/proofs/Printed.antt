@@ -1,18 +1,16 @@
 -- What P prints, by what the counts and the check say. Assumes nothing.
 use Prim.Native.Nat.{ℕ, ◌<◌}
-use mathlib.Core.Path.{◌≡◌, refl, sym, ap, ◌∙◌}
+use mathlib.Core.Path.{◌≡◌, ◌∙◌}
 use mathlib.Core.Bool.{Bool, true, false, cond}
 use mathlib.Core.List.{List, [], ◌++◌, append-nil}
 use native.Mathlib.Omega.{arith}
 use borrow.Author.Tests.{eq-eqb, ne_eqb}
 use Rattle.memory.specs.Bytes.{AreBytes}
 use Rattle.graph.specs.Vector.{width}
-use Rattle.graph.specs.Graph.{Laws}
 use Rattle.record.specs.Layout.{seats}
 use Rattle.record.specs.Meaning.{meaning}
 use Rattle.record.specs.Reading.{CountAnswer, read_counts}
 use Rattle.record.proofs.Refused.{Passed}
-use Rattle.record.proofs.Reading.{counts-passed}
 use Rattle.check_links.specs.Check.{members_in, check_in}
 use Rattle.check_links.proofs.Facts.{yes-graph}
 use Rattle.check_links.proofs.Whole.{lots-laws}

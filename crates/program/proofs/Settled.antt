@@ -12,7 +12,7 @@ use Rattle.protocol.proofs.Most.{most_deliveries, bound-most}
 use Rattle.record.specs.Layout.{seats}
 use Rattle.record.specs.Reading.{record_refusal, read_counts}
 use Rattle.record.specs.Bundle.{BundleOutcome, bundled}
-use Rattle.record.proofs.Bundle.{Fine, is-sound, bundle-none, bundle-keeps, bundle-same, bundle-limit, bundle-less, bundle-sum, bundle-drains}
+use Rattle.record.proofs.Bundle.{Fine, is-sound, bundle-none, bundle-keeps, bundle-same, bundle-less, bundle-sum, bundle-drains}
 use Rattle.program.specs.Line.{settle_limit, settled}
 
 limit-enough : most_deliveries seats width ≤ settle_limit

@@ -1,1 +1,3 @@
+#![tactic(auto)]
+
 // What the program `lots` does: a specification with its theory, in specs/ and proofs/. There is no code here.

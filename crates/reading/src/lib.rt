@@ -1,5 +1,7 @@
 // Opening a record, and reading its lots, links, messages and counts (document 01, "Calls"). Any bytes and any numbers are taken. A refused
 // call gives the number of the first row of the table that applies; readings change no byte.
+#![tactic(auto)]
+
 ghost use Rattle.std.specs.Prelude.{◌≡◌};
 ghost use Rattle.protocol.specs.Message.{name};
 ghost use Rattle.record.specs.Answer.{number_of, Numbered};

@@ -21,7 +21,7 @@ use Rattle.protocol.specs.Rules.{SeatState}
 use Rattle.protocol.specs.State.{Meaning, is_free, taken}
 use Rattle.protocol.specs.Sound.{Sound, link_ok, message_ok, number_bits}
 use Rattle.protocol.proofs.Numbering.{message_at-place}
-use Rattle.record.specs.Layout.{seats, levels, number_size, vector_size, no_link, messages, size}
+use Rattle.record.specs.Layout.{seats, levels, number_size, vector_size, no_link, size}
 use Rattle.record.specs.Layout.{phase_at, state_at, number_from, vector_from, link_at, pending_from}
 use Rattle.record.specs.Cell.{Cell, phase_cell, state_cell, number_cell, vector_cell, link_cell, pending_cell}
 use Rattle.record.specs.inner.Cell.{InRecord, cell_in}

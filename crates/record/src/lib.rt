@@ -1,5 +1,7 @@
 // The record in lent bytes (docs/RECORD.md): its sizes and places, as in specs/Layout.antt, and one accessor for each field. Each asks
 // that the bytes are a record's, and that seat, level, side and place are in range.
+#![tactic(auto)]
+
 ghost use Rattle.std.specs.Prelude.{◌≡◌, ◌<◌, length, get_or, set};
 ghost use Rattle.memory.specs.Bytes.{number_at, put_number};
 ghost use Rattle.memory.specs.Bits.{bit_set, set_bit, clear_bit};

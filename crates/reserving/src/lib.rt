@@ -1,4 +1,6 @@
 // Reserving, confirming and giving back over a lent record (document 02, #105). The answer and the bytes left are those of record's specs/Call.antt.
+#![tactic(auto)]
+
 ghost use Rattle.std.specs.Prelude.{◌≡◌, ℕ, length};
 ghost use Rattle.graph.specs.Vector.{width};
 ghost use Rattle.protocol.specs.Calls.{reserve as reserving, confirm as confirming, give_back as givingBack, refusal, accept};

@@ -2,6 +2,8 @@
 // to the one function that writes links (record's src/fields.rt); the others read and send. They leave the bytes that the protocol's rule gives:
 // specs/inner/Done.antt, of `rule` in protocol's specs/pages/Deliver.antt. Those that send note the words of what they send in an index, whose
 // top they take and give. No handler asks that the record is sound.
+#![tactic(auto)]
+
 ghost use Rattle.std.specs.Prelude.{◌≡◌, not, cond, ◌&&◌, [], ◌∷◌, ◌<◌, eqb, ltb, length};
 ghost use Rattle.graph.specs.Vector.{width, bit as bit_at};
 ghost use Rattle.protocol.specs.Message.{

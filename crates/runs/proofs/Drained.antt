@@ -13,7 +13,7 @@ use Rattle.graph.specs.Components.{component_of}
 use Rattle.protocol.specs.Message.{Name}
 use Rattle.protocol.specs.State.{Seats, Meaning, member, members}
 use Rattle.protocol.specs.pages.Crash.{cut}
-use Rattle.protocol.specs.Calls.{Call, crash, refusal, seats_after, components_after, links_after, accept, call}
+use Rattle.protocol.specs.Calls.{Call, crash, refusal, seats_after, components_after, links_after, accept}
 use Rattle.protocol.specs.Bundle.{Item, left_by}
 use Rattle.protocol.specs.Sound.{Sound}
 use Rattle.protocol.proofs.Accepted.{crash-rows}
@@ -23,7 +23,7 @@ use Rattle.protocol.proofs.KeepSound.{nothing_left}
 use Rattle.protocol.proofs.Reached.{Reached, members-laws, reached-graph}
 use Rattle.protocol.proofs.ReachedCrash.{crash-nobody, cut_left}
 use Rattle.record.specs.Layout.{seats}
-use Rattle.record.specs.Meaning.{meaning, bytes_of}
+use Rattle.record.specs.Meaning.{bytes_of}
 use Rattle.record.specs.Reading.{open_refusal, read_counts}
 use Rattle.record.specs.Call.{called}
 use Rattle.record.proofs.Round.{meaning-bytes}
@@ -31,7 +31,7 @@ use Rattle.search.proofs.Agree.{Agree, graph-agrees}
 use Rattle.runs.specs.Typed.{IsU64, AllTyped}
 use Rattle.runs.specs.Run.{list_run}
 use Rattle.runs.specs.Drained.{Drained, CrashDrains}
-use Rattle.runs.proofs.Made.{Made, made, made_row, made-call, made-deliveries, delivered-seats, made_quiet, SameAs, quiet-components}
+use Rattle.runs.proofs.Made.{made, made_row, made-call, made-deliveries, delivered-seats, made_quiet, SameAs, quiet-components}
 use Rattle.runs.proofs.Made.{components-bytes, joined_bytes}
 use Rattle.runs.proofs.Right.{seats-bytes}
 

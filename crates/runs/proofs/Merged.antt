@@ -2,11 +2,10 @@
 -- ends as it would have without the call. Assumes nothing.
 use Prim.Native.Nat.{ℕ, ◌≤◌}
 use mathlib.Core.Path.{◌≡◌, refl, sym, ap, ◌∙◌, subst, fun_ext}
-use mathlib.Core.Logic.{◌↔◌, ⊎_elim}
+use mathlib.Core.Logic.{◌↔◌}
 use mathlib.Core.Option.{Option, none, some}
 use mathlib.Core.Bool.{Bool, true, false}
-use mathlib.Core.List.{List, [], ◌∷◌, ◌++◌}
-use native.Mathlib.Omega.{arith}
+use mathlib.Core.List.{List, ◌∷◌, ◌++◌}
 use native.Mathlib.Decide.{dec_le}
 use lib.Dec.{T}
 use Rattle.base.proofs.Tests.{true-T, not-T-false}
@@ -14,7 +13,7 @@ use Rattle.graph.specs.Side.{Side}
 use Rattle.graph.specs.Vector.{width}
 use Rattle.graph.specs.Graph.{graph, IsGraph}
 use Rattle.graph.specs.Constraints.{Joined}
-use Rattle.protocol.specs.Message.{Msg, Name}
+use Rattle.protocol.specs.Message.{Name}
 use Rattle.protocol.specs.State.{open_phase, Seats, Meaning, seated, member, members}
 use Rattle.protocol.specs.pages.Merge.{united}
 use Rattle.protocol.specs.Calls.{Call, merge, seats_after, components_after, accept, call}
@@ -31,7 +30,7 @@ use Rattle.protocol.proofs.ReachedMerge.{uniting-over, united-one, united-exactl
 use Rattle.protocol.proofs.Tied.{reached-tied}
 use Rattle.record.specs.Layout.{seats}
 use Rattle.record.specs.Meaning.{seats_in, meaning, bytes_of}
-use Rattle.record.specs.Reading.{open_refusal, read_counts}
+use Rattle.record.specs.Reading.{read_counts}
 use Rattle.record.specs.Call.{called}
 use Rattle.record.specs.Bundle.{bundle_in}
 use Rattle.record.proofs.Places.{length-bytes_of}
@@ -39,10 +38,9 @@ use Rattle.record.proofs.Round.{bytes-bytes, meaning-bytes}
 use Rattle.record.proofs.Sound.{bytes-sound}
 use Rattle.check_links.specs.Check.{members_in}
 use Rattle.check_links.proofs.Facts.{yes-graph, yes-labels}
-use Rattle.runs.specs.Typed.{IsU8, AllTyped}
 use Rattle.runs.specs.Tied.{TiedIn}
 use Rattle.runs.specs.Run.{bytes_run, list_run}
-use Rattle.runs.specs.Merged.{Merged, MergedAmong, AllKeepLots, MergeDrains, EveryMerge}
+use Rattle.runs.specs.Merged.{Merged, MergedAmong, EveryMerge}
 use Rattle.runs.proofs.Tied.{tied-bytes}
 use Rattle.runs.proofs.Made.{Made, made, made_row, made-call, made-deliveries, delivered-seats, made_quiet, quiet-components, joined_bytes}
 use Rattle.runs.proofs.Right.{seats-bytes}

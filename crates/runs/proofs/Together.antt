@@ -1,9 +1,9 @@
 -- Two lots of one component stay seated and in one, through every call but turn and crash: of the meaning, then of bytes through lists of calls and
 -- bundles. Assumes nothing.
 use Prim.Native.Nat.{ℕ, zero, suc}
-use mathlib.Core.Path.{◌≡◌, refl, sym, ap, ◌∙◌, subst}
+use mathlib.Core.Path.{◌≡◌, refl, sym, ◌∙◌, subst}
 use mathlib.Core.Logic.{◌≢◌, ⊎_elim}
-use mathlib.Core.Bool.{Bool, true, false}
+use mathlib.Core.Bool.{Bool, false}
 use mathlib.Core.List.{List, [], ◌∷◌, ◌++◌, map}
 use lib.Dec.{T}
 use Rattle.base.proofs.Cases.{eq-or-ne}
@@ -14,7 +14,7 @@ use Rattle.protocol.specs.Rules.{SeatState, staying, leaving, reserved, free}
 use Rattle.protocol.specs.State.{Seats, Meaning, is_seated, seated}
 use Rattle.protocol.specs.Page.{at}
 use Rattle.protocol.specs.Calls.{Call, join, reserve, confirm, give_back, leave, deliver, turn, crash, merge, refusal, seats_after, components_after}
-use Rattle.protocol.specs.Calls.{Outcome, accept, unless_refused, call, InRange}
+use Rattle.protocol.specs.Calls.{accept, InRange}
 use Rattle.protocol.specs.Bundle.{Item, one, bundle, left_by, spread}
 use Rattle.protocol.specs.Run.{Standing, step, steps, AllInRange}
 use Rattle.protocol.proofs.Calls.{at_same, at_other}

@@ -1,5 +1,7 @@
 // Whether bytes of a record's size are a sound record (document 01, "Sound"): a function for each clause of record's specs/Sound.antt, the
 // clause of the messages in pending.rt. Any bytes are read without fault.
+#![tactic(auto)]
+
 ghost use Rattle.std.specs.Prelude.{◌≡◌, ◌&&◌, length};
 ghost use Rattle.base.specs.Loops.{all};
 ghost use Rattle.record.specs.Layout.{seats, size};

@@ -1,5 +1,7 @@
 // Text put together in a lent buffer. Each function puts its text at position n and gives the position after it; a byte past the end of the
 // buffer is left out, and the position stays there.
+#![tactic(auto)]
+
 ghost use Rattle.std.specs.Prelude.{[], ◌∷◌};
 ghost use Rattle.command.specs.Text.{shown};
 ghost use Rattle.text.specs.inner.Put.{Put};

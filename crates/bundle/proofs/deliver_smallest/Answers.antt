@@ -1,6 +1,5 @@
 -- `bundle::deliver_smallest` meets its contract. The loop's invariant: so many deliveries of the bundle are made, and the rest is to be done. Assumes
 -- nothing.
-use Prim.Native.Nat.{◌-◌}
 use mathlib.Core.Path.{refl, sym, ◌∙◌}
 use native.Mathlib.Omega.{arith}
 use borrow.Author.Rules.{rules}
@@ -46,7 +45,7 @@ stands : (c : Joined-is_beyond) → let l = c.loop-n.rec in
 stands c =
     let g = c.loop-n.invariant in
     elim c.if-is_beyond.branch [
-      then-is_beyond+else-i-eq-MESSAGES w ↦
+      | then-is_beyond+else-i-eq-MESSAGES w ↦
           rw (w.index-is ∙ w.note-top.ensures.0, w.top-is ∙ w.note-top.ensures.1, w.reach-is)
           (next-found g.tracks c.is_beyond.ensures w.if-is_beyond.true w.first_pending-i.ensures.0
           (omega (arith, w.first_pending-i.ensures.1, w.if-i-eq-MESSAGES.false)))

@@ -3,7 +3,7 @@ use Rattle.bundle.proofs.Ready.{beyond-none, beyond-first}
 use Rattle.bundle.proofs.is_beyond.Goals as goal
 
 pub returns-then-top-eq0 : goal.returns-then-top-eq0
-returns-then-top-eq0 c =  beyond-none c.requires.0 c.requires.1 c.if-top-eq0.true
+returns-then-top-eq0 c = beyond-none c.requires.0 c.requires.1 c.if-top-eq0.true
 
 pub returns-else-top-eq0 : goal.returns-else-top-eq0
 returns-else-top-eq0 c =

@@ -7,4 +7,4 @@ returns-then-last c =
     struck-out c.requires.0 c.requires.1 c.if-last.true c.strike.ensures
 
 pub returns : goal.returns
-returns c =  struck-none c.requires.0 c.requires.1 c.if-last.false c.requires.2
+returns c = struck-none c.requires.0 c.requires.1 c.if-last.false c.requires.2

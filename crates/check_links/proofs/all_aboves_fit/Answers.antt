@@ -1,7 +1,6 @@
 -- `check_links::all_aboves_fit` meets its contract. The loop's invariant: all seats below x pass. Assumes nothing.
-use Prim.Native.Nat.{◌-◌}
 use mathlib.Core.Path.{ap}
-use mathlib.Core.Bool.{true, not}
+use mathlib.Core.Bool.{not}
 use Rattle.base.proofs.All.{all_none}
 use Rattle.base.proofs.Stops.{all-stop, all_go, all_end}
 use borrow.Author.Rules.{rules}

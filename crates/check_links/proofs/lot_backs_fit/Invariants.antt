@@ -1,5 +1,5 @@
 -- `check_links::lot_backs_fit` meets its contract. The loop's invariant: all levels below k pass. Assumes nothing.
-use Prim.Native.Nat.{◌≤◌, ◌-◌}
+use Prim.Native.Nat.{◌≤◌}
 use mathlib.Core.Path.{◌≡◌}
 use mathlib.Core.Bool.{true}
 use Rattle.base.specs.Loops.{all}

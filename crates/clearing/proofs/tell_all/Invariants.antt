@@ -1,5 +1,5 @@
 -- `clearing::tell_all` meets its contract: the lots below `y` are done. Assumes nothing.
-use Prim.Native.Nat.{◌≤◌, ◌-◌}
+use Prim.Native.Nat.{◌≤◌}
 use mathlib.Core.Path.{◌≡◌}
 use lib.ListN.{length}
 use Rattle.protocol.specs.Page.{each}

@@ -1,5 +1,5 @@
 -- `clearing::tell_links` meets its contract: the levels below `k` are done. Assumes nothing.
-use Prim.Native.Nat.{◌≤◌, ◌-◌}
+use Prim.Native.Nat.{◌≤◌}
 use mathlib.Core.Path.{◌≡◌}
 use lib.ListN.{length}
 use Rattle.protocol.specs.Page.{each}

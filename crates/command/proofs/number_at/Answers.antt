@@ -1,11 +1,9 @@
 -- `command::number_at` meets its contract: each test tells one byte of the line from `at` on. Assumes nothing.
 use mathlib.Core.Path.{◌≡◌, sym, ◌∙◌}
 use mathlib.Core.List.{[]}
-use mathlib.Core.Logic.{⊎_elim}
 use Prim.Native.Nat.{◌+◌}
 use lib.ListN.{get_or, drop, drop_of_length-le}
 use native.Mathlib.Omega.{arith}
-use borrow.Author.Tests.{ltb-true, ltb-false, eqb-true, eqb-false, not-true, not-false}
 use Rattle.command.proofs.Fields.{drop_here, first, first-end, first-space}
 use Rattle.command.proofs.Reading.{number-end, number-space, number-zero, number_digits}
 use Rattle.command.proofs.number_at.Goals as goal
@@ -36,7 +34,7 @@ pub returns : goal.returns
 returns c =
     let s = c.args in
     let ends : get_or s.line.now s.at 0 ≡ 48 → first (drop (s.at + 1) s.line.now) ≡ [] = λ e. elim c.else-lead-eq-ZERO.branch [
-      else-lead-eq-ZERO-via-then-lead-eq-ZERO+then-next-line+else-line-next-ne-SPACE w ↦
+      | else-lead-eq-ZERO-via-then-lead-eq-ZERO+then-next-line+else-line-next-ne-SPACE w ↦
           rw (drop_here s.line.now (s.at + 1) w.if-next-line.true) (first-space _ _ w.if-line-next-ne-SPACE.false)
       | else-lead-eq-ZERO-via-then-lead-eq-ZERO+else-next-line w ↦ rw (drop_of_length-le s.line.now w.if-next-line.false) first-end
       | else-lead-eq-ZERO-via-else-lead-eq-ZERO w ↦ absurd (w.if-lead-eq-ZERO.false e)

@@ -1,5 +1,5 @@
 -- `crash::introduce_all` meets its contract: the links of the lots below `x` are done. Assumes nothing.
-use Prim.Native.Nat.{◌≤◌, ◌-◌}
+use Prim.Native.Nat.{◌≤◌}
 use mathlib.Core.Path.{◌≡◌}
 use lib.ListN.{length}
 use Rattle.protocol.specs.Page.{each}

@@ -1,8 +1,7 @@
 -- `crash::names_empty` meets its contract. The loop's invariant: every seat of the set below s has a lot. Assumes nothing.
 use Rattle.crash.proofs.names_empty.Invariants.{emptyIn}
-use Prim.Native.Nat.{ℕ, ◌-◌}
+use Prim.Native.Nat.{ℕ}
 use mathlib.Core.Path.{◌≡◌, sym, ap, ◌∙◌}
-use mathlib.Core.Bool.{false}
 use native.Mathlib.Omega.{arith}
 use borrow.Author.Rules.{rules}
 use Rattle.base.specs.Loops.{any}

@@ -1,7 +1,6 @@
 -- `memory::first_byte` meets its contract. The loop's invariant: the search has the same answer from i on. Assumes nothing.
 use mathlib.Core.Path.{◌≡◌, ap, sym, ◌∙◌}
 use mathlib.Core.Bool.{not}
-use Prim.Native.Nat.{◌-◌}
 use native.Mathlib.Omega.{arith}
 use native.Mathlib.Nat.{sub_self}
 use lib.ListN.{get_or}

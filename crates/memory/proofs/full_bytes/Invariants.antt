@@ -1,5 +1,5 @@
 -- `memory::full_bytes` meets its contract. The loop's invariant: the bytes passed are 255. Assumes nothing.
-use Prim.Native.Nat.{◌-◌, ◌≤◌}
+use Prim.Native.Nat.{◌≤◌}
 use mathlib.Core.Path.{◌≡◌}
 use mathlib.Core.Bool.{true}
 use Rattle.memory.specs.Bytes.{fulls}

@@ -1,5 +1,5 @@
 -- `memory::full_run` meets its contract. The loop's invariant: the bytes are all 255 exactly if those from i on are. Assumes nothing.
-use Prim.Native.Nat.{◌+◌, ◌-◌}
+use Prim.Native.Nat.{◌+◌}
 use mathlib.Core.Path.{◌≡◌, sym, ◌∙◌, ap}
 use mathlib.Core.Bool.{true, false, not}
 use native.Mathlib.Omega.{arith}

@@ -1,6 +1,6 @@
 -- `memory::put_word` meets its contract. The loop's invariant: the low bytes are written so far. Assumes nothing.
 use mathlib.Core.Path.{◌≡◌}
-use Prim.Native.Nat.{◌-◌, ◌≤◌}
+use Prim.Native.Nat.{◌≤◌}
 use Rattle.memory.specs.inner.Words.{put_low}
 use Rattle.memory.proofs.put_word.Given as goal
 

@@ -1,6 +1,5 @@
 -- `memory::word` meets its contract. The loop's invariant: n is made of the bits of the bytes read so far. Assumes nothing.
 use mathlib.Core.Path.{◌≡◌, ◌∙◌}
-use Prim.Native.Nat.{◌-◌}
 use native.Mathlib.Omega.{arith}
 use borrow.Author.Rules.{rules}
 use Rattle.memory.specs.Bytes.{AreBytes}

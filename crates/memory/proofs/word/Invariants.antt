@@ -1,6 +1,6 @@
 -- `memory::word` meets its contract. The loop's invariant: n is made of the bits of the bytes read so far. Assumes nothing.
 use mathlib.Core.Path.{◌≡◌}
-use Prim.Native.Nat.{◌-◌, ◌*◌, ◌≤◌}
+use Prim.Native.Nat.{◌*◌, ◌≤◌}
 use Rattle.memory.specs.Bits.{packed, bit_set}
 use Rattle.memory.proofs.word.Given as goal
 

@@ -51,11 +51,11 @@ none_place-requires c = let a = c.args in
 pub returns-then-pair_fits : goal.returns-then-pair_fits
 unfolding exists
 returns-then-pair_fits c = rw (
-      named-meet _ _ _ _ c.in-1.is,
-      named-place,
-      ← c.pair_fits.ensures,
-      c.if-pair_fits.true,
-    ) c.meet_place.ensures.0
+  named-meet _ _ _ _ c.in-1.is,
+  named-place,
+  ← c.pair_fits.ensures,
+  c.if-pair_fits.true,
+) c.meet_place.ensures.0
 
 pub returns-else-pair_fits : goal.returns-else-pair_fits
 unfolding exists
@@ -64,11 +64,11 @@ returns-else-pair_fits c = rw (named-meet _ _ _ _ c.in-1.is, named-place, ← c.
 pub returns-then-pair_fits-2 : goal.returns-then-pair_fits-2
 unfolding exists
 returns-then-pair_fits-2 c = rw (
-      named-probe _ _ _ _ c.in-2.is,
-      named-place,
-      ← c.pair_fits-in-2.ensures,
-      c.if-pair_fits-2.true,
-    ) c.probe_place.ensures.0
+  named-probe _ _ _ _ c.in-2.is,
+  named-place,
+  ← c.pair_fits-in-2.ensures,
+  c.if-pair_fits-2.true,
+) c.probe_place.ensures.0
 
 pub returns-else-pair_fits-2 : goal.returns-else-pair_fits-2
 unfolding exists
@@ -77,51 +77,51 @@ returns-else-pair_fits-2 c = rw (named-probe _ _ _ _ c.in-2.is, named-place, ←
 pub returns-then-pull_fits : goal.returns-then-pull_fits
 unfolding exists
 returns-then-pull_fits c = rw (
-      named-pull _ _ _ _ c.in-3.is,
-      named-place,
-      and_assoc,
-      ← c.pull_fits.ensures,
-      c.if-pull_fits.true,
-    ) c.pull_place.ensures.0
+  named-pull _ _ _ _ c.in-3.is,
+  named-place,
+  and_assoc,
+  ← c.pull_fits.ensures,
+  c.if-pull_fits.true,
+) c.pull_place.ensures.0
 
 pub returns-else-pull_fits : goal.returns-else-pull_fits
 unfolding exists
 returns-else-pull_fits c = rw (
-      named-pull _ _ _ _ c.in-3.is,
-      named-place,
-      and_assoc,
-      ← c.pull_fits.ensures,
-      c.if-pull_fits.false,
-    )
+  named-pull _ _ _ _ c.in-3.is,
+  named-place,
+  and_assoc,
+  ← c.pull_fits.ensures,
+  c.if-pull_fits.false,
+)
 
 pub returns-then-side_fits : goal.returns-then-side_fits
 unfolding exists
 returns-then-side_fits c = rw (
-      named-going _ _ _ _ c.in-4.is,
-      named-place,
-      and_assoc,
-      ← c.side_fits.ensures,
-      c.if-side_fits.true,
-    ) c.going_place.ensures.0
+  named-going _ _ _ _ c.in-4.is,
+  named-place,
+  and_assoc,
+  ← c.side_fits.ensures,
+  c.if-side_fits.true,
+) c.going_place.ensures.0
 
 pub returns-else-side_fits : goal.returns-else-side_fits
 unfolding exists
 returns-else-side_fits c = rw (
-      named-going _ _ _ _ c.in-4.is,
-      named-place,
-      and_assoc,
-      ← c.side_fits.ensures,
-      c.if-side_fits.false,
-    )
+  named-going _ _ _ _ c.in-4.is,
+  named-place,
+  and_assoc,
+  ← c.side_fits.ensures,
+  c.if-side_fits.false,
+)
 
 pub returns-then-pair_fits-3 : goal.returns-then-pair_fits-3
 unfolding exists
 returns-then-pair_fits-3 c = rw (
-      named-seek _ _ _ _ c.in-5.is,
-      named-place,
-      ← c.pair_fits-in-5.ensures,
-      c.if-pair_fits-3.true,
-    ) c.seek_place.ensures.0
+  named-seek _ _ _ _ c.in-5.is,
+  named-place,
+  ← c.pair_fits-in-5.ensures,
+  c.if-pair_fits-3.true,
+) c.seek_place.ensures.0
 
 pub returns-else-pair_fits-3 : goal.returns-else-pair_fits-3
 unfolding exists
@@ -130,11 +130,11 @@ returns-else-pair_fits-3 c = rw (named-seek _ _ _ _ c.in-5.is, named-place, ← 
 pub returns-then-pair_fits-4 : goal.returns-then-pair_fits-4
 unfolding exists
 returns-then-pair_fits-4 c = rw (
-      named-found _ _ _ _ c.in-6.is,
-      named-place,
-      ← c.pair_fits-in-6.ensures,
-      c.if-pair_fits-4.true,
-    ) c.found_place.ensures.0
+  named-found _ _ _ _ c.in-6.is,
+  named-place,
+  ← c.pair_fits-in-6.ensures,
+  c.if-pair_fits-4.true,
+) c.found_place.ensures.0
 
 pub returns-else-pair_fits-4 : goal.returns-else-pair_fits-4
 unfolding exists
@@ -143,22 +143,22 @@ returns-else-pair_fits-4 c = rw (named-found _ _ _ _ c.in-6.is, named-place, ←
 pub returns-then-side_fits-2 : goal.returns-then-side_fits-2
 unfolding exists
 returns-then-side_fits-2 c = rw (
-      named_none _ _ _ _ c.in-7.is,
-      named-place,
-      and_assoc,
-      ← c.side_fits-in-7.ensures,
-      c.if-side_fits-2.true,
-    ) c.none_place.ensures.0
+  named_none _ _ _ _ c.in-7.is,
+  named-place,
+  and_assoc,
+  ← c.side_fits-in-7.ensures,
+  c.if-side_fits-2.true,
+) c.none_place.ensures.0
 
 pub returns-else-side_fits-2 : goal.returns-else-side_fits-2
 unfolding exists
 returns-else-side_fits-2 c = rw (
-      named_none _ _ _ _ c.in-7.is,
-      named-place,
-      and_assoc,
-      ← c.side_fits-in-7.ensures,
-      c.if-side_fits-2.false,
-    )
+  named_none _ _ _ _ c.in-7.is,
+  named-place,
+  and_assoc,
+  ← c.side_fits-in-7.ensures,
+  c.if-side_fits-2.false,
+)
 
 pub returns-in-0 : goal.returns-in-0
 unfolding place_of named

@@ -25,7 +25,7 @@ pub sized_refusal-n-requires : goal.sized_refusal-n-requires
 sized_refusal-n-requires c = (
   search rules,
   elim c.if-pending-eq0.branch [
-    then-pending-eq0 w ↦
+    | then-pending-eq0 w ↦
         subst (NoneBefore _) (sym w.sized_refusal-is) (none-before-end _ (sym c.count_bits-pending.ensures ∙ w.if-pending-eq0.true))
     | else-pending-eq0 w ↦ subst (NoneBefore _) (sym w.sized_refusal-is) (none-before-zero _)
   ],

@@ -21,7 +21,7 @@ met : (w : After-write_link)
     let a = w.args in
     Met a.rec.now a.to a.about a.level w.link-old.result w.side_of-d.result w.nearer-stays.result
     w.change_to.result w.write_link.new.rec
-met w =  record {
+met w = record {
   side = w.side_of-d.ensures.0;
   link = w.link-old.ensures;
   other = w.if-old-about.false;

@@ -1,5 +1,5 @@
 -- `bytes` puts its bytes: before each turn those passed. Assumes nothing.
-use Prim.Native.Nat.{◌-◌, ◌≤◌}
+use Prim.Native.Nat.{◌≤◌}
 use mathlib.Core.Path.{◌≡◌}
 use lib.ListN.{length, take}
 use Rattle.text.specs.inner.Put.{Put}

@@ -1,5 +1,5 @@
 -- `lists` meets its contract: before each turn the levels below k. Assumes nothing.
-use Prim.Native.Nat.{◌-◌, ◌≤◌}
+use Prim.Native.Nat.{◌≤◌}
 use Rattle.graph.specs.Vector.{width}
 use Rattle.record.specs.Layout.{seats, levels}
 use Rattle.record.specs.Meaning.{meaning}

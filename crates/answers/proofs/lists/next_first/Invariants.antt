@@ -1,5 +1,5 @@
 -- `next_first` meets its contract: before each turn, of the seats passed. Assumes nothing.
-use Prim.Native.Nat.{◌-◌, ◌≤◌}
+use Prim.Native.Nat.{◌≤◌}
 use mathlib.Core.Path.{◌≡◌}
 use Rattle.graph.specs.Vector.{width}
 use Rattle.record.specs.Layout.{seats}

@@ -1,5 +1,5 @@
 -- `clearing::freeing::free_seats` meets its contract: the seats below `s`, and their links, are done. Assumes nothing.
-use Prim.Native.Nat.{◌≤◌, ◌-◌}
+use Prim.Native.Nat.{◌≤◌}
 use mathlib.Core.Path.{◌≡◌}
 use lib.ListN.{length}
 use Rattle.record.specs.Layout.{seats}

@@ -1,5 +1,4 @@
 -- `Walk::advance` and `Walk::descend` meet their contracts, in one proof; the falling number is the distance and the level. Assumes nothing.
-use Prim.Native.Nat.{◌<◌}
 use mathlib.Core.Path.{sym, ◌∙◌}
 use native.Mathlib.Omega.{arith}
 use Rattle.find.proofs.Read.{number_read}

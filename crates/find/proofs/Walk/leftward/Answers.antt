@@ -7,7 +7,7 @@ use Rattle.find.proofs.Leftward.{left-seat, sets-out, from-walk, ends-here, hop-
 use Rattle.find.proofs.Walk.leftward.Goals as goal
 
 pub link-y-requires : goal.link-y-requires
-link-y-requires c =  (c.requires.fit.sized, left-seat c.requires, omega arith, omega arith)
+link-y-requires c = (c.requires.fit.sized, left-seat c.requires, omega arith, omega arith)
 
 pub loop-y-init : goal.loop-y-init
 loop-y-init c = sets-out c.requires c.link-y.ensures

@@ -1,5 +1,5 @@
 -- `joining::newcomer::any_seated` meets its contract. The loop's invariant: no seat below s is taken. Assumes nothing.
-use Prim.Native.Nat.{◌-◌, ◌≤◌}
+use Prim.Native.Nat.{◌≤◌}
 use mathlib.Core.Path.{◌≡◌}
 use mathlib.Core.Bool.{false}
 use Rattle.base.specs.Loops.{any}

@@ -1,8 +1,7 @@
 -- `joining::newcomer::has_number` meets its contract. The loop's invariant: no lot below seat s has the number. Assumes nothing.
 use Rattle.joining.proofs.newcomer.has_number.Invariants.{numbered}
-use Prim.Native.Nat.{ℕ, ◌-◌}
+use Prim.Native.Nat.{ℕ}
 use mathlib.Core.Path.{◌≡◌, sym, ap, ◌∙◌}
-use mathlib.Core.Bool.{false}
 use native.Mathlib.Omega.{arith}
 use borrow.Author.Rules.{rules}
 use Rattle.base.specs.Loops.{any}

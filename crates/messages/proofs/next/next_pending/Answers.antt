@@ -27,7 +27,6 @@ module _ (l : List ℕ) (n : Name) {i from : ℕ} (e : from ≡ place_from seats
   none-at : i ≡ messages → smallest_from seats width (meaning l).pending n ≡ none
   none-at h = none-pending-from l n (sym place ∙ h)
 
-
 pub returns-then-i-eq-MESSAGES : goal.returns-then-i-eq-MESSAGES
 unfolding name_or_zeros
 returns-then-i-eq-MESSAGES c =

@@ -1,6 +1,6 @@
 -- `reading::counts::seated_lots` meets its contract. The loop's invariant: n is the count of the seated lots passed. Assumes nothing.
 use mathlib.Core.Path.{◌≡◌, sym, ap, ◌∙◌}
-use Prim.Native.Nat.{ℕ, ◌-◌}
+use Prim.Native.Nat.{ℕ}
 use native.Mathlib.Omega.{arith}
 use borrow.Author.Rules.{rules}
 use Rattle.base.specs.Loops.{count, one_if}
@@ -24,7 +24,7 @@ loop-s-preserved c =
     let one = ap one_if c.is_seated.ensures in (
       search rules,
       elim c.if-is_seated.branch [
-        then-is_seated w ↦ omega (arith, more, one, ap one_if w.if-is_seated.true)
+        | then-is_seated w ↦ omega (arith, more, one, ap one_if w.if-is_seated.true)
         | else-is_seated w ↦ omega (arith, more, one, ap one_if w.if-is_seated.false)
       ],
     )

@@ -1,6 +1,6 @@
 -- `reading::counts::seated_lots` meets its contract. The loop's invariant: n is the count of the seated lots passed. Assumes nothing.
 use mathlib.Core.Path.{◌≡◌}
-use Prim.Native.Nat.{◌-◌, ◌≤◌}
+use Prim.Native.Nat.{◌≤◌}
 use Rattle.base.specs.Loops.{count}
 use Rattle.protocol.specs.State.{seated}
 use Rattle.record.specs.Layout.{seats}

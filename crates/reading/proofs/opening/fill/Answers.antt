@@ -1,5 +1,5 @@
 -- `reading::opening::fill` meets its contract. The loop's invariant: the first i bytes of the range are filled. Assumes nothing.
-use Prim.Native.Nat.{ℕ, ◌-◌}
+use Prim.Native.Nat.{ℕ}
 use mathlib.Core.Path.{◌≡◌, subst}
 use native.Mathlib.Omega.{arith}
 use borrow.Author.Rules.{rules}

@@ -1,5 +1,5 @@
 -- `reading::opening::fill` meets its contract. The loop's invariant: the first i bytes of the range are filled. Assumes nothing.
-use Prim.Native.Nat.{◌-◌, ◌≤◌}
+use Prim.Native.Nat.{◌≤◌}
 use Rattle.reading.specs.inner.Filled.{Filled}
 use Rattle.reading.proofs.opening.fill.Given as goal
 

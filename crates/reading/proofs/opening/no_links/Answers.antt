@@ -1,7 +1,7 @@
 -- `reading::opening::no_links` meets its contract. The loop's invariant: the links of the seats passed are none, and every other byte is 0.
 -- Assumes nothing.
 use mathlib.Core.Path.{◌≡◌, sym, subst, ◌∙◌}
-use Prim.Native.Nat.{ℕ, ◌-◌}
+use Prim.Native.Nat.{ℕ}
 use native.Mathlib.Omega.{arith}
 use borrow.Author.Rules.{rules}
 use Rattle.record.specs.Layout.{seats}

@@ -1,6 +1,6 @@
 -- `reading::opening::no_links` meets its contract. The loop's invariant: the links of the seats passed are none, and every other byte is 0.
 -- Assumes nothing.
-use Prim.Native.Nat.{◌-◌, ◌≤◌}
+use Prim.Native.Nat.{◌≤◌}
 use Rattle.record.specs.Layout.{seats}
 use Rattle.reading.proofs.Filled.{NoLinks}
 use Rattle.reading.proofs.opening.no_links.Given as goal

@@ -1,6 +1,6 @@
 -- `soundness::entries::repeats` meets its contract. The loop's invariant: y is the last lot of the bucket below some m, and who has the number
 -- is below m. Assumes nothing.
-use Prim.Native.Nat.{ℕ, ◌-◌, ◌≤◌}
+use Prim.Native.Nat.{ℕ, ◌≤◌}
 use mathlib.Core.Path.{◌≡◌}
 use Rattle.base.specs.Loops.{any}
 use Rattle.record.specs.Meaning.{seats_in}

@@ -2,10 +2,9 @@
 -- them is a lot. Assumes nothing.
 use Rattle.soundness.proofs.entries.seats_fit.Invariants.{passes}
 use borrow.Author.Rules.{rules}
-use Prim.Native.Nat.{ℕ, ◌+◌, ◌≤◌, ◌<◌, ◌-◌}
+use Prim.Native.Nat.{ℕ, ◌+◌, ◌≤◌, ◌<◌}
 use mathlib.Core.Path.{◌≡◌, sym, ◌∙◌, ap}
-use mathlib.Core.Logic.{⊎_elim}
-use mathlib.Core.Bool.{true, false, not}
+use mathlib.Core.Bool.{false, not}
 use native.Mathlib.Omega.{arith}
 use borrow.Author.Tests.{not-false, le-leb}
 use Rattle.base.proofs.All.{all_none}
@@ -13,7 +12,6 @@ use Rattle.protocol.specs.State.{taken}
 use Rattle.record.specs.Layout.{seats}
 use Rattle.record.specs.Meaning.{seats_in}
 use Rattle.base.proofs.Stops.{all-stop, all_go, all_end}
-use Rattle.soundness.specs.inner.Parts.{seat_fits}
 use Rattle.soundness.proofs.Numbers.{seat-clauses}
 use Rattle.soundness.proofs.Kept.{kept-none, none_above}
 use Rattle.soundness.proofs.entries.seats_fit.Goals as goal
@@ -38,7 +36,7 @@ top-next : (c : Joined-is_taken) → let s = c.loop-s.s in
 top-next c =
     let i = c.loop-s.invariant in
     elim c.if-is_taken.branch [
-      then-is_taken w ↦ (omega arith, λ y h g. absurd (omega arith))
+      | then-is_taken w ↦ (omega arith, λ y h g. absurd (omega arith))
       | else-is_taken w ↦
           (omega (arith, i.1), λ y h g. none_above _ c.loop-s.s c.loop-s.top i.4 (sym c.is_taken.ensures ∙ w.if-is_taken.false) y h (omega arith))
     ]

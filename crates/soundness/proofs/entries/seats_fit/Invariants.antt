@@ -1,6 +1,6 @@
 -- `soundness::entries::seats_fit` meets its contract. The loop's invariant: the seats below s pass, their lots are kept, and from `top` on none of
 -- them is a lot. Assumes nothing.
-use Prim.Native.Nat.{ℕ, ◌≤◌, ◌<◌, ◌-◌}
+use Prim.Native.Nat.{ℕ, ◌≤◌, ◌<◌}
 use mathlib.Core.Path.{◌≡◌}
 use mathlib.Core.Bool.{Bool, true, false, ◌&&◌}
 use mathlib.Core.List.{List}

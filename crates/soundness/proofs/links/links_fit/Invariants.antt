@@ -1,6 +1,6 @@
 -- `soundness::links::links_fit` meets its contract. The loop's invariant: all below x pass. Those above `top` are free seats, without links.
 -- Assumes nothing.
-use Prim.Native.Nat.{◌≤◌, ◌-◌}
+use Prim.Native.Nat.{◌≤◌}
 use mathlib.Core.Path.{◌≡◌}
 use mathlib.Core.Bool.{true, ◌&&◌}
 use Rattle.base.specs.Loops.{all}

@@ -1,7 +1,6 @@
 -- `soundness::links::lot_fits` meets its contract. The loop's invariant: all below k pass. Assumes nothing.
-use Prim.Native.Nat.{◌-◌}
 use mathlib.Core.Path.{ap}
-use mathlib.Core.Bool.{true, not}
+use mathlib.Core.Bool.{not}
 use borrow.Author.Rules.{rules}
 use Rattle.base.proofs.All.{all_none}
 use Rattle.base.proofs.Stops.{all-stop, all_go, all_end}

@@ -1,5 +1,5 @@
 -- `soundness::links::lot_fits` meets its contract. The loop's invariant: all below k pass. Assumes nothing.
-use Prim.Native.Nat.{◌≤◌, ◌-◌}
+use Prim.Native.Nat.{◌≤◌}
 use mathlib.Core.Path.{◌≡◌}
 use mathlib.Core.Bool.{true, ◌&&◌}
 use Rattle.base.specs.Loops.{all}

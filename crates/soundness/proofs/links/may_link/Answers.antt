@@ -24,4 +24,4 @@ returns-else-shares c =
     ∙ sym (link-ok _ _ _ _ _ c.requires.4)
 
 pub returns-else-is_seated : goal.returns-else-is_seated
-returns-else-is_seated c =  and-stop _ c.is_seated.ensures c.if-is_seated.false ∙ sym (link-ok _ _ _ _ _ c.requires.4)
+returns-else-is_seated c = and-stop _ c.is_seated.ensures c.if-is_seated.false ∙ sym (link-ok _ _ _ _ _ c.requires.4)

@@ -1,6 +1,6 @@
 -- `soundness::pending::messages_fit` meets its contract. The loop's invariant: the places before i pass. Assumes nothing.
 use borrow.Author.Rules.{rules}
-use Prim.Native.Nat.{◌+◌, ◌-◌, ◌*◌, ◌/◌}
+use Prim.Native.Nat.{◌+◌, ◌*◌, ◌/◌}
 use mathlib.Core.Path.{sym, ◌∙◌}
 use native.Mathlib.Omega.{arith}
 use Rattle.record.specs.Sound.{messages_fit}
