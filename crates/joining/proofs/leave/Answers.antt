@@ -22,6 +22,8 @@ may-leave c =
 pub set_state-requires : goal.set_state-requires
 set_state-requires c = let t = may-leave (goal.at.set_state-requires c).Else-n-ne0 in (t.form.sized, leave-seat t)
 
+-- the state is written,
+-- and nothing else
 pub returns : goal.returns
 unfolding number_of
 returns c =

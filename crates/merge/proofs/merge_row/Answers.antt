@@ -32,6 +32,8 @@ returns-then-lacks_lot c =
     (row_next 7 c.is_clearing.ensures c.if-is_clearing.false
     (row_here 8 _ c.lacks_lot.ensures c.if-lacks_lot.true))
 
+-- the last row asks for nothing but
+-- that the two seats are one
 pub returns-then-first-second : goal.returns-then-first-second
 unfolding refusal rows first meaning
 returns-then-first-second c =

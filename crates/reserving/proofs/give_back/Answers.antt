@@ -24,6 +24,8 @@ may-give-back c =
 pub fill-requires : goal.fill-requires
 fill-requires c = let t = may-give-back (goal.at.fill-requires c).Else-n-ne0 in (t.form.sized, give-back-seat t)
 
+-- the seat is freed,
+-- and nothing is read
 pub returns : goal.returns
 unfolding number_of
 returns c =
