@@ -1,5 +1,5 @@
-//! Links the static library that `rt staticlib cewandog` writes: from the folder
-//! in LOTS_STATICLIB, or else from `../target/staticlib`.
+//! Links the static library that `embed/archive` writes: from the folder in
+//! LOTS_STATICLIB, or else from `../target/staticlib`.
 
 use std::env;
 use std::path::Path;
@@ -12,7 +12,7 @@ fn main() {
     let archive = folder.join("libcewandog.a");
     if !archive.exists() {
         println!(
-            "cargo::warning={} is missing: run `rt staticlib cewandog`",
+            "cargo::warning={} is missing: run `embed/archive`",
             archive.display()
         );
     }
