@@ -5,8 +5,8 @@ use crate::graph::{BITS, SEATS};
 use crate::random::Random;
 
 /// By how many the soundness test divides numbers, to compare only lots whose
-/// numbers leave the same remainder: `REMAINDERS` of crates/soundness.
-pub const REMAINDERS: u64 = 1021;
+/// numbers leave the same remainder: `BUCKETS` of crates/soundness.
+pub const REMAINDERS: u64 = 509;
 
 #[derive(Clone, Copy)]
 pub enum Numbers {
