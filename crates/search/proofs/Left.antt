@@ -2,18 +2,18 @@
 -- twice, there are fewer than seated lots, none goes above x if the first does not, and they end at a staying lot or one without a left link.
 -- Assumes ordered links.
 use Prim.Native.Nat.{ℕ, zero, suc, ◌+◌, ◌≤◌, ◌<◌}
-use mathlib.Core.Path.{◌≡◌, refl}
+use mathlib.Core.Path.{◌≡◌, refl, ap, ◌∙◌}
 use mathlib.Core.Logic.{◌⊎◌, inl, inr}
 use mathlib.Core.Option.{Option, none, some}
 use mathlib.Core.List.Memᴰ
 use mathlib.Core.List.{List, [], ◌∷◌, ◌++◌, Memᴰ}
-use mathlib.Core.Bool.{Bool, true, false, cond}
+use mathlib.Core.Bool.{Bool, true, false, cond, ◌&&◌}
 use native.Mathlib.Omega.{arith}
 use lib.Dec.{T, leb, leb→le}
 use lib.ListN.{length, length-append}
 use borrow.Author.Tests.{le-leb}
 use Rattle.base.specs.Loops.{count}
-use Rattle.base.proofs.Tests.{T_true, true-T, and-fst, and-snd}
+use Rattle.base.proofs.Tests.{T_true, true-T, and_T, and-fst, and-snd}
 use Rattle.base.proofs.Cases.{true-or-false}
 use Rattle.base.proofs.Count.{count-le}
 use Rattle.graph.specs.Side.{left}
@@ -31,7 +31,7 @@ use Rattle.search.proofs.Hops.{Toward, stay, onward, toward-last, toward-at, tow
 module _ (staying : ℕ → Bool) (number : ℕ → ℕ) (x s : ℕ) where
   pub is-printable : staying s ≡ true → number s ≤ x → printable staying number x s ≡ true
   unfolding printable
-  is-printable e l = rw (e, le-leb (number s) x l)
+  is-printable e l = T_true (and_T (staying s) (leb (number s) x) (true-T e) (true-T (le-leb (number s) x l)))
 
   pub printable-is : printable staying number x s ≡ true → (staying s ≡ true) × (number s ≤ x)
   unfolding printable
@@ -45,9 +45,10 @@ unfolding to_staying
 leftward-steps nowhere zero l = refl
 leftward-steps nowhere (suc f) l = refl
 leftward-steps (arrives e) zero l = absurd (omega arith)
-leftward-steps (arrives e) (suc f) l = rw e
+leftward-steps {staying} {L} (arrives {y} e) (suc f) l = ap (λ (b : Bool). y ∷ cond b [] (to_staying staying L f (L y 0 left))) e
 leftward-steps (passes e r) zero l = absurd (omega arith)
-leftward-steps (passes {y} e r) (suc f) l = rw (e, leftward-steps r f (omega arith))
+leftward-steps {staying} {L} (passes {y} e r) (suc f) l =
+    ap (λ (b : Bool). y ∷ cond b [] (to_staying staying L f (L y 0 left))) e ∙ ap (λ (q : List ℕ). y ∷ q) (leftward-steps r f (omega arith))
 
 -- they end at a staying lot, or where there is no link
 leftward-ends : {staying : ℕ → Bool} {L : Links} (s : ℕ) {o : Option ℕ} {p : List ℕ} → L s 0 left ≡ o → Leftward staying L o p
