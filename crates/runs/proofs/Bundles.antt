@@ -26,13 +26,13 @@ module _ (l : List ℕ) (is : List (Item Call)) where
   -- a call is made of what the list left
   pub run_call : (c : Call) → list_run l (is ++ one c ∷ []) ≡ step called (list_run l is) c
   unfolding list_run bytes_run steps_from spread steps
-  run_call c = run-append called bundle_in (λ c. c) _ is (one c ∷ [])
+  run_call c = run-append called _ (λ c. c) _ is (one c ∷ [])
 
   -- a bundle stands for its deliveries
   pub run-bundle : (n : ℕ) → list_run l (is ++ bundle n ∷ []) ≡ steps called (list_run l is) (map deliver (bundle_in (list_run l is).now n))
   unfolding list_run bytes_run steps_from spread
   run-bundle n =
-      run-append called bundle_in (λ c. c) _ is (bundle n ∷ [])
+      run-append called _ (λ c. c) _ is (bundle n ∷ [])
       ∙ ap (steps called (list_run l is)) (append-nil (map deliver (bundle_in (list_run l is).now n)))
 
   -- and leaves the bytes that its contract says
