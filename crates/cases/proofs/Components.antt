@@ -103,7 +103,8 @@ abbrev Sound : List LinkOf → List Msg → Type 0
 Sound ls ms = AllHold (small_bytes open_phase three ls ms)
 
 pub components : Components
-unfolding held_fit links_written all_exist all_ok unused_of numbers_of links_of all field_in link_in at applied link_ok pair_ok message_ok exists read_as link_of
+unfolding held_fit links_written all_exist all_ok unused_of numbers_of links_of all field_in link_in at applied link_ok pair_ok message_ok exists read_as
+    link_of
     constraints_ok lot_backs lot_aboves above_ok ahead backs_ok back_of same_link member on_side bit equal_bits shared
 components = record {
   alone = check-small three [] [] tt tt (clauses-small open_phase three [] [] tt tt tt);

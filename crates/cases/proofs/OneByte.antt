@@ -21,7 +21,8 @@ use Rattle.protocol.specs.Numbering.{message_at}
 use Rattle.protocol.specs.Rules.{free}
 use Rattle.protocol.specs.Sound.{message_ok}
 use Rattle.protocol.proofs.Numbering.{side_number-lt}
-use Rattle.record.specs.Layout.{states, seats, levels, no_link, number_size, vector_size, messages, phase_at, state_at, number_from, vector_from, link_at, pending_from}
+use Rattle.record.specs.Layout.{states, seats, levels, no_link, number_size, vector_size, messages}
+use Rattle.record.specs.Layout.{phase_at, state_at, number_from, vector_from, link_at, pending_from}
 use Rattle.record.specs.Meaning.{phase_of, state_of, seats_in}
 use Rattle.record.specs.Sound.{phase_fits, states_fit, as_opened, unused_fit, numbers_differ, link_fits, links_fit, messages_fit}
 

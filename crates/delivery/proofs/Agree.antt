@@ -18,7 +18,8 @@ use Rattle.protocol.specs.State.{entry}
 use Rattle.protocol.specs.Local.{Names, AgreeFor}
 use Rattle.protocol.specs.Local.{by_link as link-names, by_meet as meet-names, by_probe as probe-names, by_seek as seek-names, by_found as found-names}
 use Rattle.protocol.proofs.Numbering.{side_number-lt}
-use Rattle.record.specs.Layout.{seats, levels, number_size, vector_size, state_offset, number_offset, vector_offset, links_offset, entry_size, entry_at, link_at}
+use Rattle.record.specs.Layout.{seats, levels, number_size, vector_size, state_offset, number_offset, vector_offset, links_offset}
+use Rattle.record.specs.Layout.{entry_size, entry_at, link_at}
 use Rattle.record.specs.Meaning.{link_of, state_of, meaning}
 use Rattle.record.specs.Local.{NamesLot, by_link, by_meet, by_probe, by_seek, by_found, SameBytes, AgreeBytes}
 use Rattle.record.proofs.Form.{meaning-state, meaning-number, meaning-vector, meaning-link, no-level-link}

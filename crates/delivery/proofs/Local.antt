@@ -26,7 +26,8 @@ use Rattle.protocol.proofs.Message.{named-name, name-named}
 use Rattle.protocol.proofs.Numbering.{side_number-lt}
 use Rattle.protocol.proofs.Accepted.{deliver-row}
 use Rattle.protocol.proofs.Local.{delivery-local, entry-local, one_link, link_set, pending-exactly}
-use Rattle.record.specs.Layout.{seats, levels, state_offset, number_offset, vector_offset, links_offset, link_size, entry_size, entry_at, link_at, pending_from, size}
+use Rattle.record.specs.Layout.{seats, levels, state_offset, number_offset, vector_offset, links_offset}
+use Rattle.record.specs.Layout.{link_size, entry_size, entry_at, link_at, pending_from, size}
 use Rattle.record.specs.Local.{AgreeBytes, Outside, BesideLink}
 use Rattle.record.specs.Cell.{Cell, phase_cell, state_cell, number_cell, vector_cell, link_cell, pending_cell, cell_from, cell_size}
 use Rattle.record.specs.inner.Cell.{InRecord}

@@ -87,7 +87,8 @@ lines_left l (line ∷ lines) =
     ∙ sym (left-append l (calls_of l (parsed line)) (calls_in a lines))
 
 -- THE RECORD AFTER AN INPUT IS THAT OF A LIST OF CALLS
-pub input-made : (l input : List ℕ) → (carried_out (open_bytes l) (lines_of input)).after ≡ (list_run l (map one (calls_in (open_bytes l) (lines_of input)))).now
+pub input-made : (l input : List ℕ)
+    → (carried_out (open_bytes l) (lines_of input)).after ≡ (list_run l (map one (calls_in (open_bytes l) (lines_of input)))).now
 input-made l input = lines_left (open_bytes l) (lines_of input) ∙ sym (run-left l (calls_in (open_bytes l) (lines_of input)))
 
 -- the five numbers of a message that exists are bytes

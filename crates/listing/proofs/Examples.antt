@@ -57,6 +57,6 @@ record Evaluated : Type 0 where
 
 evaluated : Evaluated
 unfolding q clearing descending parted equal apart graph nearest nearer beside in_list shared equal_bits bit on_side tabulate_from begins right_from
-    shared_bits comes_before comes_after earlier first_of next_first onward firsts_after text_of_all text_below bits_text list_text level_text lists_text shown_in shown
-    spaced ascii
+    shared_bits comes_before comes_after earlier first_of next_first onward firsts_after text_of_all text_below bits_text list_text level_text
+    lists_text shown_in shown spaced ascii
 evaluated = record { settled = refl; members = refl; order = refl; components = refl; levels = refl; two = refl; one = refl }

@@ -44,6 +44,6 @@ record OnAny (l : List ℕ) : Type 0 where
   long : fed_all 4 l [] (ascii "TA" ∷ ascii "TATA\nP" ∷ []) ≡ record { text = ascii "bad\n"; after = l; line = ascii "P" }
 
 on-any : (l : List ℕ) → OnAny l
-unfolding bad_text last_line lines_from carried_out answer_to answered fed_byte fed fed_all input_of ended reversed fields_from fields digits_from decimal fitting
-    command_of parsed ascii
+unfolding bad_text last_line lines_from carried_out answer_to answered fed_byte fed fed_all input_of ended reversed fields_from fields digits_from
+    decimal fitting command_of parsed ascii
 on-any l = record { whole = refl; pieces = refl; last = refl; long = refl }

@@ -142,7 +142,8 @@ module _ (X : Meaning) (s : Sound seats width X) where
       → (component_of width (member X.seats) X.link seats x ≡ component_of width (member X.seats) X.link seats y)
       ↔ Joined width (members_in (bytes_of X)) (meaning (bytes_of X)).link x y
   joined_bytes x y m n =
-      let (to, from) = components-joined (bytes_of X) (length-bytes_of X) (bytes-bytes X) (bytes-sound s) x y (rw (seats-bytes X s) m) (rw (seats-bytes X s) n) in
+      let (to, from) = components-joined (bytes_of X) (length-bytes_of X) (bytes-bytes X) (bytes-sound s) x y (rw (seats-bytes X s) m)
+      (rw (seats-bytes X s) n) in
       (λ q. to (same x ∙ q ∙ sym (same y)), λ j. sym (same x) ∙ from j ∙ same y)
     where
       same : (z : ℕ) → components_in (bytes_of X) z ≡ component_of width (member X.seats) X.link seats z

@@ -22,7 +22,8 @@ use Rattle.protocol.specs.Calls.{Call}
 use Rattle.protocol.specs.Tied.{Tied}
 use Rattle.protocol.specs.Bundle.{Item, spread}
 use Rattle.protocol.specs.Refusals.{first}
-use Rattle.protocol.specs.Run.{Past, Standing, log_of, meaning_run, members_of, roster_of, pending_of, RefusedByTable, NothingPending, MeaningDemand3, AllInRange}
+use Rattle.protocol.specs.Run.{Past, Standing, log_of, meaning_run, members_of, roster_of, pending_of}
+use Rattle.protocol.specs.Run.{RefusedByTable, NothingPending, MeaningDemand3, AllInRange}
 use Rattle.protocol.proofs.SoundFacts.{seated-below}
 use Rattle.protocol.proofs.Reached.{member-seated}
 use Rattle.protocol.proofs.Bundle.{spread-delivers}

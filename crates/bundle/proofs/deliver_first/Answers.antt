@@ -31,7 +31,8 @@ overflow_add-w c = omega (arith, within (goal.at.overflow_add-w c).After-struct_
 
 pub carry_out-requires : goal.carry_out-requires
 carry_out-requires c =
-    (c.clear_first-cleared.auto.rec ∙ sized c.args.rec.now c.requires.0, c.strike_last-rest.ensures.exact.long, within (goal.at.carry_out-requires c).After-struct_known-1)
+    let w = within (goal.at.carry_out-requires c).After-struct_known-1 in
+    (c.clear_first-cleared.auto.rec ∙ sized c.args.rec.now c.requires.0, c.strike_last-rest.ensures.exact.long, w)
 
 pub returns : goal.returns
 returns c =

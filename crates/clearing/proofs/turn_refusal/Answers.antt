@@ -17,8 +17,10 @@ returns-then-seen-ne0 c = refused-early _ turn c.look-seen.ensures.refused c.if-
 
 pub returns-then-seen-lt-MESSAGES : goal.returns-then-seen-lt-MESSAGES
 returns-then-seen-lt-MESSAGES c =
-    sym (messages-left _ (passed (goal.at.returns-then-seen-lt-MESSAGES c).Else-seen-ne0) (sym (some-pending _ (c.look-seen.ensures.first c.if-seen-ne0.false) c.if-seen-lt-MESSAGES.true)))
+    let p = passed (goal.at.returns-then-seen-lt-MESSAGES c).Else-seen-ne0 in
+    sym (messages-left _ p (sym (some-pending _ (c.look-seen.ensures.first c.if-seen-ne0.false) c.if-seen-lt-MESSAGES.true)))
 
 pub returns : goal.returns
 returns c =
-    sym (messages-left _ (passed (goal.at.returns c).Else-seen-ne0) (sym (quiet-pending _ (c.look-seen.ensures.first c.if-seen-ne0.false) c.if-seen-lt-MESSAGES.false)))
+    let p = passed (goal.at.returns c).Else-seen-ne0 in
+    sym (messages-left _ p (sym (quiet-pending _ (c.look-seen.ensures.first c.if-seen-ne0.false) c.if-seen-lt-MESSAGES.false)))

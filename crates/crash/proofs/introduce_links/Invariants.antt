@@ -9,4 +9,5 @@ use Rattle.crash.specs.inner.Steps.{level_introductions}
 use Rattle.crash.proofs.introduce_links.Given as goal
 
 abbrev pub invariant-loop-k : goal.invariant-loop-k
-invariant-loop-k l = (0 < l.k) × (l.k ≤ levels) × (length l.rec ≡ length l.initial.rec) × Step same (λ M. saying M (each (l.k - 1) (level_introductions M.link l.x))) l.initial.rec l.rec
+invariant-loop-k l = (0 < l.k) × (l.k ≤ levels) × (length l.rec ≡ length l.initial.rec)
+    × Step same (λ M. saying M (each (l.k - 1) (level_introductions M.link l.x))) l.initial.rec l.rec

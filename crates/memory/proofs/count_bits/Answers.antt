@@ -52,7 +52,8 @@ loop-at-smaller c = let f = found-next (goal.at.loop-at-smaller c).After-first_b
 pub loop-at-preserved : goal.loop-at-preserved
 loop-at-preserved c = let s = c.args in
     let f = found-next (goal.at.loop-at-preserved c).After-first_byte-at-in-loop-at in
-    (omega (arith, f.low), omega (arith, f.high), refl, counted (goal.at.loop-at-preserved c).After-count_chunk-n ∙ sym (count-passed s.rec.now s.base (omega arith) f))
+    let n = counted (goal.at.loop-at-preserved c).After-count_chunk-n in
+    (omega (arith, f.low), omega (arith, f.high), refl, n ∙ sym (count-passed s.rec.now s.base (omega arith) f))
 
 pub returns : goal.returns
 returns c = let s = c.args in

@@ -20,7 +20,8 @@ found c = let s = c.args in
 pub returns-then-at-end : goal.returns-then-at-end
 returns-then-at-end c = let s = c.args in
     let at = c.first_byte-at.result in
-    sym (first-bytes-none s.rec.now s.base s.count s.b at (omega arith) (omega arith) (found (goal.at.returns-then-at-end c).After-first_byte-at) c.if-at-end.true)
+    let w = found (goal.at.returns-then-at-end c).After-first_byte-at in
+    sym (first-bytes-none s.rec.now s.base s.count s.b at (omega arith) (omega arith) w c.if-at-end.true)
 
 pub overflow_sub-result : goal.overflow_sub-result
 overflow_sub-result c = let f = found (goal.at.overflow_sub-result c).After-first_byte-at in omega (arith, f.low)

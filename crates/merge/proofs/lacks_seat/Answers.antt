@@ -10,4 +10,5 @@ returns-then-first-ge-SEATS c = rw (le-leb _ _ c.if-first-ge-SEATS.true, le-ltb 
 
 pub returns-else-first-ge-SEATS : goal.returns-else-first-ge-SEATS
 returns-else-first-ge-SEATS c = let b = c.args.second in
-    rw (lt-ltb _ _ c.if-first-ge-SEATS.false) (⊎_elim (λ h. rw (lt-ltb b seats h, lt-leb seats b h)) (λ h. rw (le-ltb b seats h, le-leb seats b h)) (lt-or-ge b seats))
+    rw (lt-ltb _ _ c.if-first-ge-SEATS.false)
+    (⊎_elim (λ h. rw (lt-ltb b seats h, lt-leb seats b h)) (λ h. rw (le-ltb b seats h, le-leb seats b h)) (lt-or-ge b seats))

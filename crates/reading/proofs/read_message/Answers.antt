@@ -15,7 +15,9 @@ pub returns-then-n-ne0 : goal.returns-then-n-ne0
 returns-then-n-ne0 c = (message-refused _ _ c.record_refusal-n.ensures c.if-n-ne0.true, omega (arith, c.if-n-ne0.true))
 
 pub returns-then-i-eq-MESSAGES : goal.returns-then-i-eq-MESSAGES
-returns-then-i-eq-MESSAGES c = (message-value _ _ (sym (no_place _ _ c.place_of-i.ensures c.if-i-eq-MESSAGES.true)) (passed (goal.at.returns-then-i-eq-MESSAGES c).Else-n-ne0), tt)
+returns-then-i-eq-MESSAGES c =
+    let p = passed (goal.at.returns-then-i-eq-MESSAGES c).Else-n-ne0 in
+    (message-value _ _ (sym (no_place _ _ c.place_of-i.ensures c.if-i-eq-MESSAGES.true)) p, tt)
 
 pub is_pending-requires : goal.is_pending-requires
 is_pending-requires c = ((passed (goal.at.is_pending-requires c).Else-n-ne0).sized, place-below _ c.place_of-i.ensures c.if-i-eq-MESSAGES.false)

@@ -76,15 +76,20 @@ pub overflow_cast-y-in-loop-y : goal.overflow_cast-y-in-loop-y
 overflow_cast-y-in-loop-y c =
     let x = c.loop-y.y - 1 in
     let least = last-le c.args.rec.now x (bucket_of c.args.rec.now c.args.s) in
-    Fits-under w64 _ seats (omega (arith, c.requires.1, (goes_on (goal.at.overflow_cast-y-in-loop-y c).After-y-in-loop-y-1).0, least, (lot (goal.at.overflow_cast-y-in-loop-y c).In-loop-y).below, c.loop-y.invariant.1.1)) tt
+    let on = goes_on (goal.at.overflow_cast-y-in-loop-y c).After-y-in-loop-y-1 in
+    let here = lot (goal.at.overflow_cast-y-in-loop-y c).In-loop-y in
+    Fits-under w64 _ seats (omega (arith, c.requires.1, on.0, least, here.below, c.loop-y.invariant.1.1)) tt
 
 pub loop-y-smaller : goal.loop-y-smaller
 loop-y-smaller c =
-    omega (arith, (goes_on (goal.at.loop-y-smaller c).After-y-in-loop-y-1).0, last-le c.args.rec.now (c.loop-y.y - 1) (bucket_of c.args.rec.now c.args.s), c.loop-y-test.true)
+    let on = goes_on (goal.at.loop-y-smaller c).After-y-in-loop-y-1 in
+    omega (arith, on.0, last-le c.args.rec.now (c.loop-y.y - 1) (bucket_of c.args.rec.now c.args.s), c.loop-y-test.true)
 
 pub loop-y-preserved : goal.loop-y-preserved
 loop-y-preserved c =
-    (c.loop-y.invariant.0, (c.loop-y.y - 1, omega (arith, (lot (goal.at.loop-y-preserved c).In-loop-y).below, c.loop-y.invariant.1.1), (goes_on (goal.at.loop-y-preserved c).After-y-in-loop-y-1).0, (goes_on (goal.at.loop-y-preserved c).After-y-in-loop-y-1).1))
+    let on = goes_on (goal.at.loop-y-preserved c).After-y-in-loop-y-1 in
+    let here = lot (goal.at.loop-y-preserved c).In-loop-y in
+    (c.loop-y.invariant.0, (c.loop-y.y - 1, omega (arith, here.below, c.loop-y.invariant.1.1), on.0, on.1))
 
 pub returns : goal.returns
 returns c =

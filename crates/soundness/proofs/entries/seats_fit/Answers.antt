@@ -45,7 +45,8 @@ pub loop-s-preserved : goal.loop-s-preserved
 loop-s-preserved c = let i = c.loop-s.invariant in
     let fits = c.seat_fits.ensures in
     let passed = (ap not c.if-not-seat_fits.false) in
-    (search rules, (top-next (goal.at.loop-s-preserved c).Joined-is_taken).0, all_go _ _ i.2 fits.0 passed, fits.1 (not-false _ passed), (top-next (goal.at.loop-s-preserved c).Joined-is_taken).1)
+    let next = top-next (goal.at.loop-s-preserved c).Joined-is_taken in
+    (search rules, next.0, all_go _ _ i.2 fits.0 passed, fits.1 (not-false _ passed), next.1)
 
 pub returns : goal.returns
 returns c = let i = c.loop-s.invariant in
