@@ -5,20 +5,20 @@ use Rattle.base.specs.Loops.{tabulate}
 use Rattle.graph.specs.Side.{left, right}
 use Rattle.record.specs.Layout.{no_link, entry_size}
 use Rattle.record.specs.inner.Entry.{Written}
-use Rattle.record.specs.declared.fields.Change.TheVariants.{Keep, Set}
+use Rattle.std.specs.Prelude.{None, Some}
 
 abbrev pub bytes : List ℕ
 bytes = tabulate entry_size (λ j. j)
 
 pub record Writings : Type 0 where
   -- the first link, the last, and one between
-  pub sets : Written bytes (set bytes 10 63) 0 left (Set 63)
-      × Written bytes (set bytes 27 63) 8 right (Set 63)
-      × Written bytes (set bytes 14 63) 2 left (Set 63)
+  pub sets : Written bytes (set bytes 10 63) 0 left (Some 63)
+      × Written bytes (set bytes 27 63) 8 right (Some 63)
+      × Written bytes (set bytes 14 63) 2 left (Some 63)
   -- one byte beside: the vector's, and the opposite link's
-  pub beside : (Written bytes (set bytes 9 63) 0 left (Set 63) → ⊥) × (Written bytes (set bytes 11 63) 0 left (Set 63) → ⊥)
+  pub beside : (Written bytes (set bytes 9 63) 0 left (Some 63) → ⊥) × (Written bytes (set bytes 11 63) 0 left (Some 63) → ⊥)
   -- the opposite link cleared with it
-  pub opposite : Written bytes (set (set bytes 14 63) 15 no_link) 2 left (Set 63) → ⊥
+  pub opposite : Written bytes (set (set bytes 14 63) 15 no_link) 2 left (Some 63) → ⊥
   -- a link set to what it is, and one that stays: every byte as it was, and no other entry
-  pub same : Written bytes bytes 2 left (Set 14)
-  pub kept : Written bytes bytes 2 left Keep × (Written bytes (set bytes 14 63) 2 left Keep → ⊥)
+  pub same : Written bytes bytes 2 left (Some 14)
+  pub kept : Written bytes bytes 2 left None × (Written bytes (set bytes 14 63) 2 left None → ⊥)

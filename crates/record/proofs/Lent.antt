@@ -16,8 +16,7 @@ use Rattle.protocol.proofs.Numbering.{side_number-lt}
 use Rattle.record.specs.Layout.{seats, levels, link_size, link_offset, entry_size, entry_at, size, link_at}
 use Rattle.record.specs.Local.{Outside}
 use Rattle.record.specs.inner.Entry.{LinkSet, Written, written}
-use Rattle.record.specs.declared.fields.Change.{Change}
-use Rattle.record.specs.declared.fields.Change.TheVariants.{Keep, Set}
+use Rattle.std.specs.Prelude.{Option, None, Some}
 
 -- the byte of a link set in an entry, at i
 pub link_set : (e : List ℕ) (k : ℕ) (d : Side) (v i : ℕ) → length e ≡ entry_size → k < levels → i ≡ link_offset k d
@@ -82,9 +81,9 @@ module _ (l : List ℕ) (s : ℕ) (z : length l ≡ size) (g : s < seats) where
     length_back = same_len_mid (entry_at s) (lent_size s) l e (y ∙ sym length-lent)
 
   -- a link written in it is written in the record
-  pub written-lent : (e : List ℕ) (k : ℕ) (d : Side) (c : Change) → k < levels → Written (lent l s) e k d c → lent_back l s e ≡ written l s k d c
-  written-lent e k d Keep h w = ap (lent_back l s) w ∙ put_same (entry_at s) (lent_size s) l
-  written-lent e k d (Set v) h w =
+  pub written-lent : (e : List ℕ) (k : ℕ) (d : Side) (c : Option ℕ) → k < levels → Written (lent l s) e k d c → lent_back l s e ≡ written l s k d c
+  written-lent e k d None h w = ap (lent_back l s) w ∙ put_same (entry_at s) (lent_size s) l
+  written-lent e k d (Some v) h w =
       ext_get_or 0 (lent_back l s e) (set l (link_at s k d) v) (length_back e y ∙ sym (length-set l (link_at s k d) v)) (λ i b. same i)
     where
       y : length e ≡ entry_size

@@ -5,20 +5,12 @@ ghost use Rattle.graph.specs.Side.{side_of_number};
 ghost use Rattle.record.specs.Layout.{levels, entry_size};
 ghost use Rattle.record.specs.inner.Entry.{Written};
 
-// What becomes of a link: it stays, or it is set to a seat or NONE.
-#[derive(Drop)]
-pub enum Change {
-    Keep,
-    Set(u8),
-}
-
-// A change of its link at level k on side d.
-pub fn write_link(entry: &mut [u8], k: usize, d: usize, change: Change)
+// A change of its link at level k on side d: it is set to a seat or NONE, or it stays.
+pub fn write_link(entry: &mut [u8], k: usize, d: usize, change: Option<u8>)
     requires { (length entry.old ≡ entry_size) × (k < levels) × (d < 2) }
     ensures { Written entry.old entry.new k (side_of_number d) change }
 {
-    match change {
-        Change::Keep => {}
-        Change::Set(v) => entry[crate::LINKS_AT + 2 * k + d] = v,
+    if let Some(v) = change {
+        entry[crate::LINKS_AT + 2 * k + d] = v;
     }
 }

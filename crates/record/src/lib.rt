@@ -5,7 +5,6 @@
 ghost use Rattle.std.specs.Prelude.{◌≡◌, ◌<◌, length, get_or, set};
 ghost use Rattle.memory.specs.Bytes.{number_at, put_number};
 ghost use Rattle.memory.specs.Bits.{bit_set, set_bit, clear_bit};
-ghost use Rattle.record.specs.Answer.{number_of, Numbered};
 ghost use Rattle.graph.specs.Side.{side_of_number};
 ghost use Rattle.record.specs.Layout.{seats, levels, messages, number_size, vector_size, size};
 ghost use Rattle.record.specs.Layout.{phase_at, state_at, number_from, vector_from, link_at, pending_from};
@@ -14,8 +13,6 @@ ghost use Rattle.record.specs.inner.Entry.{filled, written};
 pub mod fields;
 pub mod lots;
 pub mod refusals;
-
-use fields::Change;
 
 // The seats, the width of a vector, and the levels that it gives.
 pub const SEATS: usize = 64;
@@ -170,8 +167,8 @@ pub fn link(rec: &[u8], s: usize, k: usize, d: usize) -> u8
     rec[ENTRIES + ENTRY * s + LINKS_AT + 2 * k + d]
 }
 
-// A change of that link. The entry of s is lent for it, and no other.
-pub fn write_link(rec: &mut [u8], s: usize, k: usize, d: usize, change: Change)
+// A change of that link: it is set to a seat or NONE, or it stays. The entry of s is lent for it, and no other.
+pub fn write_link(rec: &mut [u8], s: usize, k: usize, d: usize, change: Option<u8>)
     requires { (length rec.old ≡ size) × (s < seats) × (k < levels) × (d < 2) }
     ensures { rec.new ≡ written rec.old s k (side_of_number d) change }
 {
@@ -202,21 +199,4 @@ pub fn take(rec: &mut [u8], i: usize)
     ensures { rec.new ≡ clear_bit rec.old pending_from i }
 {
     memory::clear_bit(rec, PENDING, i);
-}
-
-// The answer of a changing call.
-#[derive(Drop)]
-pub enum Answer {
-    Done,
-    Refused(u8),
-}
-
-// The answer from the refusal number, 0 if the call is accepted.
-pub fn answer_of(refused: u8) -> Answer
-    ensures { (number_of result ≡ refused) × Numbered result }
-{
-    if refused == 0 {
-        return Answer::Done;
-    }
-    Answer::Refused(refused)
 }

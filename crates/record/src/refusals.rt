@@ -1,30 +1,31 @@
-// The refusal numbers (document 01, "Refused calls", and the requests of document 02).
-pub const WRONG_SIZE: u8 = 1;
+// The refusals (document 01, "Refused calls", and the requests of document 02), each with its number.
+ghost use Rattle.std.specs.Prelude.{◌≡◌};
+ghost use Rattle.record.specs.Answer.{refusal_number};
 
-pub const UNSOUND: u8 = 2;
+// Why a call is refused.
+#[derive(Clone, Copy, Debug, PartialEq, Eq)]
+pub enum Refusal {
+    WrongSize = 1,
+    Unsound = 2,
+    NoSuchSeat = 3,
+    SeatTaken = 4,
+    NumberInUse = 5,
+    NoContact = 6,
+    InClearing = 7,
+    EmptySeat = 8,
+    AlreadyLeaving = 9,
+    NoSuchMessage = 10,
+    MessagesLeft = 11,
+    NoSuchLevel = 12,
+    Unsettled = 13,
+    NotReserved = 14,
+    SameLot = 15,
+}
 
-pub const NO_SUCH_SEAT: u8 = 3;
+impl From<Refusal> for u8 {
+    ghost from_gives = { λ refusal number. number ≡ refusal_number refusal };
 
-pub const SEAT_TAKEN: u8 = 4;
-
-pub const NUMBER_IN_USE: u8 = 5;
-
-pub const NO_CONTACT: u8 = 6;
-
-pub const IN_CLEARING: u8 = 7;
-
-pub const EMPTY_SEAT: u8 = 8;
-
-pub const ALREADY_LEAVING: u8 = 9;
-
-pub const NO_SUCH_MESSAGE: u8 = 10;
-
-pub const MESSAGES_LEFT: u8 = 11;
-
-pub const NO_SUCH_LEVEL: u8 = 12;
-
-pub const UNSETTLED: u8 = 13;
-
-pub const NOT_RESERVED: u8 = 14;
-
-pub const SAME_LOT: u8 = 15;
+    fn from(refusal: Refusal) -> u8 {
+        refusal as u8
+    }
+}

@@ -1,12 +1,10 @@
 -- The state, number and vector of an entry written; a seat without links; and an entry that is lent alone, a part of the record that begins in its
 -- middle: what the writing of a link leaves of it, and of the record that it is a part of. Assumes nothing.
-use Rattle.std.specs.Prelude.{ℕ, ◌≡◌, Bool, ◌&&◌, List, eqb, length, get_or, set}
+use Rattle.std.specs.Prelude.{ℕ, ◌≡◌, Bool, ◌&&◌, List, Option, None, Some, eqb, length, get_or, set}
 use Rattle.memory.specs.Bytes.{number_at, put_number}
 use Rattle.graph.specs.Side.{Side, left, right}
 use Rattle.record.specs.Layout.{number_size, vector_size, link_size, no_link, link_offset, state_at, number_from, vector_from, link_at}
 use Rattle.record.specs.Local.{Outside}
-use Rattle.record.specs.declared.fields.Change.{Change}
-use Rattle.record.specs.declared.fields.Change.TheVariants.{Keep, Set}
 
 -- state t, number n and vector v on seat s
 abbrev pub filled : List ℕ → (s t n v : ℕ) → List ℕ
@@ -22,12 +20,12 @@ pub record LinkSet (e e' : List ℕ) (level : ℕ) (d : Side) (v : ℕ) : Type 0
   pub link : number_at e' (link_offset level d) link_size ≡ v
   pub others : (j : ℕ) → Outside (link_offset level d) link_size j → get_or e' j 0 ≡ get_or e j 0
 
--- what a change of that link leaves of an entry: where the link stays, every byte is as it was
-abbrev pub Written : (e e' : List ℕ) (level : ℕ) → Side → Change → Type 0
-Written e e' k d Keep = e' ≡ e
-Written e e' k d (Set v) = LinkSet e e' k d v
+-- what a change of that link leaves of an entry: it is set to v, or it stays, and every byte is as it was
+abbrev pub Written : (e e' : List ℕ) (level : ℕ) → Side → Option ℕ → Type 0
+Written e e' k d None = e' ≡ e
+Written e e' k d (Some v) = LinkSet e e' k d v
 
 -- and of the record, where it is the entry of seat s
-abbrev pub written : List ℕ → (s level : ℕ) → Side → Change → List ℕ
-written l s k d Keep = l
-written l s k d (Set v) = set l (link_at s k d) v
+abbrev pub written : List ℕ → (s level : ℕ) → Side → Option ℕ → List ℕ
+written l s k d None = l
+written l s k d (Some v) = set l (link_at s k d) v

@@ -4,11 +4,8 @@ use Rattle.record.proofs.Places.{link_offset-number}
 use Rattle.record.proofs.Lent.{link_set}
 use Rattle.record.proofs.fields.write_link.Goals as goal
 
-pub returns-in-Keep : goal.returns-in-Keep
-returns-in-Keep c = rw c.in-Keep.is
-
-pub returns-in-Set : goal.returns-in-Set
-returns-in-Set c =
+pub returns-in-Some : goal.returns-in-Some
+returns-in-Some c =
     let a = c.args in
-    rw c.in-Set.is
+    rw c.in-Some.is
     (link_set a.entry.now a.k (side_of_number a.d) _ _ c.requires.0 c.requires.1 (link_offset-number a.k a.d c.requires.2))
