@@ -1,6 +1,6 @@
 // The place of each message in the numbering of all messages (protocol's specs/Numbering.antt), the message at each place, and the first
-// place whose message is pending; module next has the smallest pending message at or after five given numbers. A message's place is the
-// bit of the record that it has.
+// place whose message is pending; module next has the smallest pending message at or after a given one. A message's place is the bit of the
+// record that it has.
 #![tactic(auto)]
 
 ghost use Rattle.std.specs.Prelude.{◌≡◌, ◌&&◌, ◌*◌, ◌/◌, ◌%◌, ◌≤◌, ◌<◌, eqb, ltb, length};
@@ -9,7 +9,7 @@ ghost use Rattle.protocol.specs.Message.{name, named, meet, probe, pull, going, 
 ghost use Rattle.protocol.specs.Numbering.{place, pulls, sides};
 ghost use Rattle.record.specs.Layout.{seats, levels, messages, size};
 ghost use Rattle.graph.specs.Side.{side_of_number};
-ghost use Rattle.messages.specs.inner.Places.{place_of};
+ghost use Rattle.messages.specs.inner.Places.{place_of, IsPlace};
 ghost use Rattle.messages.specs.inner.Numbers.{numbers, Stands, first_pending};
 
 pub mod next;
@@ -34,8 +34,8 @@ pub const FOUNDS: usize = SEEKS + PAIRS;
 
 pub const NONES: usize = FOUNDS + PAIRS;
 
-// The five numbers of a message.
-#[derive(Drop)]
+// The five numbers of a message, or any five numbers.
+#[derive(Clone, Copy, Debug, PartialEq, Eq)]
 pub struct Message {
     pub kind: u8,
     pub to: u8,
@@ -114,47 +114,51 @@ fn side_fits(to: usize, about: usize, level: usize, side: usize) -> bool
     about == 0 && (side < 2 && (to < SEATS && level < LEVELS))
 }
 
-// The place of the message that five numbers name, or MESSAGES if they name none.
-pub fn place_of(kind: u8, to: usize, about: usize, level: usize, side: usize) -> usize
-    ensures { result ≡ place_of (named (name kind to about level side)) }
+// The place of the message that five numbers name, if they name one.
+pub fn place_of(m: Message) -> Option<usize>
+    ensures { IsPlace result (place_of (named (numbers m))) }
 {
-    match kind {
+    let to = m.to as usize;
+    let about = m.about as usize;
+    let level = m.level as usize;
+    let side = m.side as usize;
+    match m.kind {
         1 => if pair_fits(to, about, level, side, LEVELS) {
-            meet_place(to, about, level)
+            Some(meet_place(to, about, level))
         } else {
-            MESSAGES
+            None
         },
         2 => if pair_fits(to, about, level, side, WIDTH) {
-            probe_place(to, about, level)
+            Some(probe_place(to, about, level))
         } else {
-            MESSAGES
+            None
         },
         3 => if pull_fits(to, about, level, side) {
-            pull_place(to, about, level, side)
+            Some(pull_place(to, about, level, side))
         } else {
-            MESSAGES
+            None
         },
         4 => if side_fits(to, about, level, side) {
-            going_place(to, level, side)
+            Some(going_place(to, level, side))
         } else {
-            MESSAGES
+            None
         },
         5 => if pair_fits(to, about, level, side, LEVELS) {
-            seek_place(to, about, level)
+            Some(seek_place(to, about, level))
         } else {
-            MESSAGES
+            None
         },
         6 => if pair_fits(to, about, level, side, LEVELS) {
-            found_place(to, about, level)
+            Some(found_place(to, about, level))
         } else {
-            MESSAGES
+            None
         },
         7 => if side_fits(to, about, level, side) {
-            none_place(to, level, side)
+            Some(none_place(to, level, side))
         } else {
-            MESSAGES
+            None
         },
-        0 | 8..=255 => MESSAGES,
+        0 | 8..=255 => None,
     }
 }
 
@@ -229,10 +233,11 @@ pub fn message_at(i: usize) -> Message
     side_at(7, i - NONES)
 }
 
-// The first place at or after `from` whose message is pending, or MESSAGES if there is none.
-pub fn first_pending(rec: &[u8], from: usize) -> usize
+// The first place at or after `from` whose message is pending, if there is one.
+pub fn first_pending(rec: &[u8], from: usize) -> Option<usize>
     requires { (length rec.now ≡ size) × (from ≤ messages) }
-    ensures { (result ≡ first_pending rec.now from) × (result ≤ messages) }
+    ensures { IsPlace result (first_pending rec.now from) }
 {
-    memory::first_bit(rec, PENDING, from, MESSAGES)
+    let i = memory::first_bit(rec, PENDING, from, MESSAGES);
+    if i < MESSAGES { Some(i) } else { None }
 }

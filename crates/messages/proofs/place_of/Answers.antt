@@ -11,39 +11,39 @@ use Rattle.messages.proofs.Named.{named-rest, named-place, three-below}
 use Rattle.messages.proofs.place_of.Goals as goal
 
 pub meet_place-requires : goal.meet_place-requires
-meet_place-requires c = let a = c.args in
+meet_place-requires c = let a = c.args.m in
     let t = true-T (sym c.pair_fits.ensures ∙ c.if-pair_fits.true) in
     three-below a.to a.about a.level _ _ _ (and-snd (eqb a.side 0) _ t)
 
 pub probe_place-requires : goal.probe_place-requires
-probe_place-requires c = let a = c.args in
+probe_place-requires c = let a = c.args.m in
     let t = true-T (sym c.pair_fits-in-2.ensures ∙ c.if-pair_fits-2.true) in
     three-below a.to a.about a.level _ _ _ (and-snd (eqb a.side 0) _ t)
 
 pub pull_place-requires : goal.pull_place-requires
-pull_place-requires c = let a = c.args in
+pull_place-requires c = let a = c.args.m in
     let t = true-T (sym c.pull_fits.ensures ∙ c.if-pull_fits.true) in
     let p = three-below a.side a.to a.level _ _ _ (and-snd (ltb a.about 2) _ t) in
     (p.1, ltb→lt a.about 2 (and-fst (ltb a.about 2) _ t), p.2, p.0)
 
 pub going_place-requires : goal.going_place-requires
-going_place-requires c = let a = c.args in
+going_place-requires c = let a = c.args.m in
     let t = true-T (sym c.side_fits.ensures ∙ c.if-side_fits.true) in
     let p = three-below a.side a.to a.level _ _ _ (and-snd (eqb a.about 0) _ t) in
     (p.1, p.2, p.0)
 
 pub seek_place-requires : goal.seek_place-requires
-seek_place-requires c = let a = c.args in
+seek_place-requires c = let a = c.args.m in
     let t = true-T (sym c.pair_fits-in-5.ensures ∙ c.if-pair_fits-3.true) in
     three-below a.to a.about a.level _ _ _ (and-snd (eqb a.side 0) _ t)
 
 pub found_place-requires : goal.found_place-requires
-found_place-requires c = let a = c.args in
+found_place-requires c = let a = c.args.m in
     let t = true-T (sym c.pair_fits-in-6.ensures ∙ c.if-pair_fits-4.true) in
     three-below a.to a.about a.level _ _ _ (and-snd (eqb a.side 0) _ t)
 
 pub none_place-requires : goal.none_place-requires
-none_place-requires c = let a = c.args in
+none_place-requires c = let a = c.args.m in
     let t = true-T (sym c.side_fits-in-7.ensures ∙ c.if-side_fits-2.true) in
     let p = three-below a.side a.to a.level _ _ _ (and-snd (eqb a.about 0) _ t) in
     (p.1, p.2, p.0)
@@ -55,7 +55,7 @@ returns-then-pair_fits c = rw (
   named-place,
   ← c.pair_fits.ensures,
   c.if-pair_fits.true,
-) c.meet_place.ensures.0
+) c.meet_place.ensures
 
 pub returns-else-pair_fits : goal.returns-else-pair_fits
 unfolding exists
@@ -68,7 +68,7 @@ returns-then-pair_fits-2 c = rw (
   named-place,
   ← c.pair_fits-in-2.ensures,
   c.if-pair_fits-2.true,
-) c.probe_place.ensures.0
+) c.probe_place.ensures
 
 pub returns-else-pair_fits-2 : goal.returns-else-pair_fits-2
 unfolding exists
@@ -82,7 +82,7 @@ returns-then-pull_fits c = rw (
   and_assoc,
   ← c.pull_fits.ensures,
   c.if-pull_fits.true,
-) c.pull_place.ensures.0
+) c.pull_place.ensures
 
 pub returns-else-pull_fits : goal.returns-else-pull_fits
 unfolding exists
@@ -102,7 +102,7 @@ returns-then-side_fits c = rw (
   and_assoc,
   ← c.side_fits.ensures,
   c.if-side_fits.true,
-) c.going_place.ensures.0
+) c.going_place.ensures
 
 pub returns-else-side_fits : goal.returns-else-side_fits
 unfolding exists
@@ -121,7 +121,7 @@ returns-then-pair_fits-3 c = rw (
   named-place,
   ← c.pair_fits-in-5.ensures,
   c.if-pair_fits-3.true,
-) c.seek_place.ensures.0
+) c.seek_place.ensures
 
 pub returns-else-pair_fits-3 : goal.returns-else-pair_fits-3
 unfolding exists
@@ -134,7 +134,7 @@ returns-then-pair_fits-4 c = rw (
   named-place,
   ← c.pair_fits-in-6.ensures,
   c.if-pair_fits-4.true,
-) c.found_place.ensures.0
+) c.found_place.ensures
 
 pub returns-else-pair_fits-4 : goal.returns-else-pair_fits-4
 unfolding exists
@@ -148,7 +148,7 @@ returns-then-side_fits-2 c = rw (
   and_assoc,
   ← c.side_fits-in-7.ensures,
   c.if-side_fits-2.true,
-) c.none_place.ensures.0
+) c.none_place.ensures
 
 pub returns-else-side_fits-2 : goal.returns-else-side_fits-2
 unfolding exists

@@ -1,11 +1,14 @@
 -- The five numbers of a message as the code carries them, when they are those of the message at a place, and the first place whose message
 -- is pending. Assumes nothing.
-use Rattle.std.specs.Prelude.{ℕ, ◌-◌, ◌≤◌, ◌<◌, ◌≡◌, false, List}
+use Rattle.std.specs.Prelude.{ℕ, ◌-◌, ◌≤◌, ◌<◌, ◌≡◌, false, List, None, Some}
+use Rattle.std.specs.Prelude as code
+use Rattle.std.proofs.Math.Option.{Option, none}
 use Rattle.base.specs.Loops.{first_from}
 use Rattle.memory.specs.Bits.{bit_set}
 use Rattle.graph.specs.Vector.{width}
-use Rattle.protocol.specs.Message.{Name, name, name_of}
+use Rattle.protocol.specs.Message.{Msg, Name, name, name_of}
 use Rattle.protocol.specs.Numbering.{message_at}
+use Rattle.protocol.specs.Order.{name_or_zeros}
 use Rattle.record.specs.Layout.{seats, levels, messages, pending_from}
 use Rattle.record.specs.Meaning.{meaning}
 use Rattle.messages.specs.declared.Message.{Message}
@@ -22,6 +25,11 @@ pub record InRange (n : Name) : Type 0 where
   pub about : n.about < seats
   pub level : n.level < levels
   pub side : n.side < 2
+
+-- what the code answers where the message is m, if there is one
+abbrev pub IsNamed : code.Option Message → Option Msg → Type 0
+IsNamed None m = m ≡ none
+IsNamed (Some r) m = (numbers r ≡ name_or_zeros m) × InRange (numbers r)
 
 -- the numbers of the message at place i
 pub record Stands (i : ℕ) (m : Message) : Type 0 where

@@ -1,5 +1,6 @@
 -- The place of the message that five numbers name, among all messages (protocol's specs/Numbering.antt). Assumes nothing.
-use Rattle.std.specs.Prelude.{ℕ, Bool, false, cond}
+use Rattle.std.specs.Prelude.{ℕ, ◌≡◌, ◌<◌, Bool, false, cond, None, Some}
+use Rattle.std.specs.Prelude as code
 use Rattle.std.proofs.Math.Option.{Option, none, some}
 use Rattle.graph.specs.Vector.{width}
 use Rattle.protocol.specs.Message.{Msg}
@@ -15,3 +16,8 @@ is_message (some m) = exists seats width m
 unfoldable pub place_of : Option Msg → ℕ
 place_of none = messages
 place_of (some m) = cond (exists seats width m) (place seats width m) messages
+
+-- what the code answers where the place is p: none where p is how many places there are
+abbrev pub IsPlace : code.Option ℕ → ℕ → Type 0
+IsPlace None p = p ≡ messages
+IsPlace (Some i) p = (i ≡ p) × (i < messages)
