@@ -2,16 +2,16 @@
 #![tactic(auto)]
 
 ghost use Rattle.std.specs.Prelude.{◌≡◌, ◌<◌, eqb};
-ghost use Rattle.graph.specs.Side.{on_side, side_of, side_number, side_of_number};
+ghost use Rattle.graph.specs.Side.{opp, on_side, side_of, side_number, side_of_number};
+ghost use Rattle.graph.specs.inner.Code.{as_side};
 ghost use Rattle.graph.specs.Vector.{width, bit as bit_at, shared};
 
-// The sides: `side_number` of specs/Side.antt.
-pub const LEFT: usize = 0;
-
-pub const RIGHT: usize = 1;
-
-// How many sides there are.
-pub const SIDES: usize = 2;
+// The sides of a lot in a list, by their numbers: `side_number` of specs/Side.antt.
+#[derive(Clone, Copy, Debug, PartialEq, Eq)]
+pub enum Side {
+    Left = 0,
+    Right = 1,
+}
 
 // The width of a membership vector in bits: `width` of specs/Vector.antt.
 pub const WIDTH: u8 = 8;
@@ -19,18 +19,48 @@ pub const WIDTH: u8 = 8;
 // The last bit of a vector; bit 0 is the highest.
 const LAST_BIT: usize = WIDTH as usize - 1;
 
+impl Side {
+    // The other side.
+    pub fn opposite(self) -> Side
+        ensures { as_side result ≡ opp (as_side self) }
+    {
+        match self {
+            Side::Left => Side::Right,
+            Side::Right => Side::Left,
+        }
+    }
+
+    // The side of a number: 1 is right, any other left.
+    pub fn of_number(n: usize) -> Side
+        ensures { as_side result ≡ side_of_number n }
+    {
+        if n == 1 { Side::Right } else { Side::Left }
+    }
+}
+
+impl From<Side> for usize {
+    ghost from_gives = { λ side number. number ≡ side_number (as_side side) };
+
+    fn from(side: Side) -> usize {
+        side as usize
+    }
+}
+
 // The side of number a on which number b lies.
-pub fn side_of(a: u64, b: u64) -> usize
-    ensures { (result ≡ side_number (side_of a b)) × (result < 2) }
+pub fn side_of(a: u64, b: u64) -> Side
+    ensures { as_side result ≡ side_of a b }
 {
-    if a < b { RIGHT } else { LEFT }
+    if a < b { Side::Right } else { Side::Left }
 }
 
 // Whether number b lies on side d of number a.
-pub fn on_side(d: usize, a: u64, b: u64) -> bool
-    ensures { result ≡ on_side (side_of_number d) a b }
+pub fn on_side(d: Side, a: u64, b: u64) -> bool
+    ensures { result ≡ on_side (as_side d) a b }
 {
-    if d == RIGHT { a < b } else { b < a }
+    match d {
+        Side::Left => b < a,
+        Side::Right => a < b,
+    }
 }
 
 // Bit k of a vector.

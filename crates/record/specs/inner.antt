@@ -3,3 +3,4 @@ pub mod Cell
 pub mod Sent
 pub mod Opened
 pub mod Entry
+pub mod Code

@@ -5,7 +5,7 @@
 ghost use Rattle.std.specs.Prelude.{◌≡◌, ◌<◌, length, get_or, set};
 ghost use Rattle.memory.specs.Bytes.{number_at, put_number};
 ghost use Rattle.memory.specs.Bits.{bit_set, set_bit, clear_bit};
-ghost use Rattle.graph.specs.Side.{side_of_number};
+ghost use Rattle.graph.specs.inner.Code.{as_side};
 ghost use Rattle.record.specs.Layout.{seats, levels, messages, number_size, vector_size, size};
 ghost use Rattle.record.specs.Layout.{phase_at, state_at, number_from, vector_from, link_at, pending_from};
 ghost use Rattle.record.specs.inner.Entry.{filled, written};
@@ -13,6 +13,7 @@ ghost use Rattle.record.specs.inner.Entry.{filled, written};
 pub mod fields;
 pub mod lots;
 pub mod refusals;
+use graph::Side;
 
 // The seats, the width of a vector, and the levels that it gives.
 pub const SEATS: usize = 64;
@@ -58,6 +59,9 @@ pub const PENDING: usize = ENTRIES + ENTRY * SEATS;
 
 pub const SIZE: usize = PENDING + PENDING_SIZE;
 
+// The bytes of a record.
+pub type Record = [u8; SIZE];
+
 // How many messages name two lots and a level, two lots and a level with a bit, a lot, a bit, such a level and a side, or a lot, a level
 // and a side: `pairs`, `pulls` and `sides` of protocol's specs/Numbering.antt.
 const PAIRS: usize = SEATS * SEATS * LEVELS;
@@ -90,68 +94,66 @@ pub const RESERVED: u8 = 3;
 pub const NONE: u8 = 255;
 
 // The phase: OPEN or CLEARING.
-pub fn phase(rec: &[u8]) -> u8
-    requires { length rec.now ≡ size }
+pub fn phase(rec: &Record) -> u8
     ensures { result ≡ get_or rec.now phase_at 0 }
 {
     rec[PHASE]
 }
 
-pub fn set_phase(rec: &mut [u8], v: u8)
-    requires { length rec.old ≡ size }
+pub fn set_phase(rec: &mut Record, v: u8)
     ensures { rec.new ≡ set rec.old phase_at v }
 {
     rec[PHASE] = v;
 }
 
 // The state of seat s: FREE, STAYING, LEAVING or RESERVED.
-pub fn state(rec: &[u8], s: usize) -> u8
-    requires { (length rec.now ≡ size) × (s < seats) }
+pub fn state(rec: &Record, s: usize) -> u8
+    requires { s < seats }
     ensures { result ≡ get_or rec.now (state_at s) 0 }
 {
     rec[ENTRIES + ENTRY * s + STATE_AT]
 }
 
-pub fn set_state(rec: &mut [u8], s: usize, v: u8)
-    requires { (length rec.old ≡ size) × (s < seats) }
+pub fn set_state(rec: &mut Record, s: usize, v: u8)
+    requires { s < seats }
     ensures { rec.new ≡ set rec.old (state_at s) v }
 {
     rec[ENTRIES + ENTRY * s + STATE_AT] = v;
 }
 
 // The number of the lot on seat s.
-pub fn number(rec: &[u8], s: usize) -> u64
-    requires { (length rec.now ≡ size) × (s < seats) }
+pub fn number(rec: &Record, s: usize) -> u64
+    requires { s < seats }
     ensures { result ≡ number_at rec.now (number_from s) number_size }
 {
     memory::number(rec, ENTRIES + ENTRY * s + NUMBER_AT)
 }
 
-fn set_number(rec: &mut [u8], s: usize, n: u64)
-    requires { (length rec.old ≡ size) × (s < seats) }
+fn set_number(rec: &mut Record, s: usize, n: u64)
+    requires { s < seats }
     ensures { rec.new ≡ put_number rec.old (number_from s) number_size n }
 {
     memory::put_number(rec, ENTRIES + ENTRY * s + NUMBER_AT, n);
 }
 
 // The vector of the lot on seat s.
-pub fn vector(rec: &[u8], s: usize) -> u8
-    requires { (length rec.now ≡ size) × (s < seats) }
+pub fn vector(rec: &Record, s: usize) -> u8
+    requires { s < seats }
     ensures { result ≡ number_at rec.now (vector_from s) vector_size }
 {
     rec[ENTRIES + ENTRY * s + VECTOR_AT]
 }
 
-fn set_vector(rec: &mut [u8], s: usize, v: u8)
-    requires { (length rec.old ≡ size) × (s < seats) }
+fn set_vector(rec: &mut Record, s: usize, v: u8)
+    requires { s < seats }
     ensures { rec.new ≡ put_number rec.old (vector_from s) vector_size v }
 {
     rec[ENTRIES + ENTRY * s + VECTOR_AT] = v;
 }
 
 // Writes state, number and vector of seat s.
-pub fn fill(rec: &mut [u8], s: usize, state: u8, number: u64, vector: u8)
-    requires { (length rec.old ≡ size) × (s < seats) }
+pub fn fill(rec: &mut Record, s: usize, state: u8, number: u64, vector: u8)
+    requires { s < seats }
     ensures { rec.new ≡ filled rec.old s state number vector }
 {
     set_state(rec, s, state);
@@ -159,18 +161,18 @@ pub fn fill(rec: &mut [u8], s: usize, state: u8, number: u64, vector: u8)
     set_vector(rec, s, vector);
 }
 
-// The link of seat s at level k on side d, 0 left and 1 right: a seat or NONE.
-pub fn link(rec: &[u8], s: usize, k: usize, d: usize) -> u8
-    requires { (length rec.now ≡ size) × (s < seats) × (k < levels) × (d < 2) }
-    ensures { result ≡ get_or rec.now (link_at s k (side_of_number d)) 0 }
+// The link of seat s at level k on side d: a seat or NONE.
+pub fn link(rec: &Record, s: usize, k: usize, d: Side) -> u8
+    requires { (s < seats) × (k < levels) }
+    ensures { result ≡ get_or rec.now (link_at s k (as_side d)) 0 }
 {
-    rec[ENTRIES + ENTRY * s + LINKS_AT + 2 * k + d]
+    rec[ENTRIES + ENTRY * s + LINKS_AT + 2 * k + usize::from(d)]
 }
 
 // A change of that link: it is set to a seat or NONE, or it stays. The entry of s is lent for it, and no other.
-pub fn write_link(rec: &mut [u8], s: usize, k: usize, d: usize, change: Option<u8>)
-    requires { (length rec.old ≡ size) × (s < seats) × (k < levels) × (d < 2) }
-    ensures { rec.new ≡ written rec.old s k (side_of_number d) change }
+pub fn write_link(rec: &mut Record, s: usize, k: usize, d: Side, change: Option<u8>)
+    requires { (s < seats) × (k < levels) }
+    ensures { rec.new ≡ written rec.old s k (as_side d) change }
 {
     let a = ENTRIES + ENTRY * s;
     let e = a + ENTRY;
@@ -178,24 +180,24 @@ pub fn write_link(rec: &mut [u8], s: usize, k: usize, d: usize, change: Option<u
 }
 
 // Whether the message at place i is pending.
-pub fn is_pending(rec: &[u8], i: usize) -> bool
-    requires { (length rec.now ≡ size) × (i < messages) }
+pub fn is_pending(rec: &Record, i: usize) -> bool
+    requires { i < messages }
     ensures { result ≡ bit_set rec.now pending_from i }
 {
     memory::test_bit(rec, PENDING, i)
 }
 
 // Makes the message at place i pending.
-pub fn send(rec: &mut [u8], i: usize)
-    requires { (length rec.old ≡ size) × (i < messages) }
+pub fn send(rec: &mut Record, i: usize)
+    requires { i < messages }
     ensures { rec.new ≡ set_bit rec.old pending_from i }
 {
     memory::set_bit(rec, PENDING, i);
 }
 
 // Takes the message at place i away.
-pub fn take(rec: &mut [u8], i: usize)
-    requires { (length rec.old ≡ size) × (i < messages) }
+pub fn take(rec: &mut Record, i: usize)
+    requires { i < messages }
     ensures { rec.new ≡ clear_bit rec.old pending_from i }
 {
     memory::clear_bit(rec, PENDING, i);

@@ -5,8 +5,8 @@ use Rattle.record.proofs.lots.beyond.Goals as goal
 pub returns : goal.returns
 returns c =
     rw (
+      meaning-number _ _ c.requires.0,
       meaning-number _ _ c.requires.1,
-      meaning-number _ _ c.requires.2,
       ← c.number.ensures,
       ← c.number-2.ensures,
     ) c.on_side.ensures

@@ -5,8 +5,8 @@ use Rattle.record.proofs.lots.share.Goals as goal
 pub returns : goal.returns
 returns c =
     rw (
+      meaning-vector _ _ c.requires.0,
       meaning-vector _ _ c.requires.1,
-      meaning-vector _ _ c.requires.2,
       ← c.vector.ensures,
       ← c.vector-2.ensures,
     ) c.share.ensures
