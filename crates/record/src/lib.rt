@@ -2,18 +2,23 @@
 // that the bytes are a record's, and that seat, level, side and place are in range.
 #![tactic(auto)]
 
-ghost use Rattle.std.specs.Prelude.{◌≡◌, ◌<◌, length, get_or, set};
+ghost use Rattle.std.specs.Prelude.{◌≡◌, ◌<◌, ltb, get_or, set};
 ghost use Rattle.memory.specs.Bytes.{number_at, put_number};
 ghost use Rattle.memory.specs.Bits.{bit_set, set_bit, clear_bit};
 ghost use Rattle.graph.specs.inner.Code.{as_side};
-ghost use Rattle.record.specs.Layout.{seats, levels, messages, number_size, vector_size, size};
+ghost use Rattle.record.specs.Layout.{seats, levels, messages, states, number_size, vector_size};
+ghost use Rattle.record.specs.Meaning.{phase_byte, state_byte, seats_in};
+ghost use Rattle.record.specs.Sound.{phase_fits};
+ghost use Rattle.record.specs.inner.Code.{as_phase, as_state};
 ghost use Rattle.record.specs.Layout.{phase_at, state_at, number_from, vector_from, link_at, pending_from};
 ghost use Rattle.record.specs.inner.Entry.{filled, written};
 
 pub mod fields;
 pub mod lots;
 pub mod refusals;
+pub mod states;
 use graph::Side;
+use states::{PHASES, Phase, STATES, State};
 
 // The seats, the width of a vector, and the levels that it gives.
 pub const SEATS: usize = 64;
@@ -77,48 +82,50 @@ pub const MESSAGES: usize = PAIRS + (BIT_PAIRS + (PULLS + (SIDES + (PAIRS + (PAI
 
 pub const PENDING_SIZE: usize = MESSAGES / BYTE_BITS;
 
-// The values of the phase and of a state: phase_byte and state_byte of specs/Meaning.antt.
-pub const OPEN: u8 = 0;
-
-pub const CLEARING: u8 = 1;
-
-pub const FREE: u8 = 0;
-
-pub const STAYING: u8 = 1;
-
-pub const LEAVING: u8 = 2;
-
-pub const RESERVED: u8 = 3;
-
 // The byte of a link that is none.
 pub const NONE: u8 = 255;
 
-// The phase: OPEN or CLEARING.
-pub fn phase(rec: &Record) -> u8
-    ensures { result ≡ get_or rec.now phase_at 0 }
+// The phase.
+pub fn phase(rec: &Record) -> Phase
+    ensures { as_phase result ≡ (seats_in rec.now).phase }
 {
-    rec[PHASE]
+    Phase::of_byte(rec[PHASE])
 }
 
-pub fn set_phase(rec: &mut Record, v: u8)
-    ensures { rec.new ≡ set rec.old phase_at v }
+pub fn set_phase(rec: &mut Record, phase: Phase)
+    ensures { rec.new ≡ set rec.old phase_at (phase_byte (as_phase phase)) }
 {
-    rec[PHASE] = v;
+    rec[PHASE] = u8::from(phase);
 }
 
-// The state of seat s: FREE, STAYING, LEAVING or RESERVED.
-pub fn state(rec: &Record, s: usize) -> u8
+// Whether the byte of the phase is that of a phase.
+pub fn phase_fits(rec: &Record) -> bool
+    ensures { result ≡ phase_fits rec.now }
+{
+    rec[PHASE] < PHASES
+}
+
+// The state of seat s.
+pub fn state(rec: &Record, s: usize) -> State
     requires { s < seats }
-    ensures { result ≡ get_or rec.now (state_at s) 0 }
+    ensures { as_state result ≡ (seats_in rec.now).state s }
 {
-    rec[ENTRIES + ENTRY * s + STATE_AT]
+    State::of_byte(rec[ENTRIES + ENTRY * s + STATE_AT])
 }
 
-pub fn set_state(rec: &mut Record, s: usize, v: u8)
+pub fn set_state(rec: &mut Record, s: usize, state: State)
     requires { s < seats }
-    ensures { rec.new ≡ set rec.old (state_at s) v }
+    ensures { rec.new ≡ set rec.old (state_at s) (state_byte (as_state state)) }
 {
-    rec[ENTRIES + ENTRY * s + STATE_AT] = v;
+    rec[ENTRIES + ENTRY * s + STATE_AT] = u8::from(state);
+}
+
+// Whether the byte of the state of seat s is that of a state.
+pub fn state_fits(rec: &Record, s: usize) -> bool
+    requires { s < seats }
+    ensures { result ≡ ltb (get_or rec.now (state_at s) 0) states }
+{
+    rec[ENTRIES + ENTRY * s + STATE_AT] < STATES
 }
 
 // The number of the lot on seat s.
@@ -152,9 +159,9 @@ fn set_vector(rec: &mut Record, s: usize, v: u8)
 }
 
 // Writes state, number and vector of seat s.
-pub fn fill(rec: &mut Record, s: usize, state: u8, number: u64, vector: u8)
+pub fn fill(rec: &mut Record, s: usize, state: State, number: u64, vector: u8)
     requires { s < seats }
-    ensures { rec.new ≡ filled rec.old s state number vector }
+    ensures { rec.new ≡ filled rec.old s (state_byte (as_state state)) number vector }
 {
     set_state(rec, s, state);
     set_number(rec, s, number);

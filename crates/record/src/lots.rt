@@ -12,6 +12,7 @@ ghost use Rattle.record.specs.Meaning.{seats_in, meaning};
 ghost use Rattle.record.specs.inner.Code.{as_link};
 ghost use Rattle.record.specs.inner.Entry.{bare_at};
 
+use crate::states::{Phase, State};
 use crate::{Record, SEATS};
 use graph::Side;
 
@@ -19,7 +20,7 @@ use graph::Side;
 pub fn is_clearing(rec: &Record) -> bool
     ensures { result ≡ is_clearing (seats_in rec.now).phase }
 {
-    crate::phase(rec) != crate::OPEN
+    crate::phase(rec) == Phase::Clearing
 }
 
 // Whether a lot of the graph sits on seat s: staying or leaving.
@@ -27,8 +28,7 @@ pub fn is_seated(rec: &Record, s: usize) -> bool
     requires { s < seats }
     ensures { result ≡ seated (seats_in rec.now) s }
 {
-    let t = crate::state(rec, s);
-    t == crate::STAYING || t == crate::LEAVING
+    matches!(crate::state(rec, s), State::Staying | State::Leaving)
 }
 
 // Whether seat s is not free.
@@ -36,7 +36,7 @@ pub fn is_taken(rec: &Record, s: usize) -> bool
     requires { s < seats }
     ensures { result ≡ taken (seats_in rec.now) s }
 {
-    crate::state(rec, s) != crate::FREE
+    crate::state(rec, s) != State::Free
 }
 
 // Whether seat s has no link: the bytes of its links are looked at eight at a time.
@@ -56,7 +56,7 @@ pub fn is_staying(rec: &Record, s: usize) -> bool
     requires { s < seats }
     ensures { result ≡ stays (seats_in rec.now) s }
 {
-    crate::state(rec, s) == crate::STAYING
+    crate::state(rec, s) == State::Staying
 }
 
 // Whether a leaving lot sits on seat s.
@@ -64,7 +64,7 @@ pub fn is_leaving(rec: &Record, s: usize) -> bool
     requires { s < seats }
     ensures { result ≡ leaves (seats_in rec.now) s }
 {
-    crate::state(rec, s) == crate::LEAVING
+    crate::state(rec, s) == State::Leaving
 }
 
 // Whether seat s is reserved. A state that is none of the four is read so.
@@ -72,7 +72,7 @@ pub fn is_reserved(rec: &Record, s: usize) -> bool
     requires { s < seats }
     ensures { result ≡ held (seats_in rec.now) s }
 {
-    crate::state(rec, s) > crate::LEAVING
+    crate::state(rec, s) == State::Reserved
 }
 
 // Whether the lot on seat s is a member: in phase open any lot, while clearing a staying one.
