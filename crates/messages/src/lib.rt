@@ -3,18 +3,19 @@
 // record that it has.
 #![tactic(auto)]
 
-ghost use Rattle.std.specs.Prelude.{◌≡◌, ◌&&◌, ◌*◌, ◌/◌, ◌%◌, ◌≤◌, ◌<◌, eqb, ltb, length};
+ghost use Rattle.std.specs.Prelude.{◌≡◌, ◌&&◌, ◌*◌, ◌/◌, ◌%◌, ◌≤◌, ◌<◌, eqb, ltb};
 ghost use Rattle.graph.specs.Vector.{width};
 ghost use Rattle.protocol.specs.Message.{name, named, meet, probe, pull, going, seek, found, none_found};
 ghost use Rattle.protocol.specs.Numbering.{place, pulls, sides};
-ghost use Rattle.record.specs.Layout.{seats, levels, messages, size};
-ghost use Rattle.graph.specs.Side.{side_of_number};
+ghost use Rattle.record.specs.Layout.{seats, levels, messages};
+ghost use Rattle.graph.specs.inner.Code.{as_side};
 ghost use Rattle.messages.specs.inner.Places.{place_of, IsPlace};
 ghost use Rattle.messages.specs.inner.Numbers.{numbers, Stands, first_pending};
 
 pub mod next;
 
-use record::{LEVELS, MESSAGES, PENDING, SEATS, WIDTH};
+use graph::Side;
+use record::{LEVELS, MESSAGES, PENDING, Record, SEATS, WIDTH};
 
 // How many messages of a kind name two lots and a level, or a lot, a level and a side.
 const PAIRS: usize = SEATS * SEATS * LEVELS;
@@ -58,18 +59,18 @@ pub fn probe_place(to: usize, about: usize, level: usize) -> usize
     PROBES + ((to * SEATS + about) * WIDTH + level)
 }
 
-pub fn pull_place(to: usize, want: usize, level: usize, side: usize) -> usize
-    requires { (to < seats) × (want < 2) × (level < width) × (side < 2) }
-    ensures { (result ≡ place seats width (pull to (eqb want 1) level (side_of_number side))) × (result < messages) }
+pub fn pull_place(to: usize, want: usize, level: usize, side: Side) -> usize
+    requires { (to < seats) × (want < 2) × (level < width) }
+    ensures { (result ≡ place seats width (pull to (eqb want 1) level (as_side side))) × (result < messages) }
 {
-    PULLS + (((to * 2 + want) * WIDTH + level) * 2 + side)
+    PULLS + (((to * 2 + want) * WIDTH + level) * 2 + usize::from(side))
 }
 
-pub fn going_place(to: usize, level: usize, side: usize) -> usize
-    requires { (to < seats) × (level < levels) × (side < 2) }
-    ensures { (result ≡ place seats width (going to level (side_of_number side))) × (result < messages) }
+pub fn going_place(to: usize, level: usize, side: Side) -> usize
+    requires { (to < seats) × (level < levels) }
+    ensures { (result ≡ place seats width (going to level (as_side side))) × (result < messages) }
 {
-    GOINGS + ((to * LEVELS + level) * 2 + side)
+    GOINGS + ((to * LEVELS + level) * 2 + usize::from(side))
 }
 
 pub fn seek_place(to: usize, about: usize, level: usize) -> usize
@@ -86,11 +87,11 @@ pub fn found_place(to: usize, about: usize, level: usize) -> usize
     FOUNDS + ((to * SEATS + about) * LEVELS + level)
 }
 
-pub fn none_place(to: usize, level: usize, side: usize) -> usize
-    requires { (to < seats) × (level < levels) × (side < 2) }
-    ensures { (result ≡ place seats width (none_found to level (side_of_number side))) × (result < messages) }
+pub fn none_place(to: usize, level: usize, side: Side) -> usize
+    requires { (to < seats) × (level < levels) }
+    ensures { (result ≡ place seats width (none_found to level (as_side side))) × (result < messages) }
 {
-    NONES + ((to * LEVELS + level) * 2 + side)
+    NONES + ((to * LEVELS + level) * 2 + usize::from(side))
 }
 
 // Whether the numbers fit a kind that names two lots and a level below the bound.
@@ -134,12 +135,12 @@ pub fn place_of(m: Message) -> Option<usize>
             None
         },
         3 => if pull_fits(to, about, level, side) {
-            Some(pull_place(to, about, level, side))
+            Some(pull_place(to, about, level, Side::of_number(side)))
         } else {
             None
         },
         4 => if side_fits(to, about, level, side) {
-            Some(going_place(to, level, side))
+            Some(going_place(to, level, Side::of_number(side)))
         } else {
             None
         },
@@ -154,7 +155,7 @@ pub fn place_of(m: Message) -> Option<usize>
             None
         },
         7 => if side_fits(to, about, level, side) {
-            Some(none_place(to, level, side))
+            Some(none_place(to, level, Side::of_number(side)))
         } else {
             None
         },
@@ -234,8 +235,8 @@ pub fn message_at(i: usize) -> Message
 }
 
 // The first place at or after `from` whose message is pending, if there is one.
-pub fn first_pending(rec: &[u8], from: usize) -> Option<usize>
-    requires { (length rec.now ≡ size) × (from ≤ messages) }
+pub fn first_pending(rec: &Record, from: usize) -> Option<usize>
+    requires { from ≤ messages }
     ensures { IsPlace result (first_pending rec.now from) }
 {
     let i = memory::first_bit(rec, PENDING, from, MESSAGES);

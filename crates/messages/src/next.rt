@@ -1,14 +1,14 @@
 // The smallest pending message at or after five given numbers: those that come before them have the first places.
-ghost use Rattle.std.specs.Prelude.{◌≡◌, ◌*◌, ◌≤◌, length};
+ghost use Rattle.std.specs.Prelude.{◌≡◌, ◌*◌, ◌≤◌};
 ghost use Rattle.graph.specs.Vector.{width};
 ghost use Rattle.protocol.specs.Order.{smallest_from};
 ghost use Rattle.protocol.specs.inner.PlaceFrom.{below as first_below, digits_from, place_from};
-ghost use Rattle.record.specs.Layout.{seats, levels, messages, size as record_size};
+ghost use Rattle.record.specs.Layout.{seats, levels, messages};
 ghost use Rattle.record.specs.Meaning.{meaning};
 ghost use Rattle.messages.specs.inner.Numbers.{numbers, IsNamed};
 
 use super::{FOUNDS, GOINGS, Message, NONES, PROBES, PULLS, SEEKS, first_pending, message_at};
-use record::{LEVELS, MESSAGES, SEATS, WIDTH};
+use record::{LEVELS, MESSAGES, Record, SEATS, WIDTH};
 
 // How many numbers of a digit below the bound and a rest below the size come before a digit x and a rest.
 fn below(x: usize, bound: usize, size: usize, rest: usize) -> usize
@@ -52,8 +52,7 @@ pub fn place_from(m: Message) -> usize
 }
 
 // The smallest pending message at or after five numbers, if there is one.
-pub fn next_pending(rec: &[u8], from: Message) -> Option<Message>
-    requires { length rec.now ≡ record_size }
+pub fn next_pending(rec: &Record, from: Message) -> Option<Message>
     ensures { IsNamed result (smallest_from seats width (meaning rec.now).pending (numbers from)) }
 {
     let first = place_from(from);

@@ -1,10 +1,12 @@
 -- `messages::none_place` meets its contract. Assumes nothing.
 use native.Mathlib.Omega.{arith}
-use borrow.Author.Rules.{rules}
 use Rattle.protocol.specs.Numbering.{place}
-use Rattle.record.proofs.Places.{side_number-side}
+use Rattle.graph.specs.inner.Code.{as_side}
+use Rattle.protocol.proofs.Numbering.{side_number-lt}
 use Rattle.messages.proofs.none_place.Goals as goal
 
 pub returns : goal.returns
 unfolding place
-returns c = (rw (side_number-side c.args.side (search rules)) (omega arith), omega arith)
+returns c =
+    let h = side_number-lt (as_side c.args.side) in
+    (omega (arith, c.from.ensures), omega (arith, c.from.ensures, h))

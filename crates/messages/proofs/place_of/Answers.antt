@@ -24,13 +24,13 @@ pub pull_place-requires : goal.pull_place-requires
 pull_place-requires c = let a = c.args.m in
     let t = true-T (sym c.pull_fits.ensures ∙ c.if-pull_fits.true) in
     let p = three-below a.side a.to a.level _ _ _ (and-snd (ltb a.about 2) _ t) in
-    (p.1, ltb→lt a.about 2 (and-fst (ltb a.about 2) _ t), p.2, p.0)
+    (p.1, ltb→lt a.about 2 (and-fst (ltb a.about 2) _ t), p.2)
 
 pub going_place-requires : goal.going_place-requires
 going_place-requires c = let a = c.args.m in
     let t = true-T (sym c.side_fits.ensures ∙ c.if-side_fits.true) in
     let p = three-below a.side a.to a.level _ _ _ (and-snd (eqb a.about 0) _ t) in
-    (p.1, p.2, p.0)
+    (p.1, p.2)
 
 pub seek_place-requires : goal.seek_place-requires
 seek_place-requires c = let a = c.args.m in
@@ -46,7 +46,7 @@ pub none_place-requires : goal.none_place-requires
 none_place-requires c = let a = c.args.m in
     let t = true-T (sym c.side_fits-in-7.ensures ∙ c.if-side_fits-2.true) in
     let p = three-below a.side a.to a.level _ _ _ (and-snd (eqb a.about 0) _ t) in
-    (p.1, p.2, p.0)
+    (p.1, p.2)
 
 pub returns-then-pair_fits : goal.returns-then-pair_fits
 unfolding exists
@@ -82,7 +82,7 @@ returns-then-pull_fits c = rw (
   and_assoc,
   ← c.pull_fits.ensures,
   c.if-pull_fits.true,
-) c.pull_place.ensures
+) (rw c.of_number.ensures at c.pull_place.ensures)
 
 pub returns-else-pull_fits : goal.returns-else-pull_fits
 unfolding exists
@@ -102,7 +102,7 @@ returns-then-side_fits c = rw (
   and_assoc,
   ← c.side_fits.ensures,
   c.if-side_fits.true,
-) c.going_place.ensures
+) (rw c.of_number-then-side_fits.ensures at c.going_place.ensures)
 
 pub returns-else-side_fits : goal.returns-else-side_fits
 unfolding exists
@@ -148,7 +148,7 @@ returns-then-side_fits-2 c = rw (
   and_assoc,
   ← c.side_fits-in-7.ensures,
   c.if-side_fits-2.true,
-) c.none_place.ensures
+) (rw c.of_number-then-side_fits-2.ensures at c.none_place.ensures)
 
 pub returns-else-side_fits-2 : goal.returns-else-side_fits-2
 unfolding exists
