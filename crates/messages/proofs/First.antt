@@ -27,6 +27,9 @@ use Rattle.record.specs.Layout.{seats, messages, pending_from}
 use Rattle.record.specs.Meaning.{meaning}
 use Rattle.record.proofs.Form.{meaning-bit}
 use Rattle.messages.specs.inner.Numbers.{first_pending, NoneBefore}
+use Rattle.messages.specs.inner.Places.{IsPlace}
+use Rattle.std.specs.Prelude as code
+use Rattle.std.specs.Prelude.{None, Some, IfSome, unwrap_or}
 
 module _ (l : List ℕ) (from : ℕ) (h : from ≤ messages) where
   -- it is the first set bit
@@ -110,3 +113,12 @@ module _ (l : List ℕ) {i : ℕ} (e : i ≡ first_pending l 0) where
       (λ z. rw (eq-eqb i messages z, quiet-pending (omega arith)))
       (λ ne. rw (ne_eqb i messages ne, some-pending (omega (arith, first-of-all.high, ne))))
       (eq-or-ne i messages)
+
+-- the place that the code found, or how many there are
+pub place-found : (o : code.Option ℕ) {p : ℕ} → IsPlace o p → unwrap_or o messages ≡ p
+place-found None h = sym h
+place-found (Some i) h = h.0
+
+pub place-below : (o : code.Option ℕ) (p : ℕ) → IsPlace o p → IfSome o (λ i. i < messages)
+place-below None p h = tt
+place-below (Some i) p h = h.1

@@ -21,5 +21,6 @@ pub mod SeatBytes
 pub mod Call
 pub mod Accepted
 pub mod Bundle
+pub mod Answered
 pub mod Determined
 pub mod Bare

@@ -2,11 +2,13 @@
 // clause of the messages in pending.rt. Any bytes are read without fault.
 #![tactic(auto)]
 
-ghost use Rattle.std.specs.Prelude.{◌≡◌, ◌&&◌, length};
+ghost use Rattle.std.specs.Prelude.{◌≡◌, ◌&&◌, IfOk};
 ghost use Rattle.base.specs.Loops.{all};
-ghost use Rattle.record.specs.Layout.{seats, size};
+ghost use Rattle.record.specs.Layout.{seats};
+ghost use Rattle.record.specs.Answer.{number_of};
 ghost use Rattle.record.specs.Reading.{record_refusal};
 ghost use Rattle.messages.specs.inner.Numbers.{first_pending, NoneBefore};
+ghost use Rattle.messages.specs.inner.Places.{IsPlace};
 ghost use Rattle.soundness.specs.inner.Parts.{seat_fits, entries_fit};
 ghost use Rattle.record.specs.Sound.{numbers_differ, links_fit};
 
@@ -14,75 +16,61 @@ mod entries;
 mod links;
 mod pending;
 
+use entries::Buckets;
 use messages::first_pending;
-use record::refusals::{UNSOUND, WRONG_SIZE};
-use record::{SEATS, SIZE};
+use record::refusals::Refusal;
+use record::{MESSAGES, Record};
 
 // The clauses on seats, numbers and links.
-fn lots_fit(rec: &[u8]) -> bool
-    requires { length rec.now ≡ size }
+fn lots_fit(rec: &Record) -> bool
     ensures { let l = rec.now in result ≡ all seats (seat_fits l) && (numbers_differ l && links_fit l) }
 {
-    let mut numbers = [0u64; SEATS];
-    let top = entries::seats_fit(rec, &mut numbers);
-    if top > SEATS {
-        return false;
+    let mut lots = Buckets::new();
+    match entries::seats_fit(rec, &mut lots) {
+        Some(top) => links::links_fit(rec, &lots.numbers, top),
+        None => false,
     }
-    links::links_fit(rec, &numbers, top)
 }
 
 // All clauses but that of the messages.
-fn entries_fit(rec: &[u8]) -> bool
-    requires { length rec.now ≡ size }
+fn entries_fit(rec: &Record) -> bool
     ensures { result ≡ entries_fit rec.now }
 {
-    entries::phase_fits(rec) && lots_fit(rec)
+    record::phase_fits(rec) && lots_fit(rec)
 }
 
-// The refusal of a record of the right size: 2 unsound, or 0. The caller knows that nothing is pending before place `from`: the messages are looked
+// The refusal of a record of the right size, if it is unsound. The caller knows that nothing is pending before place `from`: the messages are looked
 // at from there on.
-pub fn sized_refusal(rec: &[u8], from: usize) -> u8
-    requires { (length rec.now ≡ size) × NoneBefore rec.now from }
-    ensures { result ≡ record_refusal rec.now }
+pub fn sized_refusal(rec: &Record, from: usize) -> Result<(), Refusal>
+    requires { NoneBefore rec.now from }
+    ensures { number_of result ≡ record_refusal rec.now }
 {
-    if !entries_fit(rec) {
-        return UNSOUND;
+    if entries_fit(rec) && pending::messages_fit(rec, from) {
+        Ok(())
+    } else {
+        Err(Refusal::Unsound)
     }
-    if !pending::messages_fit(rec, from) {
-        return UNSOUND;
-    }
-    0
 }
 
-// What a call sees of a record at first: the record's own refusal, 1 wrong size, 2 unsound, or 0; and then the place of its first pending message.
-#[derive(Drop)]
-pub struct Seen {
-    pub refused: u8,
-    pub first: usize,
-}
-
-// The look in front of a call that asks whether something is pending: the pending bits are gone through once.
-pub fn look(rec: &[u8]) -> Seen
-    ensures refused { result.refused ≡ record_refusal rec.now }
-    ensures first { result.refused ≡ 0 → result.first ≡ first_pending rec.now 0 }
+// The look in front of a call that asks whether something is pending: the refusal of an unsound record, else its first pending place. The pending bits
+// are gone through once.
+pub fn look(rec: &Record) -> Result<Option<usize>, Refusal>
+    ensures refused { number_of result ≡ record_refusal rec.now }
+    ensures first { IfOk result (λ first. IsPlace first (first_pending rec.now 0)) }
 {
-    if rec.len() != SIZE {
-        return Seen {
-            refused: WRONG_SIZE,
-            first: 0,
-        };
-    }
     let first = first_pending(rec, 0);
-    let refused = sized_refusal(rec, first);
-    Seen {
-        refused: refused,
-        first: first,
-    }
+    sized_refusal(rec, first.unwrap_or(MESSAGES))?;
+    Ok(first)
 }
 
-// The record's own refusal, in front of every call but open.
-pub fn record_refusal(rec: &[u8]) -> u8
-    ensures { result ≡ record_refusal rec.now }
+// The bytes as a sound record, in front of every call but open: refused as of another size, or as unsound.
+pub fn sound_record(rec: &[u8]) -> Result<&Record, Refusal>
+    ensures refused { number_of result ≡ record_refusal rec.now }
+    ensures same { IfOk result (λ r. r.now ≡ rec.now) }
 {
-    look(rec).refused
+    let Some(rec) = rec.as_array() else {
+        return Err(Refusal::WrongSize);
+    };
+    look(rec)?;
+    Ok(rec)
 }

@@ -1,10 +1,10 @@
 // Pending messages: each names seated lots, fits its kind and stands in its kind's phase. Only the set bits are looked at.
-ghost use Rattle.std.specs.Prelude.{◌≡◌, Bool, ◌*◌, ◌≤◌, ◌<◌, length};
+ghost use Rattle.std.specs.Prelude.{◌≡◌, Bool, ◌*◌, ◌≤◌, ◌<◌};
 ghost use Rattle.graph.specs.Side.{Side};
 ghost use Rattle.graph.specs.Vector.{width};
 ghost use Rattle.protocol.specs.Message.{meet, probe, pull, going, seek, found, none_found};
 ghost use Rattle.protocol.specs.Sound.{message_ok};
-ghost use Rattle.record.specs.Layout.{seats, messages, size};
+ghost use Rattle.record.specs.Layout.{seats, messages};
 ghost use Rattle.record.specs.Meaning.{seats_in};
 ghost use Rattle.record.specs.Sound.{messages_fit};
 ghost use Rattle.messages.specs.inner.Numbers.{NoneBefore};
@@ -12,52 +12,52 @@ ghost use Rattle.soundness.specs.inner.Pending.{fits, places_pass};
 
 use messages::{first_pending, message_at};
 use record::lots::{is_clearing, is_seated, is_staying, pair_fits};
-use record::{MESSAGES, PENDING};
+use record::{PENDING, Record};
 
 // How many messages are looked at together: the bits of a word, and its bytes.
 const WORD: usize = 64;
 
 const WORD_BYTES: usize = WORD / 8;
 
-fn meet_fits(rec: &[u8], to: usize, about: usize, level: usize) -> bool
-    requires { (length rec.now ≡ size) × (to < seats) × (about < seats) }
+fn meet_fits(rec: &Record, to: usize, about: usize, level: usize) -> bool
+    requires { (to < seats) × (about < seats) }
     ensures { result ≡ message_ok width (seats_in rec.now) (meet to about level) }
 {
     !is_clearing(rec) && pair_fits(rec, level, to, about)
 }
 
-fn probe_fits(rec: &[u8], to: usize, about: usize, level: usize) -> bool
-    requires { (length rec.now ≡ size) × (to < seats) × (about < seats) × (level < width) }
+fn probe_fits(rec: &Record, to: usize, about: usize, level: usize) -> bool
+    requires { (to < seats) × (about < seats) × (level < width) }
     ensures { result ≡ message_ok width (seats_in rec.now) (probe to about level) }
 {
     !is_clearing(rec) && pair_fits(rec, level, to, about)
 }
 
 // Whatever the wanted bit and the side.
-fn pull_fits(rec: &[u8], to: usize, level: usize) -> bool
-    requires { (length rec.now ≡ size) × (to < seats) × (level < width) }
+fn pull_fits(rec: &Record, to: usize, level: usize) -> bool
+    requires { (to < seats) × (level < width) }
     ensures { (b : Bool) (d : Side) → result ≡ message_ok width (seats_in rec.now) (pull to b level d) }
 {
     !is_clearing(rec) && is_seated(rec, to)
 }
 
 // Whatever the side.
-fn going_fits(rec: &[u8], to: usize, level: usize) -> bool
-    requires { (length rec.now ≡ size) × (to < seats) × (level ≤ width) }
+fn going_fits(rec: &Record, to: usize, level: usize) -> bool
+    requires { (to < seats) × (level ≤ width) }
     ensures { (d : Side) → result ≡ message_ok width (seats_in rec.now) (going to level d) }
 {
     is_clearing(rec) && is_seated(rec, to)
 }
 
-fn seek_fits(rec: &[u8], to: usize, about: usize, level: usize) -> bool
-    requires { (length rec.now ≡ size) × (to < seats) × (about < seats) }
+fn seek_fits(rec: &Record, to: usize, about: usize, level: usize) -> bool
+    requires { (to < seats) × (about < seats) }
     ensures { result ≡ message_ok width (seats_in rec.now) (seek to about level) }
 {
     is_clearing(rec) && (pair_fits(rec, level, to, about) && is_staying(rec, about))
 }
 
-fn found_fits(rec: &[u8], to: usize, about: usize, level: usize) -> bool
-    requires { (length rec.now ≡ size) × (to < seats) × (about < seats) }
+fn found_fits(rec: &Record, to: usize, about: usize, level: usize) -> bool
+    requires { (to < seats) × (about < seats) }
     ensures { result ≡ message_ok width (seats_in rec.now) (found to about level) }
 {
     is_clearing(rec)
@@ -65,16 +65,16 @@ fn found_fits(rec: &[u8], to: usize, about: usize, level: usize) -> bool
 }
 
 // Whatever the side.
-fn none_fits(rec: &[u8], to: usize, level: usize) -> bool
-    requires { (length rec.now ≡ size) × (to < seats) × (level ≤ width) }
+fn none_fits(rec: &Record, to: usize, level: usize) -> bool
+    requires { (to < seats) × (level ≤ width) }
     ensures { (d : Side) → result ≡ message_ok width (seats_in rec.now) (none_found to level d) }
 {
     is_clearing(rec) && is_staying(rec, to)
 }
 
 // The message at place i.
-fn message_fits(rec: &[u8], i: usize) -> bool
-    requires { (length rec.now ≡ size) × (i < messages) }
+fn message_fits(rec: &Record, i: usize) -> bool
+    requires { i < messages }
     ensures { result ≡ fits rec.now i }
 {
     let m = message_at(i);
@@ -95,8 +95,8 @@ fn message_fits(rec: &[u8], i: usize) -> bool
 }
 
 // Whether the pending messages among the 64 from place 64 * w on fit. Their bits are read once.
-fn word_fits(rec: &[u8], w: usize) -> bool
-    requires { (length rec.now ≡ size) × (64 * w < messages) }
+fn word_fits(rec: &Record, w: usize) -> bool
+    requires { 64 * w < messages }
     ensures { result ≡ places_pass rec.now (64 * w) 64 }
 {
     let mut rest = memory::word(rec, PENDING + WORD_BYTES * w);
@@ -113,17 +113,17 @@ fn word_fits(rec: &[u8], w: usize) -> bool
 }
 
 // Whether every pending message fits, where none is pending before place `from`. Words with none are skipped.
-pub fn messages_fit(rec: &[u8], from: usize) -> bool
-    requires { (length rec.now ≡ size) × NoneBefore rec.now from }
+pub fn messages_fit(rec: &Record, from: usize) -> bool
+    requires { NoneBefore rec.now from }
     ensures { result ≡ messages_fit rec.now }
 {
-    let mut i = first_pending(rec, from);
-    while i < MESSAGES {
+    let mut next = first_pending(rec, from);
+    while let Some(i) = next {
         let w = i / WORD;
         if !word_fits(rec, w) {
             return false;
         }
-        i = first_pending(rec, WORD * w + WORD);
+        next = first_pending(rec, WORD * w + WORD);
     }
     true
 }

@@ -1,15 +1,16 @@
 -- `soundness::look` meets its contract. Assumes nothing.
-use native.Mathlib.Omega.{arith}
-use borrow.Author.Rules.{rules}
-use Rattle.record.proofs.Refused.{wrong_size_lem}
-use Rattle.messages.proofs.First.{none-before-first}
+use mathlib.Core.Path.{◌∙◌}
+use Rattle.record.specs.Answer.{number_of}
+use Rattle.record.proofs.Answered.{refusal-on}
+use Rattle.messages.proofs.First.{none-before-first, place-found}
 use Rattle.soundness.proofs.look.Goals as goal
 
-pub returns-then-rec-ne-SIZE : goal.returns-then-rec-ne-SIZE
-returns-then-rec-ne-SIZE c = record {
-  refused = wrong_size_lem _ c.if-rec-ne-SIZE.true;
-  first = λ e. absurd (omega arith);
-}
+pub sized_refusal-requires : goal.sized_refusal-requires
+sized_refusal-requires c = none-before-first _ (c.unwrap_or.ensures ∙ place-found _ c.first_pending-first.ensures)
 
-pub sized_refusal-refused-requires : goal.sized_refusal-refused-requires
-sized_refusal-refused-requires c = (search rules, none-before-first _ c.first_pending-first.ensures.0)
+pub returns-in_err-sized_refusal-clause-refused : goal.returns-in_err-sized_refusal-clause-refused
+returns-in_err-sized_refusal-clause-refused c = refusal-on _ c.from_residual.result _ c.from_residual.ensures.1 c.in_err-sized_refusal.ensures
+
+pub returns-clause-refused : goal.returns-clause-refused
+unfolding number_of
+returns-clause-refused c = c.in_ok-sized_refusal.ensures

@@ -4,6 +4,7 @@ use Rattle.std.specs.Prelude.{ℕ, zero, suc, ◌%◌, ◌<◌, ◌≡◌, Bool,
 use Rattle.protocol.specs.State.{taken}
 use Rattle.record.specs.Layout.{seats}
 use Rattle.record.specs.Meaning.{seats_in}
+use Rattle.soundness.specs.declared.entries.Buckets as code
 
 abbrev pub buckets : ℕ
 buckets = 509
@@ -28,3 +29,7 @@ module _ (l : List ℕ) where
     pub number : (y : ℕ) → y < s → taken (seats_in l) y ≡ true → get_or numbers y 0 ≡ (seats_in l).number y
     pub ends : (b : ℕ) → b < buckets → get_or last b 0 ≡ last_in s b
     pub links : (y : ℕ) → y < s → taken (seats_in l) y ≡ true → get_or before y 0 ≡ last_in y (bucket_of y)
+
+  -- as the code has them
+  abbrev pub KeptIn : (s : ℕ) → code.Buckets → Type 0
+  KeptIn s b = Kept s b.numbers b.last b.before

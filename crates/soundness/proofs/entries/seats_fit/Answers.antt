@@ -18,16 +18,12 @@ use Rattle.soundness.proofs.entries.seats_fit.Goals as goal
 use Rattle.soundness.proofs.entries.seats_fit.Goals.{Joined-is_taken, then-is_taken, else-is_taken}
 
 pub loop-s-init : goal.loop-s-init
-loop-s-init c = (search rules, search rules, all_none _, kept-none _ _ c.requires.1, λ y h. absurd (omega arith))
+loop-s-init c = (search rules, search rules, all_none _, c.requires c.args.rec.now, λ y h. absurd (omega arith))
 
 pub returns-then-not-seat_fits : goal.returns-then-not-seat_fits
 returns-then-not-seat_fits c = let l = c.args.rec.now in
     let s = c.loop-s.s in
-    let test = c.loop-s-test.true in record {
-      says = all-stop seats s (passes l) test c.seat_fits.ensures.0 (ap not c.if-not-seat_fits.true) ∙ seat-clauses l;
-      numbers = λ h. absurd (omega (arith, h));
-      above = λ s h g. absurd (omega arith);
-    }
+    record { says = all-stop seats s (passes l) c.loop-s-test.true c.seat_fits.ensures.0 (ap not c.if-not-seat_fits.true) ∙ seat-clauses l; lots = tt }
 
 -- where the last lot below s + 1 is
 top-next : (c : Joined-is_taken) → let s = c.loop-s.s in
@@ -53,8 +49,6 @@ returns c = let i = c.loop-s.invariant in
     let s = c.loop-s.s in
     let l = c.args.rec.now in
     let end : s ≡ seats = omega (arith, i.0, c.loop-s-test.false) in record {
-      says = le-leb c.loop-s.top seats (omega (arith, i.0, i.1)) ∙ all_end seats s (passes l) i.0 c.loop-s-test.false i.2
-          ∙ seat-clauses l;
-      numbers = λ h y g. i.3.number y (omega (arith, g, end));
-      above = λ y h. i.4 y (omega (arith, h, end));
+      says = all_end seats s (passes l) i.0 c.loop-s-test.false i.2 ∙ seat-clauses l;
+      lots = (omega (arith, i.0, i.1), λ y g. i.3.number y (omega (arith, g, end)), λ y h. i.4 y (omega (arith, h, end)));
     }

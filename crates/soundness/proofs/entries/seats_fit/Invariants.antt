@@ -9,7 +9,7 @@ use Rattle.protocol.specs.State.{taken}
 use Rattle.record.specs.Layout.{seats}
 use Rattle.record.specs.Meaning.{seats_in}
 use Rattle.soundness.specs.inner.Parts.{differ, seat_fits}
-use Rattle.soundness.specs.inner.Buckets.{Kept}
+use Rattle.soundness.specs.inner.Buckets.{KeptIn}
 use Rattle.soundness.proofs.entries.seats_fit.Given as goal
 
 -- the clauses of seat s
@@ -18,5 +18,5 @@ passes l s = seat_fits l s && all s (differ l s)
 
 abbrev pub invariant-loop-s : goal.invariant-loop-s
 invariant-loop-s l = (l.s ≤ seats) × (l.top ≤ l.s)
-    × (all l.s (passes l.rec) ≡ true) × Kept l.rec l.s l.numbers l.last l.before
+    × (all l.s (passes l.rec) ≡ true) × KeptIn l.rec l.s l.lots
     × ((y : ℕ) → y < l.s → l.top ≤ y → taken (seats_in l.rec) y ≡ false)

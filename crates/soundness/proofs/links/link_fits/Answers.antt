@@ -7,7 +7,7 @@ use Rattle.graph.specs.Vector.{width}
 use Rattle.protocol.specs.Sound.{link_ok}
 use Rattle.record.specs.Layout.{seats, no_link}
 use Rattle.record.specs.Meaning.{seats_in}
-use Rattle.graph.specs.Side.{side_of_number}
+use Rattle.graph.specs.inner.Code.{as_side}
 use Rattle.record.specs.Sound.{link_fits}
 use Rattle.soundness.proofs.LinkByte.{link-byte}
 use Rattle.soundness.proofs.links.link_fits.Goals as goal
@@ -16,10 +16,10 @@ use Rattle.soundness.proofs.links.link_fits.Goals.{After-link-b}
 -- the clause by the byte that was read
 by_byte : (c : After-link-b) → let r = c.args in
     let b = c.link-b.result in
-    let d = side_of_number r.d in
+    let d = as_side r.d in
     link_fits r.rec.now r.x r.k d ≡ eqb b no_link || (ltb b seats && link_ok width (seats_in r.rec.now) r.x r.k d b)
 by_byte c = let r = c.args in
-    link-byte r.rec.now r.x r.k (side_of_number r.d) c.link-b.result c.link-b.ensures
+    link-byte r.rec.now r.x r.k (as_side r.d) c.link-b.result c.link-b.ensures
 
 pub returns-then-b : goal.returns-then-b
 returns-then-b c = rw (by_byte (goal.at.returns-then-b c).After-link-b, eq-eqb _ _ c.if-b.true)

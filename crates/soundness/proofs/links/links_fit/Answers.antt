@@ -19,7 +19,7 @@ loop-x-init c = (search rules, all_none _)
 pub returns-then-not-seat_fits : goal.returns-then-not-seat_fits
 unfolding links_fit
 returns-then-not-seat_fits c =
-    all-stop _ _ _ (omega (arith, c.loop-x-test.true, c.requires.3)) c.seat_fits.ensures (ap not c.if-not-seat_fits.true)
+    all-stop _ _ _ (omega (arith, c.loop-x-test.true, c.requires.2)) c.seat_fits.ensures (ap not c.if-not-seat_fits.true)
 
 pub loop-x-preserved : goal.loop-x-preserved
 loop-x-preserved c = (search rules, all_go _ _ c.loop-x.invariant.1 c.seat_fits.ensures (ap not c.if-not-seat_fits.false))
@@ -30,5 +30,5 @@ returns c =
     let x = c.loop-x.x in
     sym (all_from seats _ (λ i h. ⊎_elim
     (λ below. all-at x i _ c.loop-x.invariant.1 below)
-    (λ above. sym (free-links c.args.rec.now i c.requires.2 h (c.requires.4 i h (omega (arith, above, c.loop-x-test.false)))))
+    (λ above. sym (free-links c.args.rec.now i c.requires.1 h (c.requires.3 i h (omega (arith, above, c.loop-x-test.false)))))
     (lt-or-ge i x)))

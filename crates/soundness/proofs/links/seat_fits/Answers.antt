@@ -10,4 +10,4 @@ returns-then-not-is_seated c =
 
 pub lot_fits-requires : goal.lot_fits-requires
 lot_fits-requires c =
-    (c.requires.0, c.requires.1, c.requires.2, sym c.is_seated.ensures ∙ c.if-not-is_seated.false)
+    (c.requires.0, c.requires.1, sym c.is_seated.ensures ∙ c.if-not-is_seated.false)

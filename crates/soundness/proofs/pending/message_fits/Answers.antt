@@ -6,12 +6,12 @@ use Rattle.soundness.proofs.pending.message_fits.Goals as goal
 
 pub probe_fits-requires : goal.probe_fits-requires
 probe_fits-requires c =
-    let h = probe-below c.message_at-m.ensures c.requires.1 c.in-2.is in
+    let h = probe-below c.message_at-m.ensures c.requires c.in-2.is in
     search rules
 
 pub pull_fits-requires : goal.pull_fits-requires
 pull_fits-requires c =
-    let h = pull-below c.message_at-m.ensures c.requires.1 c.in-3.is in
+    let h = pull-below c.message_at-m.ensures c.requires c.in-3.is in
     search rules
 
 pub returns-in-1 : goal.returns-in-1

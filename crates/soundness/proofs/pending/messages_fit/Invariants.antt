@@ -1,11 +1,16 @@
--- `soundness::pending::messages_fit` meets its contract. The loop's invariant: the places before i pass. Assumes nothing.
-use Prim.Native.Nat.{◌-◌}
+-- `soundness::pending::messages_fit` meets its contract. The loop's invariant: the places before the next pending one pass. Assumes nothing.
+use Prim.Native.Nat.{ℕ, ◌-◌, ◌<◌}
+use mathlib.Core.Path.{◌≡◌}
+use Rattle.std.specs.Prelude.{Option, IfSome, unwrap_or}
 use Rattle.record.specs.Layout.{messages}
 use Rattle.soundness.proofs.PendingPasses.{Next}
 use Rattle.soundness.proofs.pending.messages_fit.Given as goal
 
-abbrev pub invariant-loop-i : goal.invariant-loop-i
-invariant-loop-i l = Next l.rec 0 l.i
+abbrev pub place : Option ℕ → ℕ
+place o = unwrap_or o messages
 
-abbrev pub decreases-loop-i : goal.decreases-loop-i
-decreases-loop-i l = messages - l.i
+abbrev pub invariant-loop-next : goal.invariant-loop-next
+invariant-loop-next l = Next l.rec 0 (place l.next) × IfSome l.next (λ i. i < messages)
+
+abbrev pub decreases-loop-next : goal.decreases-loop-next
+decreases-loop-next l = messages - place l.next

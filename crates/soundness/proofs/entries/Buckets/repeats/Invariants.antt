@@ -5,7 +5,7 @@ use mathlib.Core.Path.{◌≡◌}
 use Rattle.base.specs.Loops.{any}
 use Rattle.record.specs.Meaning.{seats_in}
 use Rattle.soundness.specs.inner.Buckets.{bucket_of, same_number, last_in}
-use Rattle.soundness.proofs.entries.repeats.Given as goal
+use Rattle.soundness.proofs.entries.Buckets.repeats.Given as goal
 
 abbrev pub invariant-loop-y : goal.invariant-loop-y
 invariant-loop-y l = (l.n ≡ (seats_in l.rec).number l.s) × ((m : ℕ) × (m ≤ l.s) × (l.y ≡ last_in l.rec m (bucket_of l.rec l.s))
