@@ -2,20 +2,20 @@
 // those of record's specs/Call.antt.
 #![tactic(auto)]
 
-ghost use Rattle.std.specs.Prelude.{◌≡◌, ◌||◌, ◌<◌, length};
+ghost use Rattle.std.specs.Prelude.{◌≡◌, ◌||◌, ◌<◌};
 ghost use Rattle.graph.specs.Vector.{width};
 ghost use Rattle.protocol.specs.State.{no_seat, empty};
 ghost use Rattle.protocol.specs.Calls.{merge as merging, refusal};
-ghost use Rattle.record.specs.Layout.{seats, size};
+ghost use Rattle.record.specs.Layout.{seats};
 ghost use Rattle.record.specs.Meaning.{seats_in, meaning};
 ghost use Rattle.record.specs.Call.{call_refusal, called};
-ghost use Rattle.record.specs.Answer.{outcome, Numbered};
+ghost use Rattle.record.specs.Answer.{number_of, outcome};
 
 use messages::meet_place;
 use record::lots::{is_clearing, is_seated};
-use record::refusals::{EMPTY_SEAT, IN_CLEARING, NO_SUCH_SEAT, SAME_LOT};
-use record::{Answer, SEATS};
-use soundness::record_refusal;
+use record::refusals::Refusal;
+use record::{Record, SEATS};
+use soundness::look;
 
 // Whether one of two seats does not exist.
 fn lacks_seat(first: usize, second: usize) -> bool
@@ -25,55 +25,51 @@ fn lacks_seat(first: usize, second: usize) -> bool
 }
 
 // Whether one of two seats has no lot: it is free or only reserved.
-fn lacks_lot(rec: &[u8], first: usize, second: usize) -> bool
-    requires { (length rec.now ≡ size) × (first < seats) × (second < seats) }
+fn lacks_lot(rec: &Record, first: usize, second: usize) -> bool
+    requires { (first < seats) × (second < seats) }
     ensures { result ≡ empty (seats_in rec.now) first || empty (seats_in rec.now) second }
 {
     !is_seated(rec, first) || !is_seated(rec, second)
 }
 
-// The first row of the table that applies to a merge, or 0.
-fn merge_row(rec: &[u8], first: usize, second: usize) -> u8
-    requires { length rec.now ≡ size }
-    ensures { result ≡ refusal seats width (meaning rec.now).seats (meaning rec.now).pending (merging first second) }
+// The first row of the table that applies to a merge.
+fn merge_row(rec: &Record, first: usize, second: usize) -> Result<(), Refusal>
+    ensures { number_of result ≡ refusal seats width (meaning rec.now).seats (meaning rec.now).pending (merging first second) }
 {
     if lacks_seat(first, second) {
-        return NO_SUCH_SEAT;
+        return Err(Refusal::NoSuchSeat);
     }
     if is_clearing(rec) {
-        return IN_CLEARING;
+        return Err(Refusal::InClearing);
     }
     if lacks_lot(rec, first, second) {
-        return EMPTY_SEAT;
+        return Err(Refusal::EmptySeat);
     }
     if first == second {
-        return SAME_LOT;
+        return Err(Refusal::SameLot);
     }
-    0
+    Ok(())
 }
 
-// The refusal number of a merge, 0 if it is accepted.
-fn merge_refusal(rec: &[u8], first: usize, second: usize) -> u8
-    ensures { result ≡ call_refusal rec.now (merging first second) }
+// The refusal of a merge, if it is refused.
+fn merge_refusal(rec: &Record, first: usize, second: usize) -> Result<(), Refusal>
+    ensures { number_of result ≡ call_refusal rec.now (merging first second) }
 {
-    let n = record_refusal(rec);
-    if n != 0 {
-        return n;
-    }
+    look(rec)?;
     merge_row(rec, first, second)
 }
 
 // Sends the lot on the first seat MEET about the lot on the second at level 0, whatever else is pending. The two may be in one component, and may be
 // leaving. Refused by 1, 2, 3, 7, 8, 15, in this order.
-pub fn merge(rec: &mut [u8], first: u8, second: u8) -> Answer
-    ensures { (outcome result rec.new ≡ called rec.old (merging first second)) × Numbered result }
+pub fn merge(rec: &mut [u8], first: u8, second: u8) -> Result<(), Refusal>
+    ensures { outcome result rec.new ≡ called rec.old (merging first second) }
 {
+    let Some(rec) = rec.as_mut_array() else {
+        return Err(Refusal::WrongSize);
+    };
     let a = first as usize;
     let b = second as usize;
-    let n = merge_refusal(rec, a, b);
-    if n != 0 {
-        return record::answer_of(n);
-    }
+    merge_refusal(rec, a, b)?;
     record::send(rec, meet_place(a, b, 0));
-    Answer::Done
+    Ok(())
 }

@@ -1,36 +1,29 @@
 -- `merge::merge` meets its contract. Assumes nothing.
 use mathlib.Core.Path.{sym, ◌∙◌}
 use native.Mathlib.Omega.{arith}
+use borrow.Author.Rules.{rules}
 use Rattle.protocol.specs.Calls.{merge}
-use Rattle.record.specs.Answer.{number_of}
-use Rattle.record.proofs.Accepted.{Accepted, accepted, outcome-refused, outcome-done}
+use Rattle.record.proofs.Accepted.{Accepted}
+use Rattle.record.proofs.Answered.{answered-size, answered-refused, answered-accepted, answered-done}
 use Rattle.merge.proofs.After.{merge-ok, merge-bytes}
 use Rattle.merge.proofs.merge.Goals as goal
-use Rattle.merge.proofs.merge.Goals.{Else-n-ne0}
+use Rattle.merge.proofs.merge.Goals.{In_ok-merge_refusal}
 
-pub returns-then-n-ne0 : goal.returns-then-n-ne0
-returns-then-n-ne0 c =
-    let a = c.args in
-    let call = merge a.first a.second in
-    let e = outcome-refused a.rec.now call _ c.merge_refusal-n.ensures c.if-n-ne0.true c.answer_of.ensures.0 in
-    (e, c.answer_of.ensures.1)
+pub returns-in_default : goal.returns-in_default
+returns-in_default c = answered-size _ _ c.in_default.ensures.cases
 
-may-merge : (c : Else-n-ne0) → let a = c.args in Accepted a.rec.now (merge a.first a.second)
-may-merge c =
-    let a = c.args in
-    accepted a.rec.now (merge a.first a.second) (λ i. omega (arith, c.slice_known-1.given i))
-    (sym c.merge_refusal-n.ensures ∙ c.if-n-ne0.false)
+pub returns-in_err-merge_refusal : goal.returns-in_err-merge_refusal
+returns-in_err-merge_refusal c =
+    rw (← c.in-Some.ensures.cases.same) (answered-refused _ _ _ c.from_residual.result _ c.from_residual.ensures.1 c.in_err-merge_refusal.ensures)
+
+may-merge : (c : In_ok-merge_refusal) → Accepted c.in-Some.rec.now (merge c.args.first c.args.second)
+may-merge c = answered-accepted _ _ _ (λ i. search rules) c.in_ok-merge_refusal.ensures
 
 pub meet_place-requires : goal.meet_place-requires
-meet_place-requires c = let t = merge-ok (may-merge (goal.at.meet_place-requires c).Else-n-ne0) in (t.seats.0, t.seats.1, omega arith)
-
-pub send-requires : goal.send-requires
-send-requires c = ((may-merge (goal.at.send-requires c).Else-n-ne0).form.sized, c.meet_place.ensures.1)
+meet_place-requires c = let t = merge-ok (may-merge (goal.at.meet_place-requires c).In_ok-merge_refusal) in (t.seats.0, t.seats.1, omega arith)
 
 pub returns : goal.returns
-unfolding number_of
 returns c =
-    let a = c.args in
-    let call = merge a.first a.second in
     let e = rw c.meet_place.ensures.0 at c.send.ensures in
-    (outcome-done a.rec.now call (sym c.merge_refusal-n.ensures ∙ c.if-n-ne0.false) (e ∙ sym (merge-bytes (may-merge (goal.at.returns c).Else-n-ne0))), tt)
+    let t = may-merge (goal.at.returns c).In_ok-merge_refusal in
+    rw (← c.in-Some.ensures.cases.same) (answered-done _ _ _ tt c.in_ok-merge_refusal.ensures (e ∙ sym (merge-bytes t)))
