@@ -35,7 +35,7 @@ digit-before n v j h =
     rw (e, pow-suc, mul_comm (256 ^ (n - suc j)) 256) (ap (λ (x : ℕ). x % 256) (sym (div-div-eq-div-mul v 256 (256 ^ (n - suc j)))))
 
 -- a digit by a shift
-pow-bytes : (m : ℕ) → 2 ^ (8 * m) ≡ 256 ^ m
+pub pow-bytes : (m : ℕ) → 2 ^ (8 * m) ≡ 256 ^ m
 pow-bytes zero = refl
 pow-bytes (suc m) = rw (mul-suc, pow-add, pow-bytes m) (sym (pow-suc 256 m))
 
