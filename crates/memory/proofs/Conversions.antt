@@ -7,7 +7,6 @@ use native.Mathlib.Omega.{arith}
 use native.Mathlib.Nat.{mul_comm}
 use lib.ListN.{length, get_or}
 use lib.Seq.{ext_get_or}
-use borrow.Author.Rules.{rules}
 use borrow.Rule.Slice.PartMut.{put_mid}
 use Rattle.std.specs.Int.{w64, from_be_bytes, from_le_bytes, to_be_bytes, to_le_bytes, bytes_high_first, bytes_low_first}
 use Rattle.std.proofs.lemmas.List.{places}

@@ -1,13 +1,12 @@
 -- A bitmap of whole bytes, searched and counted byte by byte: the bits of one byte, bytes that are 0, and the set bits of one byte more.
 -- Assumes that the list is of bytes.
-use Prim.Native.Nat.{ℕ, zero, suc, ◌+◌, ◌-◌, ◌*◌, ◌/◌, ◌%◌, ◌≤◌, ◌<◌}
-use mathlib.Core.Path.{◌≡◌, refl, sym, ap, ◌∙◌}
+use Prim.Native.Nat.{ℕ, suc, ◌+◌, ◌-◌, ◌*◌, ◌/◌, ◌%◌, ◌≤◌, ◌<◌}
+use mathlib.Core.Path.{◌≡◌, sym, ap, ◌∙◌}
 use mathlib.Core.Logic.{⊎_elim}
-use mathlib.Core.Bool.{Bool, true, false}
+use mathlib.Core.Bool.{false}
 use mathlib.Core.List.{List, [], ◌∷◌}
 use native.Mathlib.Omega.{arith}
-use native.Mathlib.Nat.{sub_self, suc-mul, add_comm}
-use native.Mathlib.Numerals.{one-add}
+use native.Mathlib.Nat.{sub_self}
 use lib.Count.{ones}
 use lib.Dec.{eqb}
 use lib.ListN.{length, get_or, take, drop}

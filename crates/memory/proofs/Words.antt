@@ -6,7 +6,7 @@ use mathlib.Core.Bool.{Bool, true, false}
 use mathlib.Core.List.{List}
 use native.Mathlib.Omega.{arith}
 use lib.Bits.{bit_and, bit_or, and_comm}
-use lib.ListN.{length, get_or, set, length-set}
+use lib.ListN.{length, get_or, length-set}
 use lib.Pow.{low}
 use lib.Seq.{get_or-set_same, get_or-set_other, ext_get_or}
 use Rattle.std.specs.Int.{w64, bit_not}

@@ -14,7 +14,7 @@ use Rattle.memory.proofs.clear_first.Goals.{After-word-x}
 -- the word's number: a bit of it is set
 some : (c : After-word-x) → any 64 (has_bit c.word-x.result) ≡ true
 some c =
-    x-some c.args.rec.now c.args.base c.args.w (λ j. omega arith) (search rules) c.requires.1 c.word-x.ensures
+    x-some c.args.rec.now c.args.base c.args.w (search rules) (search rules) c.requires.1 c.word-x.ensures
 
 pub overflow_cast-z : goal.overflow_cast-z
 overflow_cast-z c = omega (arith, trailing_le 64 c.word-x.result)
@@ -28,7 +28,7 @@ overflow_sub-rest c = first-within 64 c.word-x.result (some (goal.at.overflow_su
 pub returns : goal.returns
 returns c =
     let l = c.args.rec.now in
-    let known : AreBytes l = λ j. omega arith in record {
+    let known : AreBytes l = search rules in record {
       bit = word_first l c.args.base c.args.w known (search rules) c.requires.1 c.word-x.ensures;
       cleared = first-cleared l c.args.base c.args.w known (search rules) c.requires.1 c.word-x.ensures c.put_word.ensures;
       last = rest-none l c.args.base c.args.w known (search rules) c.requires.1 c.word-x.ensures c.put_word.ensures;

@@ -1,14 +1,13 @@
 -- `memory::first_bit` meets its contract: the first set bit is in the byte of `from`, else in the bytes after it. Assumes nothing.
 use mathlib.Core.Path.{◌≡◌, ap, sym, ◌∙◌}
 use mathlib.Core.List.{List}
-use Prim.Native.Nat.{ℕ, ◌+◌, ◌-◌, ◌*◌, ◌/◌, ◌%◌, ◌≤◌}
+use Prim.Native.Nat.{ℕ, ◌+◌, ◌-◌, ◌*◌, ◌/◌, ◌%◌}
 use native.Mathlib.Omega.{arith}
 use native.Mathlib.Nat.{sub_self, div-add-mod'}
 use lib.ListN.{length, take, drop}
 use Rattle.std.proofs.lemmas.List.{length-take, length-drop, take_rest}
-use Rattle.base.specs.Loops.{first_from}
 use Rattle.memory.specs.Bits.{bit_set}
-use Rattle.base.proofs.First.{first, first-end}
+use Rattle.base.proofs.First.{first-end}
 use Rattle.memory.proofs.Search.{first-taken, first-byte-found, first-byte-none}
 use Rattle.memory.proofs.first_bit.Goals as goal
 

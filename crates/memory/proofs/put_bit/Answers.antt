@@ -1,7 +1,6 @@
 -- `memory::put_bit` meets its contract: the word's bit is set by an or, and cleared by an and. Assumes nothing.
 use mathlib.Core.Path.{◌≡◌, ◌∙◌}
-use mathlib.Core.Bool.{true, false}
-use Prim.Native.Nat.{ℕ, ◌%◌}
+use Prim.Native.Nat.{◌%◌}
 use native.Mathlib.Omega.{arith}
 use borrow.Author.Rules.{rules}
 use Rattle.memory.specs.Bits.{with_bit}
@@ -18,4 +17,4 @@ returns c =
       then-b w ↦ rw w.if-b.true (w.put_word-is ∙ mask_on x k (omega arith)) |
       else-b w ↦ rw w.if-b.false (w.put_word-is ∙ mask_off x k (omega arith) (omega arith))
     ] in
-    put-bit s.rec.now s.base s.i (λ j. omega arith) (search rules) c.word-x.ensures s.b masked c.put_word.ensures
+    put-bit s.rec.now s.base s.i (search rules) (search rules) c.word-x.ensures s.b masked c.put_word.ensures
