@@ -40,8 +40,26 @@ pub word-from_le : (m l : List ℕ) (a : ℕ) → AreBytes l → AreAt m l a →
 word-from_le m l a b h =
     let more = λ (n : ℕ). packed-more l a n b in
     let at = λ (j : ℕ) (p : j < 8). h j p in
-    omega (arith, packed_lt 0 (bit_set l a), more 0, more 1, more 2, more 3, more 4, more 5, more 6, more 7,
-    h 0 (omega arith), h 1 (omega arith), h 2 (omega arith), h 3 (omega arith), h 4 (omega arith), h 5 (omega arith), h 6 (omega arith), h 7 (omega arith))
+    omega (
+      arith,
+      packed_lt 0 (bit_set l a),
+      more 0,
+      more 1,
+      more 2,
+      more 3,
+      more 4,
+      more 5,
+      more 6,
+      more 7,
+      h 0 (omega arith),
+      h 1 (omega arith),
+      h 2 (omega arith),
+      h 3 (omega arith),
+      h 4 (omega arith),
+      h 5 (omega arith),
+      h 6 (omega arith),
+      h 7 (omega arith),
+    )
 
 -- the bytes of a number, the highest and the lowest first
 digit-high : (k v j : ℕ) → j < k → get_or (bytes_high_first k v) j 0 ≡ digit k v j

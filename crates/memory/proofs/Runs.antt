@@ -37,7 +37,7 @@ or-zeros a (x ∷ xs) = or-zeros (bit_or a x) xs ∙ rw or-zero (and_assoc (eqb 
 -- the first element that fails, as `position` answers it
 pub prefix-position : {X : Type 0} (p : X → Bool) (xs : List X) (r : Option ℕ)
     → MatchOption r (AllWithin (λ x. p x ≡ true) xs 0 (length xs))
-      (λ i. (i < length xs) × HoldsAt (λ x. p x ≡ false) xs i × AllWithin (λ x. p x ≡ true) xs 0 i)
+    (λ i. (i < length xs) × HoldsAt (λ x. p x ≡ false) xs i × AllWithin (λ x. p x ≡ true) xs 0 i)
     → prefix_len p xs ≡ unwrap_or r (length xs)
 prefix-position p xs r h = index_from_first (prefix_len p) (λ x. p x ≡ false) (λ x. p x ≡ true) refl (λ x ys e. rw e) (λ x ys e. rw e (omega arith)) xs r h
 

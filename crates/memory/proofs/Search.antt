@@ -119,9 +119,9 @@ ones-bits (x ∷ xs) b =
     let n = length xs * 8 in
     let e : suc (length xs) * 8 ≡ 8 + n = omega arith in
     let first = ones-count 8 x (b 0) ∙ sym (count_same 8 p (has_bit x) (λ j h.
-        let d : 0 + j / 8 ≡ 0 = omega arith in let m : j % 8 ≡ j = omega arith in rw (d, m))) in
+    let d : 0 + j / 8 ≡ 0 = omega arith in let m : j % 8 ≡ j = omega arith in rw (d, m))) in
     let rest = ones-bits xs (λ i. b (suc i)) ∙ sym (count_same n (λ j. p (8 + j)) (bit_set xs 0) (λ j h.
-        let d : 0 + (8 + j) / 8 ≡ suc (0 + j / 8) = omega arith in let m : (8 + j) % 8 ≡ j % 8 = omega arith in rw (d, m))) in
+    let d : 0 + (8 + j) / 8 ≡ suc (0 + j / 8) = omega arith in let m : (8 + j) % 8 ≡ j % 8 = omega arith in rw (d, m))) in
     sum_by-cons ones x xs ∙ rw (e, count-append 8 n p) (omega (arith, first, rest))
 
 pub ones-taken : (l : List ℕ) (base n count : ℕ) → AreBytes l → n * 8 ≡ count → base + n ≤ length l

@@ -113,7 +113,7 @@ pub mask_off : (x k : ℕ) → k < 64 → x < 2 ^ 64 → bit_and x (bit_not w64 
 mask_off x k h f =
     let m = (1 * 2 ^ k) % 2 ^ 64 in
     let off : bit_and x (bit_not w64 m) ≡ x - bit_and x m =
-        and_comm x (bit_not w64 m) ∙ omega (arith, and-not 64 m x (omega arith) f, and_comm m x) in
+    and_comm x (bit_not w64 m) ∙ omega (arith, and-not 64 m x (omega arith) f, and_comm m x) in
     off ∙ ap (λ (p : ℕ). x - bit_and x p) (one_shifted 64 k h) ∙ mask-clear x k
 
 -- a bit and its word

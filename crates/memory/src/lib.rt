@@ -147,8 +147,10 @@ fn skip_runs<const N: usize>(bytes: &[u8]) -> usize
     ensures same { prefix_len (λ x. eqb x 0) bytes.now ≡ result + prefix_len (λ x. eqb x 0) (drop result bytes.now) }
 {
     let (runs, _) = bytes.as_chunks::<N>();
-    let zeros = runs.iter().position(|run: &[u8; N]| -> bool ensures { result ≡ not (list_all (λ x. eqb x 0) run.now) } { !zero_run(&run[..]) });
-    zeros.unwrap_or(runs.len()) * N
+    let has_byte = |run: &[u8; N]| -> bool
+        ensures { result ≡ not (list_all (λ x. eqb x 0) run.now) }
+    { !zero_run(&run[..]) };
+    runs.iter().position(has_byte).unwrap_or(runs.len()) * N
 }
 
 // Where that search goes on after blocks, chunks and words that are all 0. A chunk comes first: often the next byte is near.

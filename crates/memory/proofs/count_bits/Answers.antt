@@ -37,7 +37,7 @@ counted c =
     let at = c.first_byte.result in
     let found : List ℕ = take (length rest - at) (drop at rest) in
     let zeros : sum_by ones rest ≡ sum_by ones found =
-        ones-prefix rest ∙ ap (λ (n : ℕ). sum_by ones (drop n rest)) (sym c.first_byte.ensures.first) ∙ ap (sum_by ones) (sym (take_rest rest at)) in
+    ones-prefix rest ∙ ap (λ (n : ℕ). sum_by ones (drop n rest)) (sym c.first_byte.ensures.first) ∙ ap (sum_by ones) (sym (take_rest rest at)) in
     let chunk = ap (sum_by ones) c.split_at.ensures.front in
     let after = ap (sum_by ones) c.split_at.ensures.back in
     omega (arith, sum_by-take-drop ones found c.min.result)

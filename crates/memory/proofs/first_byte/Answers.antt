@@ -20,7 +20,7 @@ returns-clause-first c =
     let rest = drop c.skip_zeros-at.result c.args.bytes.now in
     let whole = take_rest c.args.bytes.now c.skip_zeros-at.result in
     let r = IsFirst-from_position _ _ c.position.result (λ (x : ℕ). z x ≡ false) (λ x. z x ≡ true)
-        c.position.ensures.ran (YieldsList-from_slice rest cc) (λ x q k. search (rules, tests)) (λ x q k. search (rules, tests)) in
+    c.position.ensures.ran (YieldsList-from_slice rest cc) (λ x q k. search (rules, tests)) (λ x q k. search (rules, tests)) in
     let k : prefix_len z rest ≡ c.unwrap_or.result = prefix-position z rest c.position.result r ∙ cc in
     ap (λ (n : ℕ). c.skip_zeros-at.result + n) (sym k) ∙ sym c.skip_zeros-at.ensures.same
 

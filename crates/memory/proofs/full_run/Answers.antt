@@ -27,7 +27,7 @@ words c =
     let k : s.at + s.n - s.at ≡ s.n = omega arith in
     let xs : List ℕ = take (s.at + s.n - s.at) (drop s.at s.rec.now) in
     let first = all_from_yields_List word_full _ _ c.all.result c.all.ensures.ran (YieldsList-from_slice (first_chunks 8 (length xs / 8) xs) cc)
-        (λ x b q h. search (rules, tests)) in
+    (λ x b q h. search (rules, tests)) in
     ap (λ (t : Bool). t && list_all is_full (drop (length xs / 8 * 8) xs)) first
     ∙ full-parts xs (bytes-taken s.rec.now s.at (s.at + s.n - s.at) (λ j. omega (arith, c.type_inv.rec j)))
     ∙ rw k (fulls-taken s.rec.now s.at s.n (omega arith))
@@ -37,7 +37,7 @@ returns-then-all c =
     let s = c.args in
     let xs : List ℕ = take (s.at + s.n - s.at) (drop s.at s.rec.now) in
     let rest = all_from_yields_List is_full _ _ c.all-then-all.result c.all-then-all.ensures.ran
-        (YieldsList-from_slice (drop (length xs / 8 * 8) xs) cc) (λ x b q h. search (rules, tests)) in
+    (YieldsList-from_slice (drop (length xs / 8 * 8) xs) cc) (λ x b q h. search (rules, tests)) in
     rest ∙ rw c.if-all.true at (words (goal.at.returns-then-all c).After-all)
 
 pub returns-else-all : goal.returns-else-all

@@ -14,7 +14,7 @@ returns c =
     let x = c.word-x.result in
     let k = s.i % 64 in
     let masked : c.if-b.put_word ≡ with_bit x k s.b = elim c.if-b.branch [
-      then-b w ↦ rw w.if-b.true (w.put_word-is ∙ mask_on x k (omega arith)) |
-      else-b w ↦ rw w.if-b.false (w.put_word-is ∙ mask_off x k (omega arith) (omega arith))
+      | then-b w ↦ rw w.if-b.true (w.put_word-is ∙ mask_on x k (omega arith))
+      | else-b w ↦ rw w.if-b.false (w.put_word-is ∙ mask_off x k (omega arith) (omega arith))
     ] in
     put-bit s.rec.now s.base s.i (search rules) (search rules) c.word-x.ensures s.b masked c.put_word.ensures

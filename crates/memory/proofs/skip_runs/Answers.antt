@@ -20,7 +20,7 @@ returns-clause-same g c =
     let n = g.row.N in
     let xs = c.args.bytes.now in
     let m = length xs / n in
-    let r = IsFirst-from_position _ _ c.position-zeros.result (λ (run : List ℕ). list_all z run ≡ false) (λ run. list_all z run ≡ true)
-        c.position-zeros.ensures.ran (YieldsList-from_slice (first_chunks n m xs) cc) (λ x q k. search (rules, tests)) (λ x q k. search (rules, tests)) in
-    let k : prefix_len (list_all z) (first_chunks n m xs) ≡ c.unwrap_or.result = prefix-position (list_all z) (first_chunks n m xs) c.position-zeros.result r ∙ cc in
+    let r = IsFirst-from_position _ _ c.position.result (λ (run : List ℕ). list_all z run ≡ false) (λ run. list_all z run ≡ true)
+    c.position.ensures.ran (YieldsList-from_slice (first_chunks n m xs) cc) (λ x q k. search (rules, tests)) (λ x q k. search (rules, tests)) in
+    let k : prefix_len (list_all z) (first_chunks n m xs) ≡ c.unwrap_or.result = prefix-position (list_all z) (first_chunks n m xs) c.position.result r ∙ cc in
     rw k at (prefix-runs z n m xs (div-mul-le_self (length xs) n))
