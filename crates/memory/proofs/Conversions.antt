@@ -27,9 +27,7 @@ AreAt m l a = (j : ℕ) → j < 8 → get_or m j 0 ≡ get_or l (a + j) 0
 -- read highest byte first
 pub number-from_be : (m l : List ℕ) (a : ℕ) → AreAt m l a → from_be_bytes w64 m ≡ number_at l a 8
 unfolding number_at
-number-from_be m l a h =
-    let at : (j : ℕ) → j < 8 → get_or m j 0 ≡ get_or l (a + j) 0 = h in
-    omega (arith, at 0 (omega arith), at 1 (omega arith), at 2 (omega arith), at 3 (omega arith), at 4 (omega arith), at 5 (omega arith), at 6 (omega arith), at 7 (omega arith))
+number-from_be m l a h = omega (arith, h)
 
 -- and lowest byte first
 packed-more : (l : List ℕ) (a n : ℕ) → AreBytes l → packed (n * 8 + 8) (bit_set l a) ≡ get_or l (a + n) 0 * 2 ^ (n * 8) + packed (n * 8) (bit_set l a)
@@ -39,27 +37,7 @@ packed-more l a n b =
 pub word-from_le : (m l : List ℕ) (a : ℕ) → AreBytes l → AreAt m l a → from_le_bytes w64 m ≡ packed 64 (bit_set l a)
 word-from_le m l a b h =
     let more = λ (n : ℕ). packed-more l a n b in
-    let at = λ (j : ℕ) (p : j < 8). h j p in
-    omega (
-      arith,
-      packed_lt 0 (bit_set l a),
-      more 0,
-      more 1,
-      more 2,
-      more 3,
-      more 4,
-      more 5,
-      more 6,
-      more 7,
-      h 0 (omega arith),
-      h 1 (omega arith),
-      h 2 (omega arith),
-      h 3 (omega arith),
-      h 4 (omega arith),
-      h 5 (omega arith),
-      h 6 (omega arith),
-      h 7 (omega arith),
-    )
+    omega (arith, h, packed_lt 0 (bit_set l a), more 0, more 1, more 2, more 3, more 4, more 5, more 6, more 7)
 
 -- the bytes of a number, the highest and the lowest first
 digit-high : (k v j : ℕ) → j < k → get_or (bytes_high_first k v) j 0 ≡ digit k v j

@@ -47,9 +47,10 @@ module _ (l : List ℕ) where
   -- a search in byte b from its bit k on
   first-in-byte : (b k : ℕ) → k ≤ 8 → first_from (8 - k) (b * 8 + k) (bit_set l 0) ≡ b * 8 + first_from (8 - k) k (has_bit (get_or l b 0))
   first-in-byte b k h =
+      let z : 0 + b ≡ b = omega arith in
       first-shift (b * 8) (8 - k) k (bit_set l 0)
       ∙ ap (λ (r : ℕ). b * 8 + r)
-      (first-same (8 - k) k (λ j. bit_set l 0 (b * 8 + j)) (has_bit (get_or l b 0)) (λ j p q. let z : 0 + b ≡ b = omega arith in rw z at (bit_set-byte l 0 b j (omega arith))))
+      (first-same (8 - k) k (λ j. bit_set l 0 (b * 8 + j)) (has_bit (get_or l b 0)) (λ j p q. rw z at (bit_set-byte l 0 b j (omega arith))))
 
   -- a search up to count whose byte b has a set bit from k on
   pub first-byte-found : (count b k : ℕ) → k ≤ 8 → b * 8 + 8 ≤ count → first_from (8 - k) k (has_bit (get_or l b 0)) < 8

@@ -8,9 +8,6 @@ use Rattle.graph.specs.Vector.{width}
 use Rattle.graph.proofs.Leading.{leading-shared}
 use Rattle.graph.proofs.share.Goals as goal
 
-pub overflow_cast-zeros : goal.overflow_cast-zeros
-overflow_cast-zeros c = omega (arith, leading_le width (bit_xor c.args.a c.args.b))
-
 pub returns : goal.returns
 returns c =
     let a = c.args.a in

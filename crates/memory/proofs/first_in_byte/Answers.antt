@@ -1,9 +1,8 @@
 -- `memory::first_in_byte` meets its contract: the trailing zeros of the shifted byte are the clear bits before the first set bit.
 -- Assumes nothing.
 use mathlib.Core.Path.{sym}
-use Prim.Native.Nat.{◌-◌, ◌/◌, ◌^◌}
+use Prim.Native.Nat.{◌-◌}
 use native.Mathlib.Omega.{arith}
-use lib.Count.{trailing_le}
 use borrow.Author.Rules.{rules}
 use Rattle.base.proofs.First.{first}
 use Rattle.memory.specs.Bits.{has_bit}
@@ -12,12 +11,6 @@ use Rattle.memory.proofs.first_in_byte.Goals as goal
 
 pub returns-then-rest-eq0-clause-first : goal.returns-then-rest-eq0-clause-first
 returns-then-rest-eq0-clause-first c = sym (first-of-none 8 c.args.from c.args.x (omega arith) (search rules) c.if-rest-eq0.true)
-
-pub overflow_cast-result : goal.overflow_cast-result
-overflow_cast-result c = omega (arith, trailing_le 8 (c.args.x / 2 ^ c.args.from))
-
-pub overflow_add-result : goal.overflow_add-result
-overflow_add-result c = omega (arith, trailing_le 8 (c.args.x / 2 ^ c.args.from))
 
 pub returns-clause-first : goal.returns-clause-first
 returns-clause-first c = sym (first-by-shift 8 c.args.from c.args.x (omega arith) (search rules) c.if-rest-eq0.false)

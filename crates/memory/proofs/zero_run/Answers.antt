@@ -12,5 +12,6 @@ use Rattle.memory.proofs.zero_run.Goals as goal
 
 pub returns : goal.returns
 returns c =
-    let or = fold_from_yields_List _ bit_or 0 c.fold.result c.fold.ensures.ran (YieldsList-from_slice c.args.bytes.now cc) (λ a x b q k. search (rules, tests)) in
+    let or = fold_from_yields_List _ bit_or 0 c.fold.result c.fold.ensures.ran (YieldsList-from_slice c.args.bytes.now cc)
+    (λ a x b q k. search (rules, tests)) in
     ap (λ (x : ℕ). eqb x 0) or ∙ or-zeros 0 c.args.bytes.now
