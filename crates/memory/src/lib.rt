@@ -177,6 +177,7 @@ fn first_byte(bytes: &[u8]) -> usize
 }
 
 // Whether the `n` bytes from `at` on are all 255: word by word, then the bytes that are left.
+// By words: with an and over all bytes the test of an empty record made a tenth more instructions.
 pub fn full_run(rec: &[u8], at: usize, n: usize) -> bool
     requires { at + n ≤ length rec.now }
     ensures { result ≡ fulls rec.now at n }
@@ -237,6 +238,7 @@ fn count_chunk(bytes: &[u8]) -> usize
 }
 
 // How many bits of the bitmap of `count` bits at `base` are set. The bitmap is whole bytes. Bytes that are 0 are skipped.
+// A `while` that goes from byte to byte: a `for` over blocks and chunks made half as many instructions more on an empty record.
 pub fn count_bits(rec: &[u8], base: usize, count: usize) -> usize
     requires { (count % 8 ≡ 0) × (base + count / 8 ≤ length rec.now) }
     ensures { result ≡ count_of count (bit_set rec.now base) }
