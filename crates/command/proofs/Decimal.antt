@@ -7,13 +7,13 @@ use mathlib.Core.List.{List, [], ◌∷◌, ◌++◌, append_assoc, append-nil}
 use mathlib.Core.Logic.{◌⊎◌, ⊎_elim, inl, inr}
 use native.Mathlib.Omega.{arith}
 use native.Mathlib.Nat.{pow-suc}
-use lib.Dec.{eqb, leb}
+use lib.Dec.{eqb}
 use lib.ListN.{length, length-append}
-use borrow.Author.Tests.{lt-ltb, le-ltb, leb-true, eqb-false}
+use borrow.Author.Tests.{lt-ltb, le-ltb, eqb-false}
 use Rattle.command.specs.Command.{is_digit, digits_from, decimal}
 use Rattle.command.specs.Text.{shown_in, shown}
-use Rattle.base.proofs.Cases.{lt-or-ge, eq-or-ne, and_left, and_right}
-use Rattle.command.proofs.Reading.{digits-digit, decimal-digits}
+use Rattle.base.proofs.Cases.{lt-or-ge, eq-or-ne}
+use Rattle.command.proofs.Reading.{digit-byte, digits-digit, decimal-digits}
 
 -- the digits of a number, however many are allowed
 digit-in : (k n : ℕ) → n < 10 → shown_in k n ≡ (48 + n) ∷ []
@@ -105,10 +105,6 @@ decimal-shown n = ⊎_elim
     (λ e. rw (shown-digit n (omega arith)) (decimal-digits (48 + n) [] (λ q. refl) ∙ digits-one 0 n (omega arith) ∙ ap some (omega arith)))
     (λ e. decimal-led (led-shown n (omega (arith, e))) ∙ digits-shown n)
     (eq-or-ne n 0)
-
--- a byte of digits is a digit
-digit-byte : (b : ℕ) → is_digit b ≡ true → (48 ≤ b) × (b ≤ 57)
-digit-byte b e = (leb-true 48 b (and_left (leb 48 b) (leb b 57) e), leb-true b 57 (and_right (leb 48 b) (leb b 57) e))
 
 -- what digits after a number make: their text after its own
 digits-text : (m : ℕ) (f : List ℕ) (n : ℕ) → 0 < m → digits_from m f ≡ some n → shown n ≡ shown m ++ f

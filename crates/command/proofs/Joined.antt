@@ -8,7 +8,7 @@ use Rattle.command.specs.Command.{fields}
 use Rattle.command.specs.Text.{spaced, joined}
 use Rattle.base.proofs.Cases.{eq-or-ne}
 use Rattle.command.proofs.Decimal.{Plain}
-use Rattle.command.proofs.Fields.{first, rest, fields-first, first-end, rest_end, first-space, first_byte, rest-space, rest-byte}
+use Rattle.command.proofs.Spaces.{first, rest, fields-first, first-end, rest_end, first-space, first_byte, rest-space, rest-byte}
 
 first_plain : (f l : List ℕ) → Plain f → first (f ++ l) ≡ f ++ first l
 unfolding Plain

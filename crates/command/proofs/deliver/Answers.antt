@@ -1,81 +1,21 @@
--- `command::deliver` meets its contract. a1, a2, .. are the places after each read. Assumes nothing.
-use borrow.Enum.Refused.{opened}
+-- `command::deliver` meets its contract: each field that is read is one step of `deliver-reads`. Assumes nothing.
 use Rattle.command.proofs.Commands.{deliver-reads}
-use Rattle.command.proofs.Answers.{byte-no-last, byte-no-more}
 use Rattle.command.proofs.deliver.Goals as goal
 
-pub returns-in_default : goal.returns-in_default
-returns-in_default c =
-    rw (
-      deliver-reads,
-      ← c.byte_at.ensures,
-      byte-no-more c.args.line.now c.byte_at.result _ (opened c.in_default.in_default-own.keys2),
-    )
+pub returns-in_err-kind : goal.returns-in_err-kind
+returns-in_err-kind c = rw (deliver-reads, ← c.in_err-kind.ensures, c.from_residual.ensures)
 
-pub returns-in_default-byte_at : goal.returns-in_default-byte_at
-returns-in_default-byte_at c =
-    rw (
-      deliver-reads,
-      ← c.byte_at.ensures,
-      c.in-More.is,
-      ← c.byte_at-2.ensures,
-      byte-no-more c.args.line.now c.byte_at-2.result _ (opened c.in_default-byte_at.in_default-byte_at-own.keys2),
-    )
+pub returns-in_err-to : goal.returns-in_err-to
+returns-in_err-to c = rw (deliver-reads, ← c.in_ok-kind.ensures, ← c.in_err-to.ensures, c.from_residual-in_err-to.ensures)
 
-pub returns-in_default-byte_at-2 : goal.returns-in_default-byte_at-2
-returns-in_default-byte_at-2 c =
-    rw (
-      deliver-reads,
-      ← c.byte_at.ensures,
-      c.in-More.is,
-      ← c.byte_at-2.ensures,
-      c.in-More-byte_at.is,
-      ← c.byte_at-3.ensures,
-      byte-no-more c.args.line.now c.byte_at-3.result _ (opened c.in_default-byte_at-2.in_default-byte_at-2-own.keys2),
-    )
+pub returns-in_err-about : goal.returns-in_err-about
+returns-in_err-about c = rw (deliver-reads, ← c.in_ok-kind.ensures, ← c.in_ok-to.ensures, ← c.in_err-about.ensures, c.from_residual-in_err-about.ensures)
 
-pub returns-in_default-byte_at-3 : goal.returns-in_default-byte_at-3
-returns-in_default-byte_at-3 c =
-    rw (
-      deliver-reads,
-      ← c.byte_at.ensures,
-      c.in-More.is,
-      ← c.byte_at-2.ensures,
-      c.in-More-byte_at.is,
-      ← c.byte_at-3.ensures,
-      c.in-More-byte_at-2.is,
-      ← c.byte_at-4.ensures,
-      byte-no-more c.args.line.now c.byte_at-4.result _ (opened c.in_default-byte_at-3.in_default-byte_at-3-own.keys2),
-    )
+pub returns-in_err-level : goal.returns-in_err-level
+returns-in_err-level c = rw (deliver-reads, ← c.in_ok-kind.ensures, ← c.in_ok-to.ensures, ← c.in_ok-about.ensures, ← c.in_err-level.ensures, c.from_residual-in_err-level.ensures)
 
-pub returns-in_default-byte_at-4 : goal.returns-in_default-byte_at-4
-returns-in_default-byte_at-4 c =
-    rw (
-      deliver-reads,
-      ← c.byte_at.ensures,
-      c.in-More.is,
-      ← c.byte_at-2.ensures,
-      c.in-More-byte_at.is,
-      ← c.byte_at-3.ensures,
-      c.in-More-byte_at-2.is,
-      ← c.byte_at-4.ensures,
-      c.in-More-byte_at-3.is,
-      ← c.byte_at-5.ensures,
-      byte-no-last c.args.line.now c.byte_at-5.result _ (opened c.in_default-byte_at-4.in_default-byte_at-4-own.keys2),
-    )
+pub returns-in_err-side : goal.returns-in_err-side
+returns-in_err-side c = rw (deliver-reads, ← c.in_ok-kind.ensures, ← c.in_ok-to.ensures, ← c.in_ok-about.ensures, ← c.in_ok-level.ensures, ← c.in_err-side.ensures, c.from_residual-in_err-side.ensures)
 
 pub returns : goal.returns
-returns c =
-    rw (
-      deliver-reads,
-      ← c.byte_at.ensures,
-      c.in-More.is,
-      ← c.byte_at-2.ensures,
-      c.in-More-byte_at.is,
-      ← c.byte_at-3.ensures,
-      c.in-More-byte_at-2.is,
-      ← c.byte_at-4.ensures,
-      c.in-More-byte_at-3.is,
-      ← c.byte_at-5.ensures,
-      c.in-Last.is,
-    )
+returns c = rw (deliver-reads, ← c.in_ok-kind.ensures, ← c.in_ok-to.ensures, ← c.in_ok-about.ensures, ← c.in_ok-level.ensures, ← c.in_ok-side.ensures) c.end.ensures

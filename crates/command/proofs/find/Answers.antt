@@ -1,33 +1,12 @@
--- `command::find` meets its contract. a1, a2, .. are the places after each read. Assumes nothing.
-use borrow.Enum.Refused.{opened}
+-- `command::find` meets its contract: each field that is read is one step of `find-reads`. Assumes nothing.
 use Rattle.command.proofs.Commands.{find-reads}
-use Rattle.command.proofs.Answers.{byte-no-more, number-no-last}
 use Rattle.command.proofs.find.Goals as goal
 
-pub returns-in_default : goal.returns-in_default
-returns-in_default c =
-    rw (
-      find-reads,
-      ← c.byte_at.ensures,
-      byte-no-more c.args.line.now c.byte_at.result _ (opened c.in_default.in_default-own.keys2),
-    )
+pub returns-in_err-start : goal.returns-in_err-start
+returns-in_err-start c = rw (find-reads, ← c.in_err-start.ensures, c.from_residual.ensures)
 
-pub returns-in_default-number_at : goal.returns-in_default-number_at
-returns-in_default-number_at c =
-    rw (
-      find-reads,
-      ← c.byte_at.ensures,
-      c.in-More.is,
-      ← c.number_at.ensures,
-      number-no-last c.args.line.now c.number_at.result _ (opened c.in_default-number_at.in_default-number_at-own.keys2),
-    )
+pub returns-in_err-number : goal.returns-in_err-number
+returns-in_err-number c = rw (find-reads, ← c.in_ok-start.ensures, ← c.in_err-number.ensures, c.from_residual-in_err-number.ensures)
 
 pub returns : goal.returns
-returns c =
-    rw (
-      find-reads,
-      ← c.byte_at.ensures,
-      c.in-More.is,
-      ← c.number_at.ensures,
-      c.in-Last.is,
-    )
+returns c = rw (find-reads, ← c.in_ok-start.ensures, ← c.in_ok-number.ensures) c.end.ensures

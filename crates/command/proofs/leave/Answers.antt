@@ -1,12 +1,9 @@
--- `command::leave` meets its contract. Assumes nothing.
-use borrow.Enum.Refused.{opened}
+-- `command::leave` meets its contract: each field that is read is one step of `leave-reads`. Assumes nothing.
 use Rattle.command.proofs.Commands.{leave-reads}
-use Rattle.command.proofs.Answers.{byte-no-last}
 use Rattle.command.proofs.leave.Goals as goal
 
-pub returns-in_default : goal.returns-in_default
-returns-in_default c =
-    rw (leave-reads, ← c.byte_at.ensures, byte-no-last c.args.line.now c.byte_at.result _ (opened c.in_default.in_default-own.keys2))
+pub returns-in_err-seat : goal.returns-in_err-seat
+returns-in_err-seat c = rw (leave-reads, ← c.in_err-seat.ensures, c.from_residual.ensures)
 
 pub returns : goal.returns
-returns c = rw (leave-reads, ← c.byte_at.ensures, c.in-Last.is)
+returns c = rw (leave-reads, ← c.in_ok-seat.ensures) c.end.ensures
