@@ -38,52 +38,52 @@ only-left (Some l) d false e = rw (fields-first l.now)
 
 ruleset by-fields = (next-given, given-none)
 
-pub leave-reads : (fs : List (List ℕ)) → command_of ((76 ∷ []) ∷ fs) ≡ next (read byte_field fs) (λ s fs₁. only fs₁ (leave s))
+pub leave_reads : (fs : List (List ℕ)) → command_of ((76 ∷ []) ∷ fs) ≡ next (read byte_field fs) (λ s fs₁. only fs₁ (leave s))
 unfolding command_of
-leave-reads [] = refl
-leave-reads (a ∷ []) = simp by-fields
-leave-reads (a ∷ b ∷ []) = simp by-fields
-leave-reads (a ∷ b ∷ d ∷ []) = simp by-fields
-leave-reads (a ∷ b ∷ d ∷ e ∷ []) = simp by-fields
-leave-reads (a ∷ b ∷ d ∷ e ∷ f ∷ []) = simp by-fields
-leave-reads (a ∷ b ∷ d ∷ e ∷ f ∷ g ∷ l) = simp by-fields
+leave_reads [] = refl
+leave_reads (a ∷ []) = simp by-fields
+leave_reads (a ∷ b ∷ []) = simp by-fields
+leave_reads (a ∷ b ∷ d ∷ []) = simp by-fields
+leave_reads (a ∷ b ∷ d ∷ e ∷ []) = simp by-fields
+leave_reads (a ∷ b ∷ d ∷ e ∷ f ∷ []) = simp by-fields
+leave_reads (a ∷ b ∷ d ∷ e ∷ f ∷ g ∷ l) = simp by-fields
 
-pub find-reads : (fs : List (List ℕ))
+pub find_reads : (fs : List (List ℕ))
     → command_of ((70 ∷ []) ∷ fs) ≡ next (read byte_field fs) (λ s fs₁. next (read number_field fs₁) (λ n fs₂. only fs₂ (find s n)))
 unfolding command_of
-find-reads [] = refl
-find-reads (a ∷ []) = simp by-fields
-find-reads (a ∷ b ∷ []) = simp by-fields
-find-reads (a ∷ b ∷ d ∷ []) = simp by-fields
-find-reads (a ∷ b ∷ d ∷ e ∷ []) = simp by-fields
-find-reads (a ∷ b ∷ d ∷ e ∷ f ∷ []) = simp by-fields
-find-reads (a ∷ b ∷ d ∷ e ∷ f ∷ g ∷ l) = simp by-fields
+find_reads [] = refl
+find_reads (a ∷ []) = simp by-fields
+find_reads (a ∷ b ∷ []) = simp by-fields
+find_reads (a ∷ b ∷ d ∷ []) = simp by-fields
+find_reads (a ∷ b ∷ d ∷ e ∷ []) = simp by-fields
+find_reads (a ∷ b ∷ d ∷ e ∷ f ∷ []) = simp by-fields
+find_reads (a ∷ b ∷ d ∷ e ∷ f ∷ g ∷ l) = simp by-fields
 
-pub join-reads : (fs : List (List ℕ))
+pub join_reads : (fs : List (List ℕ))
     → command_of ((74 ∷ []) ∷ fs)
     ≡ next (read byte_field fs)
     (λ s fs₁. next (read number_field fs₁) (λ n fs₂.
     next (read vector_field fs₂) (λ v fs₃. next (read byte_field fs₃) (λ w fs₄. only fs₄ (join s n v w)))))
 unfolding command_of
-join-reads [] = refl
-join-reads (a ∷ []) = simp by-fields
-join-reads (a ∷ b ∷ []) = simp by-fields
-join-reads (a ∷ b ∷ d ∷ []) = simp by-fields
-join-reads (a ∷ b ∷ d ∷ e ∷ []) = simp by-fields
-join-reads (a ∷ b ∷ d ∷ e ∷ f ∷ []) = simp by-fields
-join-reads (a ∷ b ∷ d ∷ e ∷ f ∷ g ∷ l) = simp by-fields
+join_reads [] = refl
+join_reads (a ∷ []) = simp by-fields
+join_reads (a ∷ b ∷ []) = simp by-fields
+join_reads (a ∷ b ∷ d ∷ []) = simp by-fields
+join_reads (a ∷ b ∷ d ∷ e ∷ []) = simp by-fields
+join_reads (a ∷ b ∷ d ∷ e ∷ f ∷ []) = simp by-fields
+join_reads (a ∷ b ∷ d ∷ e ∷ f ∷ g ∷ l) = simp by-fields
 
-pub deliver-reads : (fs : List (List ℕ))
+pub deliver_reads : (fs : List (List ℕ))
     → command_of ((68 ∷ []) ∷ fs)
     ≡ next (read byte_field fs)
     (λ k fs₁. next (read byte_field fs₁)
     (λ t fs₂. next (read byte_field fs₂)
     (λ x fs₃. next (read byte_field fs₃) (λ l fs₄. next (read byte_field fs₄) (λ d fs₅. only fs₅ (deliver k t x l d))))))
 unfolding command_of
-deliver-reads [] = refl
-deliver-reads (a ∷ []) = simp by-fields
-deliver-reads (a ∷ b ∷ []) = simp by-fields
-deliver-reads (a ∷ b ∷ d ∷ []) = simp by-fields
-deliver-reads (a ∷ b ∷ d ∷ e ∷ []) = simp by-fields
-deliver-reads (a ∷ b ∷ d ∷ e ∷ f ∷ []) = simp by-fields
-deliver-reads (a ∷ b ∷ d ∷ e ∷ f ∷ g ∷ l) = simp by-fields
+deliver_reads [] = refl
+deliver_reads (a ∷ []) = simp by-fields
+deliver_reads (a ∷ b ∷ []) = simp by-fields
+deliver_reads (a ∷ b ∷ d ∷ []) = simp by-fields
+deliver_reads (a ∷ b ∷ d ∷ e ∷ []) = simp by-fields
+deliver_reads (a ∷ b ∷ d ∷ e ∷ f ∷ []) = simp by-fields
+deliver_reads (a ∷ b ∷ d ∷ e ∷ f ∷ g ∷ l) = simp by-fields

@@ -145,6 +145,7 @@ impl<'a> Fields<'a> {
 }
 
 // `J seat number vector contact`
+#[tactic(auto, using(crate::proofs::Commands::join_reads))]
 fn join(fields: &mut Fields) -> Option<Command>
     ensures { as_command result ≡ command_of ((74 ∷ []) ∷ fields.old) }
 {
@@ -161,6 +162,7 @@ fn join(fields: &mut Fields) -> Option<Command>
 }
 
 // `L seat`
+#[tactic(auto, using(crate::proofs::Commands::leave_reads))]
 fn leave(fields: &mut Fields) -> Option<Command>
     ensures { as_command result ≡ command_of ((76 ∷ []) ∷ fields.old) }
 {
@@ -169,6 +171,7 @@ fn leave(fields: &mut Fields) -> Option<Command>
 }
 
 // `D kind to about level side`
+#[tactic(auto, using(crate::proofs::Commands::deliver_reads))]
 fn deliver(fields: &mut Fields) -> Option<Command>
     ensures { as_command result ≡ command_of ((68 ∷ []) ∷ fields.old) }
 {
@@ -187,6 +190,7 @@ fn deliver(fields: &mut Fields) -> Option<Command>
 }
 
 // `F start number`
+#[tactic(auto, using(crate::proofs::Commands::find_reads))]
 fn find(fields: &mut Fields) -> Option<Command>
     ensures { as_command result ≡ command_of ((70 ∷ []) ∷ fields.old) }
 {

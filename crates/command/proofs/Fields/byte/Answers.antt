@@ -6,4 +6,5 @@ pub returns-in_err-number : goal.returns-in_err-number
 returns-in_err-number c = rw (read-narrow, ← c.in_err-number.ensures, c.from_residual.ensures)
 
 pub returns : goal.returns
-returns c = rw (read-narrow, ← c.in_ok-number.ensures, c.ok.ensures.value) (narrow-ok c.in_ok-number.field-0 c.number.new.self c.try_from.result c.try_from.ensures)
+returns c =
+    rw (read-narrow, ← c.in_ok-number.ensures, c.ok.ensures.value) (narrow-ok c.in_ok-number.field-0 c.number.new.self c.try_from.result c.try_from.ensures)
