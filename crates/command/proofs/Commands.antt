@@ -29,12 +29,12 @@ given-none none = refl
 given-none (some n) = refl
 
 -- a command, if no field is left
-pub only-left : (o : Answer (Bor (List ℕ))) (d : Parsed) (b : Bool) → is_some o ≡ not b
+pub only_left : (o : Answer (Bor (List ℕ))) (d : Parsed) (b : Bool) → is_some o ≡ not b
     → as_command (then_some b d) ≡ only (fields_left o) (command_as d)
-only-left None d true e = refl
-only-left None d false e = absurd (false≢true e)
-only-left (Some l) d true e = absurd (false≢true (sym e))
-only-left (Some l) d false e = rw (fields-first l.now)
+only_left None d true e = refl
+only_left None d false e = absurd (false≢true e)
+only_left (Some l) d true e = absurd (false≢true (sym e))
+only_left (Some l) d false e = rw (fields-first l.now)
 
 ruleset by-fields = (next-given, given-none)
 

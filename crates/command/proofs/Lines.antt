@@ -1,6 +1,6 @@
 -- What the first field tells: a letter of its own, or no command. Assumes nothing.
 use Prim.Native.Nat.{ℕ, ◌≤◌, ◌<◌}
-use mathlib.Core.Path.{◌≡◌, refl}
+use mathlib.Core.Path.{◌≡◌, refl, ◌∙◌}
 use mathlib.Core.Option.{none}
 use mathlib.Core.List.{List, [], ◌∷◌, cons≢nil}
 use native.Mathlib.Omega.{arith}
@@ -42,54 +42,67 @@ no-numbers x nj nl nd nf a (b ∷ d ∷ e ∷ []) = rw (ne_eqb x 74 nj)
 no-numbers x nj nl nd nf a (b ∷ d ∷ e ∷ f ∷ []) = rw (ne_eqb x 68 nd)
 no-numbers x nj nl nd nf a (b ∷ d ∷ e ∷ f ∷ g ∷ l) = refl
 
-pub turn-alone : (fs : List (List ℕ)) → command_of ((84 ∷ []) ∷ fs) ≡ only fs turn
+turn_alone : (fs : List (List ℕ)) → command_of ((84 ∷ []) ∷ fs) ≡ only fs turn
 unfolding command_of
-turn-alone [] = refl
-turn-alone (a ∷ fs) = no-numbers 84 (λ e. omega arith) (λ e. omega arith) (λ e. omega arith) (λ e. omega arith) a fs
+turn_alone [] = refl
+turn_alone (a ∷ fs) = no-numbers 84 (λ e. omega arith) (λ e. omega arith) (λ e. omega arith) (λ e. omega arith) a fs
 
-pub settle-alone : (fs : List (List ℕ)) → command_of ((65 ∷ []) ∷ fs) ≡ only fs settle
+settle_alone : (fs : List (List ℕ)) → command_of ((65 ∷ []) ∷ fs) ≡ only fs settle
 unfolding command_of
-settle-alone [] = refl
-settle-alone (a ∷ fs) = no-numbers 65 (λ e. omega arith) (λ e. omega arith) (λ e. omega arith) (λ e. omega arith) a fs
+settle_alone [] = refl
+settle_alone (a ∷ fs) = no-numbers 65 (λ e. omega arith) (λ e. omega arith) (λ e. omega arith) (λ e. omega arith) a fs
 
-pub print-alone : (fs : List (List ℕ)) → command_of ((80 ∷ []) ∷ fs) ≡ only fs print
+print_alone : (fs : List (List ℕ)) → command_of ((80 ∷ []) ∷ fs) ≡ only fs print
 unfolding command_of
-print-alone [] = refl
-print-alone (a ∷ fs) = no-numbers 80 (λ e. omega arith) (λ e. omega arith) (λ e. omega arith) (λ e. omega arith) a fs
+print_alone [] = refl
+print_alone (a ∷ fs) = no-numbers 80 (λ e. omega arith) (λ e. omega arith) (λ e. omega arith) (λ e. omega arith) a fs
 
 -- or with another letter
-pub no_letter : (x : ℕ) → (x ≡ 74 → ⊥) → (x ≡ 76 → ⊥) → (x ≡ 68 → ⊥) → (x ≡ 70 → ⊥) → (x ≡ 84 → ⊥) → (x ≡ 65 → ⊥) → (x ≡ 80 → ⊥)
+no_letter : (x : ℕ) → (x ≡ 74 → ⊥) → (x ≡ 76 → ⊥) → (x ≡ 68 → ⊥) → (x ≡ 70 → ⊥) → (x ≡ 84 → ⊥) → (x ≡ 65 → ⊥) → (x ≡ 80 → ⊥)
     → (fs : List (List ℕ)) → command_of ((x ∷ []) ∷ fs) ≡ none
 unfolding command_of
 no_letter x nj nl nd nf nt na np [] = rw (ne_eqb x 84 nt, ne_eqb x 65 na, ne_eqb x 80 np)
 no_letter x nj nl nd nf nt na np (a ∷ fs) = no-numbers x nj nl nd nf a fs
 
 -- no line is without a field
-pub fields-some : (l : List ℕ) → fields l ≡ [] → ⊥
-fields-some l e = cons≢nil (rw (fields-first l) at e)
+pub fields_some : (l : List ℕ) → fields l ≡ [] → ⊥
+fields_some l e = cons≢nil (rw (fields-first l) at e)
 
 -- a line by its first field
 module _ (l f : List ℕ) (fs : List (List ℕ)) (is : fields l ≡ f ∷ fs) where
-  pub parsed-letter : (x : ℕ) → 1 ≤ length f → length f < 2 → get_or f 0 0 ≡ x → parsed l ≡ command_of ((x ∷ []) ∷ fs)
+  pub parsed_letter : (x : ℕ) → 1 ≤ length f → length f < 2 → get_or f 0 0 ≡ x → parsed l ≡ command_of ((x ∷ []) ∷ fs)
   unfolding parsed
-  parsed-letter x lo hi e = rw is (by f lo hi e)
+  parsed_letter x lo hi e = rw is (by f lo hi e)
     where
       by : (g : List ℕ) → 1 ≤ length g → length g < 2 → get_or g 0 0 ≡ x → command_of (g ∷ fs) ≡ command_of ((x ∷ []) ∷ fs)
       by [] p q r = absurd (omega arith)
       by (b ∷ []) p q r = rw r
       by (b ∷ d ∷ g) p q r = absurd (omega arith)
 
-  pub parsed-empty : length f < 1 → parsed l ≡ none
+  pub parsed_turn : 1 ≤ length f → length f < 2 → get_or f 0 0 ≡ 84 → parsed l ≡ only fs turn
+  parsed_turn lo hi e = parsed_letter 84 lo hi e ∙ turn_alone fs
+
+  pub parsed_settle : 1 ≤ length f → length f < 2 → get_or f 0 0 ≡ 65 → parsed l ≡ only fs settle
+  parsed_settle lo hi e = parsed_letter 65 lo hi e ∙ settle_alone fs
+
+  pub parsed_print : 1 ≤ length f → length f < 2 → get_or f 0 0 ≡ 80 → parsed l ≡ only fs print
+  parsed_print lo hi e = parsed_letter 80 lo hi e ∙ print_alone fs
+
+  pub parsed_other : 1 ≤ length f → length f < 2 → (get_or f 0 0 ≡ 74 → ⊥) → (get_or f 0 0 ≡ 76 → ⊥) → (get_or f 0 0 ≡ 68 → ⊥)
+      → (get_or f 0 0 ≡ 70 → ⊥) → (get_or f 0 0 ≡ 84 → ⊥) → (get_or f 0 0 ≡ 65 → ⊥) → (get_or f 0 0 ≡ 80 → ⊥) → parsed l ≡ none
+  parsed_other lo hi nj nl nd nf nt na np = parsed_letter (get_or f 0 0) lo hi refl ∙ no_letter (get_or f 0 0) nj nl nd nf nt na np fs
+
+  pub parsed_empty : length f < 1 → parsed l ≡ none
   unfolding parsed
-  parsed-empty h = rw is (by f h)
+  parsed_empty h = rw is (by f h)
     where
       by : (g : List ℕ) → length g < 1 → command_of (g ∷ fs) ≡ none
       by [] p = no_field fs
       by (b ∷ g) p = absurd (omega arith)
 
-  pub parsed-word : 2 ≤ length f → parsed l ≡ none
+  pub parsed_word : 2 ≤ length f → parsed l ≡ none
   unfolding parsed
-  parsed-word h = rw is (by f h)
+  parsed_word h = rw is (by f h)
     where
       by : (g : List ℕ) → 2 ≤ length g → command_of (g ∷ fs) ≡ none
       by [] p = absurd (omega arith)

@@ -7,7 +7,7 @@ use mathlib.Core.List.{List, [], ◌∷◌, cons≢nil}
 use mathlib.Core.Logic.{⊎_elim}
 use native.Mathlib.Omega.{arith}
 use lib.Dec.{leb, ltb}
-use lib.ListN.{length, get_or, drop}
+use lib.ListN.{length, get_or, drop, drop_of_length-le}
 use borrow.Author.Tests.{eq-eqb, ne_eqb, le-leb, lt-ltb, le-ltb, leb-true}
 use Rattle.std.specs.Prelude.{Result, Ok, Err}
 use Rattle.std.specs.Result.{OkIff, result_ok}
@@ -50,23 +50,23 @@ digits-wide n f h = by (digits_from n f) refl
     by none e = refl
     by (some m) e = rw (le-ltb m (2 ^ 64) (omega (arith, digits-grow n f m e)))
 
--- a field that ends with a number that fits
-pub digits-end : (n : ℕ) → n < 2 ^ 64 → digits_field n [] ≡ some n
+-- past the last digit, a number that fits
+pub digits_end : (n i : ℕ) (l : List ℕ) → length l ≤ i → n < 2 ^ 64 → digits_field n (drop i l) ≡ some n
 unfolding digits_from fitting
-digits-end n h = rw (lt-ltb n (2 ^ 64) h)
+digits_end n i l h k = rw (drop_of_length-le l h, lt-ltb n (2 ^ 64) k)
 
 -- the field from its byte i on, which is a digit or none
 module _ (n i : ℕ) (l : List ℕ) (here : i < length l) where
-  pub digits-here : is_digit (get_or l i 0) ≡ true → digits_field n (drop i l) ≡ digits_field (n * 10 + (get_or l i 0 - 48)) (drop (i + 1) l)
-  digits-here e =
+  pub digits_here : is_digit (get_or l i 0) ≡ true → digits_field n (drop i l) ≡ digits_field (n * 10 + (get_or l i 0 - 48)) (drop (i + 1) l)
+  digits_here e =
       let d = digit-byte (get_or l i 0) e in
       rw (drop_here l i here, digits-digit n (get_or l i 0) (drop (i + 1) l) d.0 d.1)
 
-  pub digits-none : is_digit (get_or l i 0) ≡ false → digits_field n (drop i l) ≡ none
-  digits-none e = rw (drop_here l i here) (digits-other n (get_or l i 0) (drop (i + 1) l) e)
+  pub digits_none : is_digit (get_or l i 0) ≡ false → digits_field n (drop i l) ≡ none
+  digits_none e = rw (drop_here l i here) (digits-other n (get_or l i 0) (drop (i + 1) l) e)
 
-  pub digits-over : is_digit (get_or l i 0) ≡ true → 2 ^ 64 ≤ n * 10 + (get_or l i 0 - 48) → digits_field n (drop i l) ≡ none
-  digits-over e w = digits-here e ∙ digits-wide (n * 10 + (get_or l i 0 - 48)) (drop (i + 1) l) w
+  pub digits_over : is_digit (get_or l i 0) ≡ true → 2 ^ 64 ≤ n * 10 + (get_or l i 0 - 48) → digits_field n (drop i l) ≡ none
+  digits_over e w = digits_here e ∙ digits-wide (n * 10 + (get_or l i 0 - 48)) (drop (i + 1) l) w
 
 -- no number is empty, a 0 stands alone, and any other number is its digits
 pub decimal-digits : (b : ℕ) (f : List ℕ) → (b ≡ 48 → f ≡ []) → decimal (b ∷ f) ≡ digits_from 0 (b ∷ f)
@@ -74,15 +74,15 @@ unfolding decimal
 decimal-digits b [] h = refl
 decimal-digits b (c ∷ f) h = rw (ne_eqb b 48 (λ e. cons≢nil (h e)))
 
-pub number-empty : (l : List ℕ) → length l ≡ 0 → number_field l ≡ none
+pub number_empty : (l : List ℕ) → length l ≡ 0 → number_field l ≡ none
 unfolding decimal fitting
-number-empty [] h = refl
-number-empty (b ∷ l) h = absurd (omega arith)
+number_empty [] h = refl
+number_empty (b ∷ l) h = absurd (omega arith)
 
 module _ (l f : List ℕ) (b : ℕ) (is : l ≡ b ∷ f) where
-  pub number-zero : b ≡ 48 → 0 < length f → number_field l ≡ none
+  pub number_zero : b ≡ 48 → 0 < length f → number_field l ≡ none
   unfolding decimal fitting
-  number-zero e h = rw is (by f h)
+  number_zero e h = rw is (by f h)
     where
       by : (g : List ℕ) → 0 < length g → number_field (b ∷ g) ≡ none
       by [] k = absurd (omega arith)
@@ -113,16 +113,16 @@ fitting-narrow w le (some n) after = ⊎_elim
     big false h = refl
     big true h = rw (le-ltb n (2 ^ w) h)
 
-pub read-narrow : (fs : List (List ℕ)) → read byte_field fs ≡ narrow 8 (read number_field fs)
-read-narrow [] = refl
-read-narrow (f ∷ fs) = fitting-narrow 8 (omega arith) (decimal f) fs
+pub read_byte : (fs : List (List ℕ)) → read byte_field fs ≡ narrow 8 (read number_field fs)
+read_byte [] = refl
+read_byte (f ∷ fs) = fitting-narrow 8 (omega arith) (decimal f) fs
 
 pub read_vector : (fs : List (List ℕ)) → read vector_field fs ≡ narrow width (read number_field fs)
 read_vector [] = refl
 read_vector (f ∷ fs) = fitting-narrow width (omega arith) (decimal f) fs
 
 -- a number that a conversion to 8 bits gave, or none where it failed
-pub narrow-ok : {E : Type 0} (n : ℕ) (fs : List (List ℕ)) (r : Result ℕ E) → OkIff r (n < 2 ^ 8) n
+pub narrow_ok : {E : Type 0} (n : ℕ) (fs : List (List ℕ)) (r : Result ℕ E) → OkIff r (n < 2 ^ 8) n
     → with_rest (as_number (result_ok r)) fs ≡ narrow 8 (some (n, fs))
-narrow-ok n fs (Ok m) h = rw (h.1, lt-ltb n (2 ^ 8) h.0)
-narrow-ok n fs (Err e) h = rw (le-ltb n (2 ^ 8) (omega (arith, h)))
+narrow_ok n fs (Ok m) h = rw (h.1, lt-ltb n (2 ^ 8) h.0)
+narrow_ok n fs (Err e) h = rw (le-ltb n (2 ^ 8) (omega (arith, h)))

@@ -1,12 +1,12 @@
 -- The fields of a line: the first, which the first space or the line's end ends, and the fields after it. Assumes nothing.
-use Prim.Native.Nat.{ℕ, suc, ◌+◌, ◌<◌, ◌≤◌}
+use Prim.Native.Nat.{ℕ, suc, ◌+◌, ◌-◌, ◌<◌, ◌≤◌}
 use mathlib.Core.Path.{◌≡◌, refl, ◌∙◌}
 use mathlib.Core.Bool.{Bool, true, false, cond, not}
 use mathlib.Core.List.{List, [], ◌∷◌}
 use native.Mathlib.Omega.{arith}
 use native.Mathlib.Numerals.{add-one, one-add}
 use lib.Dec.{eqb, ltb}
-use lib.ListN.{length, get_or, take, drop}
+use lib.ListN.{length, get_or, take, drop, length-drop}
 use lib.Seq.{drop-cons, take_all}
 use borrow.Author.Tests.{eq-eqb, ne_eqb, ltb-true, ltb-false}
 use Rattle.std.specs.Prelude.{Option as Answer, Some, None, MatchOption, position}
@@ -98,12 +98,21 @@ rest-alone (b ∷ l) h = by (eqb b 32) h (rest-alone l)
     by false k g = g (omega arith)
 
 -- so that place tells the fields
-pub fields-position : (l : List ℕ) (r : Answer ℕ) → r ≡ position (λ b. eqb b 32) l
+pub fields_position : (l : List ℕ) (r : Answer ℕ) → r ≡ position (λ b. eqb b 32) l
     → MatchOption r (fields l ≡ l ∷ []) (λ i. (i < length l) × (fields l ≡ take i l ∷ fields (drop (i + 1) l)))
-fields-position l r e = rw (e, fields-first l, first-take l) (by (ltb (at_space l) (length l)) refl)
+fields_position l r e = rw (e, fields-first l, first-take l) (by (ltb (at_space l) (length l)) refl)
   where
     by : (t : Bool) → ltb (at_space l) (length l) ≡ t
         → MatchOption (cond t (Some (at_space l)) None) (take (at_space l) l ∷ rest l ≡ l ∷ [])
         (λ i. (i < length l) × (take (at_space l) l ∷ rest l ≡ take i l ∷ fields (drop (i + 1) l)))
     by true k = let h = ltb-true (at_space l) (length l) k in (h, rw (rest-past l h))
     by false k = let h = ltb-false (at_space l) (length l) k in rw (rest-alone l h, take_all (at_space l) l h)
+
+pub fields_cut : (l : List ℕ) (i : ℕ) → position (λ b. eqb b 32) l ≡ Some i
+    → fields l ≡ take i l ∷ fields (take (length l - (i + 1)) (drop (i + 1) l))
+fields_cut l i e =
+    let p = rw e at (fields_position l (position (λ b. eqb b 32) l) refl) in
+    p.1 ∙ rw (take_all (length l - (i + 1)) (drop (i + 1) l) (omega (arith, length-drop (i + 1) l)))
+
+pub fields_whole : (l : List ℕ) → position (λ b. eqb b 32) l ≡ None → fields l ≡ l ∷ []
+fields_whole l e = rw e at (fields_position l (position (λ b. eqb b 32) l) refl)

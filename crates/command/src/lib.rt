@@ -47,6 +47,7 @@ pub enum Command {
 }
 
 // The number of a field: at least one digit, no leading zero but in 0 itself, and at most 64 bits.
+#[tactic(auto, using(crate::proofs::Reading::number_empty, crate::proofs::Reading::number_zero, crate::proofs::Reading::number_digits))]
 fn number(field: &[u8]) -> Option<u64>
     ensures { as_number result ≡ number_field field.now }
 {
@@ -58,6 +59,7 @@ fn number(field: &[u8]) -> Option<u64>
 }
 
 // The number that digits are, none or with zeros in front too, if it fits 64 bits.
+#[tactic(auto, using(crate::proofs::Reading::digits_here, crate::proofs::Reading::digits_none, crate::proofs::Reading::digits_over, crate::proofs::Reading::digits_end))]
 fn digits(field: &[u8]) -> Option<u64>
     ensures { as_number result ≡ digits_field 0 field.now }
 {
@@ -95,6 +97,7 @@ impl<'a> Model for Fields<'a> {
 
 impl<'a> Fields<'a> {
     // The next field.
+    #[tactic(auto, using(crate::proofs::Spaces::fields_cut, crate::proofs::Spaces::fields_whole))]
     fn take(&mut self) -> Option<&'a [u8]>
         ensures { MatchOption result (self.old ≡ []) (λ f. self.old ≡ f.now ∷ self.new) }
     {
@@ -119,6 +122,7 @@ impl<'a> Fields<'a> {
     }
 
     // The next field as a number of 8 bits.
+    #[tactic(auto, using(crate::proofs::Reading::read_byte, crate::proofs::Reading::narrow_ok))]
     fn byte(&mut self) -> Option<u8>
         ensures { with_rest (as_number result) self.new ≡ read byte_field self.old }
     {
@@ -126,6 +130,7 @@ impl<'a> Fields<'a> {
     }
 
     // The next field as a vector.
+    #[tactic(auto, using(crate::proofs::Reading::read_vector))]
     fn vector(&mut self) -> Option<u8>
         ensures { with_rest (as_number result) self.new ≡ read vector_field self.old }
     {
@@ -137,6 +142,7 @@ impl<'a> Fields<'a> {
     }
 
     // The command, if no field is left.
+    #[tactic(auto, using(crate::proofs::Commands::only_left))]
     fn end(&self, command: Command) -> Option<Command>
         ensures { as_command result ≡ only self.now (command_as command) }
     {
@@ -201,6 +207,7 @@ fn find(fields: &mut Fields) -> Option<Command>
 
 // The command that a line is: `J 0 100 0 255` is the join of lot 100 on seat 0. A line of another form, or with a number too wide, is none: an
 // empty line too, one with two spaces together or with a space at an end, and any line of more than `longest` bytes (proofs/Text.antt, `long-bad`).
+#[tactic(auto, using(crate::proofs::Lines::fields_some, crate::proofs::Lines::parsed_letter, crate::proofs::Lines::parsed_turn, crate::proofs::Lines::parsed_settle, crate::proofs::Lines::parsed_print, crate::proofs::Lines::parsed_other, crate::proofs::Lines::parsed_empty, crate::proofs::Lines::parsed_word))]
 pub fn parse(line: &[u8]) -> Option<Command>
     ensures { as_command result ≡ parsed line.now }
 {
