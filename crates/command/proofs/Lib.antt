@@ -3,6 +3,7 @@ pub mod Spaces
 pub mod Reading
 pub mod Commands
 pub mod Lines
+pub mod Steps
 pub mod Decimal
 pub mod Joined
 pub mod Text

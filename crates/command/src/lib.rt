@@ -1,6 +1,6 @@
 // The parser of a line of `lots`: any bytes, of any length, without the newline. A command is a letter and its numbers, with one space
 // before each number.
-#![tactic(auto)]
+#![tactic(auto, using(crate::proofs::Steps::steps))]
 
 ghost use Rattle.std.specs.Prelude.{◌≡◌, ◌==◌, [], ◌∷◌, MatchOption, position};
 ghost use Rattle.command.specs.Command.{parsed, command_of, byte_field, vector_field, number_field};
@@ -47,7 +47,6 @@ pub enum Command {
 }
 
 // The number of a field: at least one digit, no leading zero but in 0 itself, and at most 64 bits.
-#[tactic(auto, using(crate::proofs::Reading::number_empty, crate::proofs::Reading::number_zero, crate::proofs::Reading::number_digits))]
 fn number(field: &[u8]) -> Option<u64>
     ensures { as_number result ≡ number_field field.now }
 {
@@ -59,7 +58,6 @@ fn number(field: &[u8]) -> Option<u64>
 }
 
 // The number that digits are, none or with zeros in front too, if it fits 64 bits.
-#[tactic(auto, using(crate::proofs::Reading::digits_here, crate::proofs::Reading::digits_none, crate::proofs::Reading::digits_over, crate::proofs::Reading::digits_end))]
 fn digits(field: &[u8]) -> Option<u64>
     ensures { as_number result ≡ digits_field 0 field.now }
 {
@@ -97,7 +95,6 @@ impl<'a> Model for Fields<'a> {
 
 impl<'a> Fields<'a> {
     // The next field.
-    #[tactic(auto, using(crate::proofs::Spaces::fields_cut, crate::proofs::Spaces::fields_whole))]
     fn take(&mut self) -> Option<&'a [u8]>
         ensures { MatchOption result (self.old ≡ []) (λ f. self.old ≡ f.now ∷ self.new) }
     {
@@ -122,7 +119,6 @@ impl<'a> Fields<'a> {
     }
 
     // The next field as a number of 8 bits.
-    #[tactic(auto, using(crate::proofs::Reading::read_byte, crate::proofs::Reading::narrow_ok))]
     fn byte(&mut self) -> Option<u8>
         ensures { with_rest (as_number result) self.new ≡ read byte_field self.old }
     {
@@ -130,7 +126,6 @@ impl<'a> Fields<'a> {
     }
 
     // The next field as a vector.
-    #[tactic(auto, using(crate::proofs::Reading::read_vector))]
     fn vector(&mut self) -> Option<u8>
         ensures { with_rest (as_number result) self.new ≡ read vector_field self.old }
     {
@@ -142,7 +137,6 @@ impl<'a> Fields<'a> {
     }
 
     // The command, if no field is left.
-    #[tactic(auto, using(crate::proofs::Commands::only_left))]
     fn end(&self, command: Command) -> Option<Command>
         ensures { as_command result ≡ only self.now (command_as command) }
     {
@@ -151,7 +145,6 @@ impl<'a> Fields<'a> {
 }
 
 // `J seat number vector contact`
-#[tactic(auto, using(crate::proofs::Commands::join_reads))]
 fn join(fields: &mut Fields) -> Option<Command>
     ensures { as_command result ≡ command_of ((74 ∷ []) ∷ fields.old) }
 {
@@ -168,7 +161,6 @@ fn join(fields: &mut Fields) -> Option<Command>
 }
 
 // `L seat`
-#[tactic(auto, using(crate::proofs::Commands::leave_reads))]
 fn leave(fields: &mut Fields) -> Option<Command>
     ensures { as_command result ≡ command_of ((76 ∷ []) ∷ fields.old) }
 {
@@ -177,7 +169,6 @@ fn leave(fields: &mut Fields) -> Option<Command>
 }
 
 // `D kind to about level side`
-#[tactic(auto, using(crate::proofs::Commands::deliver_reads))]
 fn deliver(fields: &mut Fields) -> Option<Command>
     ensures { as_command result ≡ command_of ((68 ∷ []) ∷ fields.old) }
 {
@@ -196,7 +187,6 @@ fn deliver(fields: &mut Fields) -> Option<Command>
 }
 
 // `F start number`
-#[tactic(auto, using(crate::proofs::Commands::find_reads))]
 fn find(fields: &mut Fields) -> Option<Command>
     ensures { as_command result ≡ command_of ((70 ∷ []) ∷ fields.old) }
 {
@@ -207,7 +197,6 @@ fn find(fields: &mut Fields) -> Option<Command>
 
 // The command that a line is: `J 0 100 0 255` is the join of lot 100 on seat 0. A line of another form, or with a number too wide, is none: an
 // empty line too, one with two spaces together or with a space at an end, and any line of more than `longest` bytes (proofs/Text.antt, `long-bad`).
-#[tactic(auto, using(crate::proofs::Lines::fields_some, crate::proofs::Lines::parsed_letter, crate::proofs::Lines::parsed_turn, crate::proofs::Lines::parsed_settle, crate::proofs::Lines::parsed_print, crate::proofs::Lines::parsed_other, crate::proofs::Lines::parsed_empty, crate::proofs::Lines::parsed_word))]
 pub fn parse(line: &[u8]) -> Option<Command>
     ensures { as_command result ≡ parsed line.now }
 {
