@@ -6,14 +6,14 @@ use Rattle.std.proofs.lemmas.Bool.{false≢true}
 use mathlib.Core.Option.{Option, none, some}
 use mathlib.Core.List.{List, [], ◌∷◌}
 use Rattle.command.specs.Command.{Command, join, leave, deliver, find}
-use Rattle.command.specs.Command.{byte_field, vector_field, number_field, given, command_of}
+use Rattle.command.specs.Command.{byte_field, vector_field, number_field, given, fields, command_of}
 use Rattle.command.specs.inner.Reading.{fields_left, with_rest, read, only}
 use Rattle.command.specs.Answer.{command_as, as_command}
 use Rattle.command.specs.declared.Command.{Command as Parsed}
 use Rattle.std.specs.Prelude.{Option as Answer, Some, None, is_some}
 use Rattle.std.specs.Bool.{then_some}
 use Rattle.std.specs.Borrow.{Bor}
-use Rattle.command.proofs.Spaces.{fields-first}
+use Rattle.command.proofs.Spaces.{fields_some}
 
 -- a field that is read, and what comes of its number and the fields after it
 abbrev pub next : Option (ℕ × List (List ℕ)) → (ℕ → List (List ℕ) → Option Command) → Option Command
@@ -34,7 +34,11 @@ pub only_left : (o : Answer (Bor (List ℕ))) (d : Parsed) (b : Bool) → is_som
 only_left None d true e = refl
 only_left None d false e = absurd (false≢true e)
 only_left (Some l) d true e = absurd (false≢true (sym e))
-only_left (Some l) d false e = rw (fields-first l.now)
+only_left (Some l) d false e = by (fields l.now) (fields_some l.now)
+  where
+    by : (fs : List (List ℕ)) → (fs ≡ [] → ⊥) → none ≡ only fs (command_as d)
+    by [] h = absurd (h refl)
+    by (f ∷ fs) h = refl
 
 ruleset by-fields = (next-given, given-none)
 

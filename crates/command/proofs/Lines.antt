@@ -2,13 +2,12 @@
 use Prim.Native.Nat.{ℕ, ◌≤◌, ◌<◌}
 use mathlib.Core.Path.{◌≡◌, refl, ◌∙◌}
 use mathlib.Core.Option.{none}
-use mathlib.Core.List.{List, [], ◌∷◌, cons≢nil}
+use mathlib.Core.List.{List, [], ◌∷◌}
 use native.Mathlib.Omega.{arith}
 use lib.ListN.{length, get_or}
 use borrow.Author.Tests.{ne_eqb}
 use Rattle.command.specs.Command.{turn, settle, print, fields, command_of, parsed}
 use Rattle.command.specs.inner.Reading.{only}
-use Rattle.command.proofs.Spaces.{fields-first}
 
 -- no command begins with an empty field, or with two bytes
 no_field : (fs : List (List ℕ)) → command_of ([] ∷ fs) ≡ none
@@ -63,10 +62,6 @@ no_letter : (x : ℕ) → (x ≡ 74 → ⊥) → (x ≡ 76 → ⊥) → (x ≡ 6
 unfolding command_of
 no_letter x nj nl nd nf nt na np [] = rw (ne_eqb x 84 nt, ne_eqb x 65 na, ne_eqb x 80 np)
 no_letter x nj nl nd nf nt na np (a ∷ fs) = no-numbers x nj nl nd nf a fs
-
--- no line is without a field
-pub fields_some : (l : List ℕ) → fields l ≡ [] → ⊥
-fields_some l e = cons≢nil (rw (fields-first l) at e)
 
 -- a line by its first field
 module _ (l f : List ℕ) (fs : List (List ℕ)) (is : fields l ≡ f ∷ fs) where

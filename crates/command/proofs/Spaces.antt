@@ -1,118 +1,86 @@
--- The fields of a line: the first, which the first space or the line's end ends, and the fields after it. Assumes nothing.
-use Prim.Native.Nat.{ℕ, suc, ◌+◌, ◌-◌, ◌<◌, ◌≤◌}
-use mathlib.Core.Path.{◌≡◌, refl, ◌∙◌}
+-- The fields of a line are its parts between spaces, as std's `slice_split` has them. Assumes nothing.
+use Prim.Native.Nat.{ℕ, suc, ◌+◌, ◌-◌, ◌≤◌, ◌<◌}
+use mathlib.Core.Path.{◌≡◌, refl, sym, ap, ◌∙◌}
 use mathlib.Core.Bool.{Bool, true, false, cond, not}
 use mathlib.Core.List.{List, [], ◌∷◌}
 use native.Mathlib.Omega.{arith}
-use native.Mathlib.Numerals.{add-one, one-add}
+use native.Mathlib.Numerals.{add-one}
 use lib.Dec.{eqb, ltb}
 use lib.ListN.{length, get_or, take, drop, length-drop}
 use lib.Seq.{drop-cons, take_all}
-use borrow.Author.Tests.{eq-eqb, ne_eqb, ltb-true, ltb-false}
-use Rattle.std.specs.Prelude.{Option as Answer, Some, None, MatchOption, position}
-use Rattle.std.specs.List.{position_or_len}
+use borrow.Author.Tests.{ltb-true, ltb-false}
+use Rattle.std.specs.Prelude.{Some, None, position}
+use Rattle.std.specs.List.{position_or_len, slice_split, onto_first}
+use Rattle.std.proofs.lemmas.Option.{cond_some, none-some}
+use Rattle.std.proofs.lemmas.List.Splits.{slice_split_first, length-slice_split}
 use Rattle.command.specs.Command.{reversed, fields_from, fields}
 
 -- the rest of a line from a byte on
 pub drop_here : (l : List ℕ) (i : ℕ) → i < length l → drop i l ≡ get_or l i 0 ∷ drop (i + 1) l
 drop_here l i h = rw (add-one, drop-cons l i 0)
 
-unfoldable pub first : List ℕ → List ℕ
-first [] = []
-first (b ∷ l) = cond (eqb b 32) [] (b ∷ first l)
+-- the parts of a line
+abbrev pub is_space : ℕ → Bool
+is_space b = eqb b 32
 
-unfoldable pub rest : List ℕ → List (List ℕ)
-rest [] = []
-rest (b ∷ l) = cond (eqb b 32) (fields l) (rest l)
+abbrev pub parts : List ℕ → List (List ℕ)
+parts l = slice_split is_space l
 
--- a field so far goes on with the line's first
-from_first : (f l : List ℕ) → fields_from f l ≡ reversed f (first l) ∷ rest l
-unfolding fields_from reversed fields first rest
-from_first f [] = refl
-from_first f (b ∷ l) = by (eqb b 32) (from_first (b ∷ f) l)
+-- parts, the first of which goes on with a field so far
+abbrev going_on : (f : List ℕ) → List (List ℕ) → List (List ℕ)
+going_on f [] = reversed f [] ∷ []
+going_on f (p ∷ ps) = reversed f p ∷ ps
+
+going-onto : (b : ℕ) (f : List ℕ) (ps : List (List ℕ)) → going_on (b ∷ f) ps ≡ going_on f (onto_first b ps)
+unfolding reversed
+going-onto b f [] = refl
+going-onto b f (p ∷ ps) = refl
+
+going-none : (ps : List (List ℕ)) → 0 < length ps → going_on [] ps ≡ ps
+unfolding reversed
+going-none [] h = absurd (omega arith)
+going-none (p ∷ ps) h = refl
+
+from_parts : (f l : List ℕ) → fields_from f l ≡ going_on f (parts l)
+unfolding fields_from
+from_parts f [] = refl
+from_parts f (b ∷ l) = by (is_space b) (from_parts (b ∷ f) l ∙ going-onto b f (parts l)) (from_parts [] l ∙ going-none (parts l) (omega (arith, length-slice_split is_space l)))
   where
-    by : (t : Bool) → fields_from (b ∷ f) l ≡ reversed (b ∷ f) (first l) ∷ rest l
-        → cond t (reversed f [] ∷ fields_from [] l) (fields_from (b ∷ f) l) ≡ reversed f (cond t [] (b ∷ first l)) ∷ cond t (fields l) (rest l)
-    by true e = refl
-    by false e = e
+    by : (t : Bool) → fields_from (b ∷ f) l ≡ going_on f (onto_first b (parts l)) → fields_from [] l ≡ parts l
+        → cond t (reversed f [] ∷ fields_from [] l) (fields_from (b ∷ f) l) ≡ going_on f (cond t ([] ∷ parts l) (onto_first b (parts l)))
+    by true g h = rw h
+    by false g h = g
 
-pub fields-first : (l : List ℕ) → fields l ≡ first l ∷ rest l
-unfolding fields reversed
-fields-first l = from_first [] l
+pub fields-parts : (l : List ℕ) → fields l ≡ parts l
+unfolding fields
+fields-parts l = from_parts [] l ∙ going-none (parts l) (omega (arith, length-slice_split is_space l))
 
--- what a byte adds
-pub first-end : first [] ≡ []
-unfolding first
-first-end = refl
+-- no line is without a field
+pub fields_some : (l : List ℕ) → fields l ≡ [] → ⊥
+fields_some l e = let z : length (parts l) ≡ 0 = ap length (rw (fields-parts l) at e) in omega (arith, z, length-slice_split is_space l)
 
-pub rest_end : rest [] ≡ []
-unfolding rest
-rest_end = refl
-
-pub first-space : (b : ℕ) (l : List ℕ) → b ≡ 32 → first (b ∷ l) ≡ []
-unfolding first
-first-space b l e = rw (eq-eqb b 32 e)
-
-pub first_byte : (b : ℕ) (l : List ℕ) → (b ≡ 32 → ⊥) → first (b ∷ l) ≡ b ∷ first l
-unfolding first
-first_byte b l e = rw (ne_eqb b 32 e)
-
-pub rest-space : (b : ℕ) (l : List ℕ) → b ≡ 32 → rest (b ∷ l) ≡ fields l
-unfolding rest
-rest-space b l e = rw (eq-eqb b 32 e)
-
-pub rest-byte : (b : ℕ) (l : List ℕ) → (b ≡ 32 → ⊥) → rest (b ∷ l) ≡ rest l
-unfolding rest
-rest-byte b l e = rw (ne_eqb b 32 e)
-
--- the first field ends where the first space stands, or with the line
-abbrev pub at_space : List ℕ → ℕ
-at_space l = position_or_len (λ b. eqb b 32) l
-
-first-take : (l : List ℕ) → first l ≡ take (at_space l) l
-unfolding first
-first-take [] = refl
-first-take (b ∷ l) = by (eqb b 32) (first-take l)
-  where
-    by : (t : Bool) → first l ≡ take (at_space l) l → cond t [] (b ∷ first l) ≡ take (cond (not t) (1 + at_space l) 0) (b ∷ l)
-    by true e = refl
-    by false e = rw (one-add, e)
-
-rest-past : (l : List ℕ) → at_space l < length l → rest l ≡ fields (drop (at_space l + 1) l)
-unfolding rest
-rest-past [] h = absurd (omega arith)
-rest-past (b ∷ l) h = by (eqb b 32) h (rest-past l)
-  where
-    by : (t : Bool) → cond (not t) (1 + at_space l) 0 < suc (length l) → (at_space l < length l → rest l ≡ fields (drop (at_space l + 1) l))
-        → cond t (fields l) (rest l) ≡ fields (drop (cond (not t) (1 + at_space l) 0 + 1) (b ∷ l))
-    by true k g = refl
-    by false k g = rw (one-add, add-one (suc (at_space l))) (g (omega arith) ∙ rw add-one)
-
-rest-alone : (l : List ℕ) → length l ≤ at_space l → rest l ≡ []
-unfolding rest
-rest-alone [] h = refl
-rest-alone (b ∷ l) h = by (eqb b 32) h (rest-alone l)
-  where
-    by : (t : Bool) → suc (length l) ≤ cond (not t) (1 + at_space l) 0 → (length l ≤ at_space l → rest l ≡ []) → cond t (fields l) (rest l) ≡ []
-    by true k g = absurd (omega arith)
-    by false k g = g (omega arith)
-
--- so that place tells the fields
-pub fields_position : (l : List ℕ) (r : Answer ℕ) → r ≡ position (λ b. eqb b 32) l
-    → MatchOption r (fields l ≡ l ∷ []) (λ i. (i < length l) × (fields l ≡ take i l ∷ fields (drop (i + 1) l)))
-fields_position l r e = rw (e, fields-first l, first-take l) (by (ltb (at_space l) (length l)) refl)
-  where
-    by : (t : Bool) → ltb (at_space l) (length l) ≡ t
-        → MatchOption (cond t (Some (at_space l)) None) (take (at_space l) l ∷ rest l ≡ l ∷ [])
-        (λ i. (i < length l) × (take (at_space l) l ∷ rest l ≡ take i l ∷ fields (drop (i + 1) l)))
-    by true k = let h = ltb-true (at_space l) (length l) k in (h, rw (rest-past l h))
-    by false k = let h = ltb-false (at_space l) (length l) k in rw (rest-alone l h, take_all (at_space l) l h)
-
-pub fields_cut : (l : List ℕ) (i : ℕ) → position (λ b. eqb b 32) l ≡ Some i
+-- where the first space stands, the first field ends, or else with the line
+pub fields_cut : (l : List ℕ) (i : ℕ) → position is_space l ≡ Some i
     → fields l ≡ take i l ∷ fields (take (length l - (i + 1)) (drop (i + 1) l))
 fields_cut l i e =
-    let p = rw e at (fields_position l (position (λ b. eqb b 32) l) refl) in
-    p.1 ∙ rw (take_all (length l - (i + 1)) (drop (i + 1) l) (omega (arith, length-drop (i + 1) l)))
+    let at_space = position_or_len is_space l in
+    let p : (ltb at_space (length l) ≡ true) × (at_space ≡ i) = cond_some (ltb at_space (length l)) at_space i e in
+    let all = take_all (length l - (i + 1)) (drop (i + 1) l) (omega (arith, length-drop (i + 1) l)) in
+    rw (fields-parts l, slice_split_first is_space l 0 (ltb-true at_space (length l) p.0), p.1, all, fields-parts (drop (i + 1) l))
 
-pub fields_whole : (l : List ℕ) → position (λ b. eqb b 32) l ≡ None → fields l ≡ l ∷ []
-fields_whole l e = rw e at (fields_position l (position (λ b. eqb b 32) l) refl)
+parts-whole : (l : List ℕ) → length l ≤ position_or_len is_space l → parts l ≡ l ∷ []
+parts-whole [] h = refl
+parts-whole (b ∷ l) h = by (is_space b) h (parts-whole l)
+  where
+    by : (t : Bool) → suc (length l) ≤ cond (not t) (1 + position_or_len is_space l) 0 → (length l ≤ position_or_len is_space l → parts l ≡ l ∷ [])
+        → cond t ([] ∷ parts l) (onto_first b (parts l)) ≡ (b ∷ l) ∷ []
+    by true k g = absurd (omega arith)
+    by false k g = rw (g (omega arith))
+
+pub fields_whole : (l : List ℕ) → position is_space l ≡ None → fields l ≡ l ∷ []
+fields_whole l e = rw (fields-parts l) (parts-whole l (by (ltb (position_or_len is_space l) (length l)) refl e))
+  where
+    by : (t : Bool) → ltb (position_or_len is_space l) (length l) ≡ t → cond t (Some (position_or_len is_space l)) None ≡ None
+        → length l ≤ position_or_len is_space l
+    by true k q = absurd (none-some (position_or_len is_space l) (sym q))
+    by false k q = ltb-false (position_or_len is_space l) (length l) k
