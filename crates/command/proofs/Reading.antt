@@ -27,7 +27,7 @@ unfolding digits_from
 digits-digit n b f l h = rw (le-leb 48 b l, le-leb b 57 h)
 
 -- another byte is no digit
-pub digits-other : (n b : ℕ) (f : List ℕ) → is_digit b ≡ false → digits_field n (b ∷ f) ≡ none
+digits-other : (n b : ℕ) (f : List ℕ) → is_digit b ≡ false → digits_field n (b ∷ f) ≡ none
 unfolding digits_from fitting
 digits-other n b f e = rw e
 
@@ -42,7 +42,7 @@ digits-grow n (b ∷ f) m e = by (is_digit b) (digits-grow (n * 10 + (b - 48)) f
     by true h q = let g = h q in omega arith
     by false h q = let z : ◌≡◌ {A = ℕ} 0 1 = cc in omega arith
 
-pub digits-wide : (n : ℕ) (f : List ℕ) → 2 ^ 64 ≤ n → digits_field n f ≡ none
+digits-wide : (n : ℕ) (f : List ℕ) → 2 ^ 64 ≤ n → digits_field n f ≡ none
 unfolding fitting
 digits-wide n f h = by (digits_from n f) refl
   where

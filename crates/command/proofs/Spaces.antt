@@ -44,7 +44,9 @@ going-none (p ∷ ps) h = refl
 from_parts : (f l : List ℕ) → fields_from f l ≡ going_on f (parts l)
 unfolding fields_from
 from_parts f [] = refl
-from_parts f (b ∷ l) = by (is_space b) (from_parts (b ∷ f) l ∙ going-onto b f (parts l)) (from_parts [] l ∙ going-none (parts l) (omega (arith, length-slice_split is_space l)))
+from_parts f (b ∷ l) =
+    by (is_space b) (from_parts (b ∷ f) l ∙ going-onto b f (parts l))
+    (from_parts [] l ∙ going-none (parts l) (omega (arith, length-slice_split is_space l)))
   where
     by : (t : Bool) → fields_from (b ∷ f) l ≡ going_on f (onto_first b (parts l)) → fields_from [] l ≡ parts l
         → cond t (reversed f [] ∷ fields_from [] l) (fields_from (b ∷ f) l) ≡ going_on f (cond t ([] ∷ parts l) (onto_first b (parts l)))
