@@ -125,7 +125,7 @@ impl<'a> Fields<'a> {
         u8::try_from(self.number()?).ok()
     }
 
-    // The next field as a vector.
+    // The next field as a vector. Its bound is that of `graph::WIDTH` bits, whatever the type has, so it is no `try_from`.
     fn vector(&mut self) -> Option<u8>
         ensures { with_rest (as_number result) self.new ≡ read vector_field self.old }
     {
