@@ -1,0 +1,16 @@
+-- `index::Index::note` meets its contract: the or with a bit's power sets the bit. Assumes nothing.
+use Prim.Native.Nat.{◌/◌}
+use mathlib.Core.Path.{ap, ◌∙◌}
+use mathlib.Core.Bool.{true}
+use native.Mathlib.Omega.{arith}
+use Rattle.index.specs.inner.Index.{noting}
+use Rattle.index.proofs.Noted.{number-noted, top-noted, note-exact}
+use Rattle.index.proofs.Index.note.Goals as goal
+
+pub invariant_of-self : goal.invariant_of-self
+invariant_of-self c =
+    let w = c.args.i / 64 in
+    rw (number-noted c.self.inside.numbers w, top-noted c.self.inside.top (w / 64) (omega arith)) (note-exact w (omega arith) c.self.invariant)
+
+pub returns : goal.returns
+returns c = number-noted c.self.inside.numbers (c.args.i / 64) ∙ ap (λ x. noting x (c.args.i / 64) true) c.self.view_is
