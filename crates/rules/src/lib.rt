@@ -134,7 +134,8 @@ pub fn meet(rec: &mut [u8], index: &mut Index, to: usize, about: usize, level: u
         return;
     }
     let near = nearer(rec, old, about, d);
-    write_link(rec, to, level, d, change_to(about, near.is_some()));
+    let stays = near.is_some();
+    write_link(rec, to, level, d, change_to(about, stays));
     match near {
         Some(z) => send(rec, index, meet_place(z, about, level)),
         None => tell(rec, index, to, about, level, d, old),

@@ -23,7 +23,7 @@ met w = record {
   link = w.linked-old.ensures.link;
   other = sym w.eq.ensures ∙ w.if-eq.false;
   nearer = w.nearer-near.ensures;
-  change = rw (← w.is_some.ensures) w.change_to.ensures;
+  change = rw (← w.is_some-stays.ensures) w.change_to.ensures;
   wrote = w.write_link.ensures;
 }
 
