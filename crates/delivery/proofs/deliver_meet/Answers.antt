@@ -18,11 +18,11 @@ meet-requires c =
     let f = fits a.rec.now c.requires k c.take_named.ensures c.if-not-take_named.false in
     let p = meet-in a.to a.about a.level a.side f.1 in
     let z = c.take_named.auto.rec ∙ sized a.rec.now c.requires in
-    (z, refl, p.0, p.1, p.2)
+    (z, p.0, p.1, p.2)
 
 pub returns : goal.returns
 returns c =
     let a = c.args in
     let k = meet-kind a.to a.about a.level a.side in
     carried-noted a.rec.now c.requires k c.take_named.ensures c.if-not-take_named.false
-    (λ j. omega (arith, c.slice_known-1.given j)) _ 0 c.meet.ensures
+    (λ j. omega (arith, c.slice_known-1.given j)) _ c.meet.ensures
