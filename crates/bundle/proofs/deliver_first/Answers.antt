@@ -11,20 +11,17 @@ use Rattle.bundle.proofs.deliver_first.Goals.{After-struct_known-1}
 
 pub clear_first-cleared-requires : goal.clear_first-cleared-requires
 clear_first-cleared-requires c =
-    let w = ready-word c.requires.2 c.first-w.ensures.0 in
+    let w = ready-word c.requires.1 in
     (omega (arith, w.0, sized c.args.rec.now c.requires.0), w.1)
 
-pub strike_last-rest-requires : goal.strike_last-rest-requires
-strike_last-rest-requires c =
-    let w = ready-word c.requires.2 c.first-w.ensures.0 in
-    (c.requires.1, w.0, w.2)
+pub strike_last-requires : goal.strike_last-requires
+strike_last-requires c = ((ready-word c.requires.1).0, c.requires.1.noted)
 
 -- the place of the message taken
-within : (c : After-struct_known-1) →
-    c.first-w.result * 64 + c.clear_first-cleared.result.bit < messages
+within : (c : After-struct_known-1) → c.args.w * 64 + c.clear_first-cleared.result.bit < messages
 within c =
-    place-within c.args.rec.now c.args.index.now c.args.top c.requires.0
-    (λ j. omega (arith, c.slice_known-1.given j)) c.requires.2 c.first-w.ensures.0 c.clear_first-cleared.ensures.bit
+    place-within c.args.rec.now c.args.index.now c.requires.0
+    (λ j. omega (arith, c.slice_known-1.given j)) c.requires.1 c.clear_first-cleared.ensures.bit
 
 pub overflow_add-w : goal.overflow_add-w
 overflow_add-w c = omega (arith, within (goal.at.overflow_add-w c).After-struct_known-1)
@@ -32,10 +29,10 @@ overflow_add-w c = omega (arith, within (goal.at.overflow_add-w c).After-struct_
 pub carry_out-requires : goal.carry_out-requires
 carry_out-requires c =
     let w = within (goal.at.carry_out-requires c).After-struct_known-1 in
-    (c.clear_first-cleared.auto.rec ∙ sized c.args.rec.now c.requires.0, c.strike_last-rest.ensures.exact.long, w)
+    (c.clear_first-cleared.auto.rec ∙ sized c.args.rec.now c.requires.0, w)
 
 pub returns : goal.returns
 returns c =
-    is-delivered c.args.rec.now c.args.index.now c.args.top c.requires.0
-    (λ j. omega (arith, c.slice_known-1.given j)) c.requires.2 c.first-w.ensures.0 c.clear_first-cleared.ensures.bit
-    c.clear_first-cleared.ensures.cleared c.clear_first-cleared.ensures.last c.strike_last-rest.ensures c.carry_out.ensures
+    is-delivered c.args.rec.now c.args.index.now c.requires.0
+    (λ j. omega (arith, c.slice_known-1.given j)) c.requires.1 c.clear_first-cleared.ensures.bit
+    c.clear_first-cleared.ensures.cleared c.clear_first-cleared.ensures.last c.strike_last.ensures c.carry_out.ensures

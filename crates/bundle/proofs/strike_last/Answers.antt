@@ -3,8 +3,7 @@ use Rattle.bundle.proofs.Tracks.{struck-out, struck-none}
 use Rattle.bundle.proofs.strike_last.Goals as goal
 
 pub returns-then-last : goal.returns-then-last
-returns-then-last c =
-    struck-out c.requires.0 c.requires.1 c.if-last.true c.strike.ensures
+returns-then-last c = struck-out c.requires.1 c.if-last.true c.strike.ensures
 
-pub returns : goal.returns
-returns c = struck-none c.requires.0 c.requires.1 c.if-last.false c.requires.2
+pub returns-else-last : goal.returns-else-last
+returns-else-last c = struck-none c.requires.1 c.if-last.false
