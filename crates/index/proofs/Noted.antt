@@ -86,6 +86,14 @@ note-exact {x} {t} w h e =
     let s = noted-some (noting x w true) w (noted-same x w true l) in
     rw s at (noting-exact x w true l e)
 
+-- where the number is not 0, the top has its bit already
+pub note-kept : {x : List ℕ} {t : ℕ} (w : ℕ) → w < words → Exact x t → get_or x (w / 64) 0 < 2 ^ 64 → (get_or x (w / 64) 0 ≡ 0 → ⊥)
+    → Exact (noting x w true) t
+note-kept {x} {t} w h e l ne =
+    let s : has_bit t (w / 64) ≡ true = e.tells (w / 64) (omega arith) ∙ some-set (get_or x (w / 64) 0) l ne in
+    let P : ℕ → Type 0 = λ u. Exact (noting x w true) u in
+    subst P (rw (← s) (with_bit-has_bit t (w / 64))) (note-exact w h e)
+
 -- a noted word is struck out: its power is taken off its number, and the power of the number off the top if no bit is left
 module _ {x : List ℕ} {t : ℕ} (w : ℕ) (e : Exact x t) (h : w < words) (n : is_noted x w ≡ true) where
   abbrev rest : ℕ

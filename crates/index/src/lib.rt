@@ -53,8 +53,11 @@ impl Index {
     {
         let w = i / WORD;
         let k = w / WORD;
-        self.numbers[k] |= 1u64 << (w % WORD);
-        self.top |= 1u64 << k;
+        let x = self.numbers[k];
+        self.numbers[k] = x | 1u64 << (w % WORD);
+        if x == 0 {
+            self.top |= 1u64 << k;
+        }
     }
 
     // Strikes word w out, which is noted.
