@@ -1,10 +1,9 @@
 -- A bundle step by step: how it stands after n deliveries, with what is still to be done and what the index says; that it goes on so, and ends as
 -- the definition says. Assumes nothing.
-use Prim.Native.Nat.{ℕ, zero, suc, ◌+◌, ◌-◌, ◌*◌, ◌/◌, ◌≤◌, ◌<◌}
+use Prim.Native.Nat.{ℕ, zero, suc, ◌+◌, ◌-◌, ◌≤◌, ◌<◌}
 use mathlib.Core.Path.{◌≡◌, refl, sym, ap, ◌∙◌, subst}
 use mathlib.Core.Logic.{◌≢◌}
 use mathlib.Core.Option.{none}
-use mathlib.Core.Bool.{Bool, true, false}
 use mathlib.Core.List.{List}
 use native.Mathlib.Omega.{arith}
 use native.Mathlib.Nat.{add-zero, zero-add}
@@ -14,7 +13,7 @@ use Rattle.graph.specs.Vector.{width}
 use Rattle.protocol.specs.Message.{name_of}
 use Rattle.protocol.specs.Order.{smallest}
 use Rattle.protocol.specs.Calls.{deliver}
-use Rattle.record.specs.Layout.{seats, messages}
+use Rattle.record.specs.Layout.{seats}
 use Rattle.record.specs.Meaning.{meaning}
 use Rattle.record.specs.Reading.{record_refusal}
 use Rattle.record.specs.Call.{called}

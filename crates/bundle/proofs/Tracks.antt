@@ -22,17 +22,13 @@ use Rattle.index.proofs.Noted.{noted-within, noted-same, noted_other}
 use Rattle.rules.specs.inner.Done.{indexed, send_all}
 use Rattle.bundle.specs.inner.Steps.{Tracks, IsStruck}
 
--- word w is struck out, or it stays
-module _ {x : List ℕ} {w : ℕ} {last : Bool} (n : is_noted x w ≡ true) where
-  pub struck-out : {y : List ℕ} → last ≡ true → y ≡ noting x w false → IsStruck x w last y
-  struck-out q ey = record {
-    long = rw ey (length-set x (w / 64) _);
-    own = rw (ey, q) (noted-same x w false (noted-within x w n));
-    others = λ v ne. rw ey (noted_other x w false (noted-within x w n) v ne);
-  }
-
-  pub struck-none : last ≡ false → IsStruck x w last x
-  struck-none q = record { long = refl; own = rw q n; others = λ v ne. refl }
+-- word w, which is noted, is struck out
+pub struck-out : {x y : List ℕ} {w : ℕ} {last : Bool} → is_noted x w ≡ true → last ≡ true → y ≡ noting x w false → IsStruck x w last y
+struck-out {x} {w = w} n q ey = record {
+  long = rw ey (length-set x (w / 64) _);
+  own = rw (ey, q) (noted-same x w false (noted-within x w n));
+  others = λ v ne. rw ey (noted_other x w false (noted-within x w n) v ne);
+}
 
 module _ {l x : List ℕ} {reach : ℕ} (k : Tracks l x reach) where
   -- bytes with the same pending words

@@ -1,8 +1,7 @@
 -- `bundle::deliver_smallest` meets its contract. The loop's invariant: so many deliveries of the bundle are made, and the rest is to be done. Assumes
 -- nothing.
-use mathlib.Core.Path.{◌≡◌, refl}
+use mathlib.Core.Path.{refl}
 use native.Mathlib.Omega.{arith}
-use borrow.Author.Rules.{rules}
 use Rattle.memory.proofs.Zeros.{replicate-zero}
 use Rattle.delivery.proofs.Steps.{sized}
 use Rattle.index.specs.inner.Index.{parts}
