@@ -1,19 +1,20 @@
 -- The index after a word is noted or struck out: which words are noted then, and its top. Assumes nothing.
 use Prim.Native.Nat.{ℕ, ◌-◌, ◌*◌, ◌/◌, ◌%◌, ◌^◌, ◌≤◌, ◌<◌}
-use mathlib.Core.Path.{◌≡◌, sym, ap, ◌∙◌}
+use mathlib.Core.Path.{◌≡◌, sym, ap, ◌∙◌, subst}
 use mathlib.Core.Logic.{⊎_elim}
 use mathlib.Core.Bool.{Bool, true, false}
 use mathlib.Core.List.{List}
 use native.Mathlib.Omega.{arith}
+use lib.Bits.{bit_or}
 use lib.ListN.{length, get_or, set, length-set, get_or-eq_default}
 use lib.Seq.{get_or-set_same, get_or-set_other}
 use borrow.Author.Tests.{ne_eqb, not-false}
 use Rattle.base.specs.Loops.{any}
-use Rattle.base.proofs.Any.{any_here, none_any}
+use Rattle.base.proofs.Any.{any_here, any_none, none_any}
 use Rattle.base.proofs.Cases.{lt-or-ge, eq-or-ne}
-use Rattle.base.proofs.Tests.{false-T, true-false}
+use Rattle.base.proofs.Tests.{false-T, true-false, not-T-false}
 use Rattle.memory.specs.Bits.{has_bit, with_bit}
-use Rattle.memory.proofs.Bits.{has_bit-none, has_bit-with_bit, has_bit-with_bit-other, with_bit-has_bit, one_shifted, power-within, power-off}
+use Rattle.memory.proofs.Bits.{has_bit-none, has_bit-with_bit, has_bit-with_bit-other, with_bit-has_bit, one_shifted, mask-set, power-within, power-off}
 use Rattle.memory.proofs.FirstSet.{none-set}
 use Rattle.index.specs.inner.Index.{words, parts, is_noted, noting, is_some, Exact}
 
@@ -28,18 +29,25 @@ zero-none n z = none_any 64 (has_bit n) (λ j l. false-T {b = has_bit n j} (rw z
 pub noted-some : (x : List ℕ) (w : ℕ) → is_noted x w ≡ true → is_some x (w / 64) ≡ true
 noted-some x w e = any_here 64 (w % 64) (has_bit (get_or x (w / 64) 0)) (omega arith) e
 
+-- and lies within the index
+pub noted-within : (x : List ℕ) (w : ℕ) → is_noted x w ≡ true → w / 64 < length x
+noted-within x w e =
+    ⊎_elim (λ l. l)
+    (λ l. true-false e (ap (λ (n : ℕ). has_bit n (w % 64)) (get_or-eq_default x 0 l) ∙ has_bit-none (w % 64)))
+    (lt-or-ge (w / 64) (length x))
+
 -- a number that has one is within the index
 pub some-within : (x : List ℕ) (k : ℕ) → length x ≡ parts → is_some x k ≡ true → k < parts
 some-within x k e s =
     ⊎_elim (λ l. l) (λ l. true-false s (zero-none (get_or x k 0) (get_or-eq_default x 0 (rw e l)))) (lt-or-ge k parts)
 
 -- word w noted or struck out
-module _ (x : List ℕ) (w : ℕ) (v : Bool) (long : length x ≡ parts) (h : w < words) where
+module _ (x : List ℕ) (w : ℕ) (v : Bool) (h : w / 64 < length x) where
   get_d-other : (j : ℕ) → (j ≡ w / 64 → ⊥) → get_or (noting x w v) j 0 ≡ get_or x j 0
   get_d-other j ne = get_or-set_other x (w / 64) j _ 0 ne
 
   get_d-own : get_or (noting x w v) (w / 64) 0 ≡ with_bit (get_or x (w / 64) 0) (w % 64) v
-  get_d-own = get_or-set_same x (w / 64) (with_bit (get_or x (w / 64) 0) (w % 64) v) 0 (omega arith)
+  get_d-own = get_or-set_same x (w / 64) (with_bit (get_or x (w / 64) 0) (w % 64) v) 0 h
 
   pub noted-same : is_noted (noting x w v) w ≡ v
   noted-same = rw get_d-own (has_bit-with_bit (get_or x (w / 64) 0) (w % 64) v)
@@ -52,7 +60,7 @@ module _ (x : List ℕ) (w : ℕ) (v : Bool) (long : length x ≡ parts) (h : w 
 
   -- the top of the index after that
   pub noting-exact : {t : ℕ} → Exact x t → Exact (noting x w v) (with_bit t (w / 64) (is_some (noting x w v) (w / 64)))
-  noting-exact {t} e = record { long = rw length-set long; tells = λ k l. ⊎_elim (λ q. own k q) (λ ne. other k l ne) (eq-or-ne k (w / 64)) }
+  noting-exact {t} e = record { long = rw length-set e.long; tells = λ k l. ⊎_elim (λ q. own k q) (λ ne. other k l ne) (eq-or-ne k (w / 64)) }
     where
       own : (k : ℕ) → k ≡ w / 64 → has_bit (with_bit t (w / 64) (is_some (noting x w v) (w / 64))) k ≡ is_some (noting x w v) k
       own k q = rw q (has_bit-with_bit t (w / 64) (is_some (noting x w v) (w / 64)))
@@ -63,11 +71,28 @@ module _ (x : List ℕ) (w : ℕ) (v : Bool) (long : length x ≡ parts) (h : w 
           ∙ e.tells k l
           ∙ ap (λ (n : ℕ). any 64 (has_bit n)) (sym (get_d-other k ne))
 
--- a word is noted: its number's bit is set
+-- a word is noted: its number's power is put to the number, and the power of the number to the top
+pub number-noted : (x : List ℕ) (w : ℕ) → set x (w / 64) (bit_or (get_or x (w / 64) 0) ((1 * 2 ^ (w % 64)) % 2 ^ 64)) ≡ noting x w true
+number-noted x w =
+    let n = get_or x (w / 64) 0 in
+    ap (set x (w / 64)) (ap (bit_or n) (one_shifted 64 (w % 64) (omega arith)) ∙ mask-set n (w % 64))
+
+pub top-noted : (t k : ℕ) → k < 64 → bit_or t ((1 * 2 ^ k) % 2 ^ 64) ≡ with_bit t k true
+top-noted t k h = ap (bit_or t) (one_shifted 64 k h) ∙ mask-set t k
+
 pub note-exact : {x : List ℕ} {t : ℕ} (w : ℕ) → w < words → Exact x t → Exact (noting x w true) (with_bit t (w / 64) true)
 note-exact {x} {t} w h e =
-    let s = noted-some (noting x w true) w (noted-same x w true e.long h) in
-    rw s at (noting-exact x w true e.long h e)
+    let l : w / 64 < length x = omega (arith, e.long) in
+    let s = noted-some (noting x w true) w (noted-same x w true l) in
+    rw s at (noting-exact x w true l e)
+
+-- where the number is not 0, the top has its bit already
+pub note-kept : {x : List ℕ} {t : ℕ} (w : ℕ) → w < words → Exact x t → get_or x (w / 64) 0 < 2 ^ 64 → (get_or x (w / 64) 0 ≡ 0 → ⊥)
+    → Exact (noting x w true) t
+note-kept {x} {t} w h e l ne =
+    let s : has_bit t (w / 64) ≡ true = e.tells (w / 64) (omega arith) ∙ some-set (get_or x (w / 64) 0) l ne in
+    let P : ℕ → Type 0 = λ u. Exact (noting x w true) u in
+    subst P (rw (← s) (with_bit-has_bit t (w / 64))) (note-exact w h e)
 
 -- a noted word is struck out: its power is taken off its number, and the power of the number off the top if no bit is left
 module _ {x : List ℕ} {t : ℕ} (w : ℕ) (e : Exact x t) (h : w < words) (n : is_noted x w ≡ true) where
@@ -86,14 +111,33 @@ module _ {x : List ℕ} {t : ℕ} (w : ℕ) (e : Exact x t) (h : w < words) (n :
   pub struck : set x (w / 64) rest ≡ noting x w false
   struck = ap (set x (w / 64)) (rw (one_shifted 64 (w % 64) (omega arith)) (power-off (get_or x (w / 64) 0) (w % 64) n))
 
-  kept : is_some (set x (w / 64) rest) (w / 64) ≡ any 64 (has_bit rest)
-  kept = ap (λ (m : ℕ). any 64 (has_bit m)) (get_or-set_same x (w / 64) rest 0 (omega (arith, e.long)))
+  -- its number then
+  abbrev left : ℕ
+  left = get_or (set x (w / 64) rest) (w / 64) 0
 
-  pub top-off : rest ≡ 0 → t - (1 * 2 ^ (w / 64)) % 2 ^ 64 ≡ with_bit t (w / 64) (is_some (set x (w / 64) rest) (w / 64))
-  top-off z = rw (kept, zero-none rest z, one_shifted 64 (w / 64) (omega arith)) (power-off t (w / 64) top-has)
+  left-is : get_or (set x (w / 64) rest) (w / 64) 0 ≡ rest
+  left-is = get_or-set_same x (w / 64) rest 0 (omega (arith, e.long))
 
-  pub top-stays : rest < 2 ^ 64 → (rest ≡ 0 → ⊥) → t ≡ with_bit t (w / 64) (is_some (set x (w / 64) rest) (w / 64))
-  top-stays l ne = rw (kept, some-set rest l ne, ← top-has) (sym (with_bit-has_bit t (w / 64)))
+  after : Exact (set x (w / 64) rest) (with_bit t (w / 64) (is_some (set x (w / 64) rest) (w / 64)))
+  after = rw struck (noting-exact x w false (omega (arith, e.long)) e)
+
+  -- it is 0, or not
+  pub struck-last : left ≡ 0 → Exact (set x (w / 64) rest) (t - (1 * 2 ^ (w / 64)) % 2 ^ 64)
+  struck-last z =
+      let o = one_shifted 64 (w / 64) (omega arith) in
+      rw (o, power-off t (w / 64) top-has) (rw (zero-none left z) at after)
+
+  pub struck-more : get_or x (w / 64) 0 < 2 ^ 64 → (left ≡ 0 → ⊥) → Exact (set x (w / 64) rest) t
+  struck-more l ne =
+      let s = some-set left (omega (arith, left-is)) ne in
+      let P : ℕ → Type 0 = λ u. Exact (set x (w / 64) rest) u in
+      subst P (rw (← top-has) (with_bit-has_bit t (w / 64))) (rw s at after)
+
+-- 0 is the top of an index that notes no word
+pub top-none : {x : List ℕ} {t : ℕ} → Exact x t → t ≡ 0 → (w : ℕ) → w < parts * 64 → is_noted x w ≡ false
+top-none {x} e z w h =
+    let f : is_some x (w / 64) ≡ false = sym (e.tells (w / 64) (omega arith)) ∙ rw z (has_bit-none (w / 64)) in
+    not-T-false (any_none 64 (has_bit (get_or x (w / 64) 0)) f (w % 64) (omega arith))
 
 -- an index of zeros
 module _ (x : List ℕ) (zeros : (i : ℕ) → get_or x i 0 ≡ 0) where
