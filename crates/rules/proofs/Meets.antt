@@ -1,5 +1,5 @@
 -- MEET: from what its handlers read and did, step by step, to the effect of the rule on the bytes. Assumes nothing.
-use Prim.Native.Nat.{ℕ, ◌-◌, ◌<◌}
+use Prim.Native.Nat.{ℕ, ◌<◌}
 use Rattle.std.specs.Prelude as code
 use Rattle.std.specs.Prelude.{Some, None, MatchOption, is_some}
 use Rattle.std.specs.Option.{option_eq}
@@ -15,7 +15,7 @@ use lib.ListN.{set}
 use lib.Seq.{get_or-set_other}
 use Rattle.memory.specs.Bytes.{number_at}
 use Rattle.memory.proofs.Bytes.{number_at-set-other}
-use Rattle.graph.specs.Side.{Side, left, right, opp, on_side, side_of, side_of_number}
+use Rattle.graph.specs.Side.{Side, left, right, opp, on_side, side_of}
 use Rattle.graph.specs.Vector.{width, bit}
 use Rattle.protocol.specs.Message.{meet, probe, pull}
 use Rattle.protocol.specs.Numbering.{place}
@@ -26,21 +26,18 @@ use Rattle.record.specs.Layout.{seats, levels, vector_size, link_at, vector_from
 use Rattle.record.specs.Meaning.{meaning, link_of}
 use Rattle.record.proofs.Form.{meaning-vector, meaning-link}
 use Rattle.record.specs.inner.Entry.{written}
-use Rattle.record.specs.declared.fields.Change.{Change}
-use Rattle.record.specs.declared.fields.Change.TheVariants.{Keep, Set}
-use Rattle.record.proofs.Links.{side-opp}
-use Rattle.rules.specs.inner.Link.{as_link}
+use Rattle.record.specs.inner.Code.{as_link}
 use Rattle.rules.specs.inner.Done.{changed, Indexed, indexed, send_at, send_all, carried}
 use Rattle.rules.specs.inner.Told.{told}
 use Rattle.rules.proofs.Sends.{send-more, send-append}
 
 -- PROBE and PULL after a set below the highest level: x is the record with the PROBE sent, y with the PULL
-pub spread-sent : (l : List ℕ) (to about v : ℕ) (other : code.Option ℕ) (d : ℕ) (n : List ℕ) {x y : Indexed} {level i : ℕ} → level < width
+pub spread-sent : (l : List ℕ) (to about v : ℕ) (other : code.Option ℕ) (d : Side) (n : List ℕ) {x y : Indexed} {level i : ℕ} → level < width
     → i ≡ place seats width (probe about to level)
     → x ≡ send_at i (indexed l n)
-    → y ≡ send_all (to_link (as_link other) (λ z. pull z (not (bit width level v)) level (side_of_number d))) x
+    → y ≡ send_all (to_link (as_link other) (λ z. pull z (not (bit width level v)) level d)) x
     → y ≡ send_all (cond (ltb level width)
-    (probe about to level ∷ to_link (as_link other) (λ z. pull z (not (bit width level v)) level (side_of_number d))) []) (indexed l n)
+    (probe about to level ∷ to_link (as_link other) (λ z. pull z (not (bit width level v)) level d)) []) (indexed l n)
 spread-sent l to about v other d n h ei ex ey = rw (lt-ltb _ _ h, send-more, ← ei, ← ex) ey
 
 -- what is sent after a set, by the link that was there
@@ -52,18 +49,17 @@ told_is M to about level left old = rw (eq-eqb to to refl, eq-eqb level level re
 told_is M to about level right old = rw (eq-eqb to to refl, eq-eqb level level refl)
 
 -- one after the other: x is the record with the MEET about `to`, y with that about the old link, z with the rest
-pub told-sent : (l n : List ℕ) (to about level : ℕ) (old other : code.Option ℕ) (d v : ℕ) {x y z : Indexed} {i : ℕ} → to < seats
-    → d < 2
-    → as_link other ≡ (meaning l).link to level (side_of_number (1 - d))
+pub told-sent : (l n : List ℕ) (to about level : ℕ) (old other : code.Option ℕ) (d : Side) (v : ℕ) {x y z : Indexed} {i : ℕ} → to < seats
+    → as_link other ≡ (meaning l).link to level (opp d)
     → v ≡ number_at l (vector_from to) vector_size
     → i ≡ place seats width (meet about to level)
     → x ≡ send_at i (indexed l n)
     → y ≡ send_all (to_link (as_link old) (λ o. meet about o level)) x
     → z ≡ send_all (cond (ltb level width)
-    (probe about to level ∷ to_link (as_link other) (λ o. pull o (not (bit width level v)) level (side_of_number (1 - d)))) []) y
-    → z ≡ send_all (told (meaning l) to about level (side_of_number d) (as_link old)) (indexed l n)
-told-sent l n to about level old other d v ht hd eo ev ei ex ey ez =
-    rw (told_is, send-more, send-append, ← side-opp d hd, ← eo, meaning-vector l to ht, ← ev, ← ei, ← ex, ← ey) ez
+    (probe about to level ∷ to_link (as_link other) (λ o. pull o (not (bit width level v)) level (opp d))) []) y
+    → z ≡ send_all (told (meaning l) to about level d (as_link old)) (indexed l n)
+told-sent l n to about level old other d v ht eo ev ei ex ey ez =
+    rw (told_is, send-more, send-append, ← eo, meaning-vector l to ht, ← ev, ← ei, ← ex, ← ey) ez
 
 -- a link written leaves the link on the other side and the vector
 module _ (l : List ℕ) (to level : ℕ) (d : Side) (v : ℕ) (ht : to < seats) (hl : level < levels) where
@@ -106,30 +102,30 @@ module _ (num vec : ℕ → ℕ) (e : Entry) (to about level : ℕ) (d : Side) w
       by false = refl
 
 -- the link is `about`
-pub same-done : (l n : List ℕ) (to about level d : ℕ) (old : code.Option ℕ)
-    → side_of_number d ≡ side_of ((meaning l).seats.number to) ((meaning l).seats.number about)
-    → as_link old ≡ (meaning l).link to level (side_of_number d)
+pub same-done : (l n : List ℕ) (to about level : ℕ) (d : Side) (old : code.Option ℕ)
+    → d ≡ side_of ((meaning l).seats.number to) ((meaning l).seats.number about)
+    → as_link old ≡ (meaning l).link to level d
     → option_eq eqb old (Some about) ≡ true
     → indexed l n ≡ carried to (rule width (meaning l) (meet to about level)) (indexed l n)
 unfolding carried send_all changed rule effect
-same-done l n to about level d old es eo e = rw (← es, ← eo, meeting-same _ _ _ to about level (side_of_number d) old e)
+same-done l n to about level d old es eo e = rw (← es, ← eo, meeting-same _ _ _ to about level d old e)
 
 -- what was read and written where it is another: r is the link if it is nearer, c what becomes of it, and w the record after the writing
-pub record Met (l : List ℕ) (to about level d : ℕ) (old r : code.Option ℕ) (c : Change) (w : List ℕ) : Type 0 where
-  pub side : side_of_number d ≡ side_of ((meaning l).seats.number to) ((meaning l).seats.number about)
-  pub link : as_link old ≡ (meaning l).link to level (side_of_number d)
+pub record Met (l : List ℕ) (to about level : ℕ) (d : Side) (old r : code.Option ℕ) (c : code.Option ℕ) (w : List ℕ) : Type 0 where
+  pub side : d ≡ side_of ((meaning l).seats.number to) ((meaning l).seats.number about)
+  pub link : as_link old ≡ (meaning l).link to level d
   pub other : option_eq eqb old (Some about) ≡ false
   pub nearer : MatchOption old (r ≡ None)
-      (λ z. r ≡ cond (on_side (side_of_number d) ((meaning l).seats.number z) ((meaning l).seats.number about)) (Some z) None)
-  pub change : c ≡ cond (is_some r) Keep (Set about)
-  pub wrote : w ≡ written l to level (side_of_number d) c
+      (λ z. r ≡ cond (on_side d ((meaning l).seats.number z) ((meaning l).seats.number about)) (Some z) None)
+  pub change : c ≡ cond (is_some r) None (Some about)
+  pub wrote : w ≡ written l to level d c
 
 -- x is all that is left
-module _ {l : List ℕ} {to about level d : ℕ} {old r : code.Option ℕ} {c : Change} {w : List ℕ} (m : Met l to about level d old r c w) where
+module _ {l : List ℕ} {to about level : ℕ} {d : Side} {old r : code.Option ℕ} {c : code.Option ℕ} {w : List ℕ} (m : Met l to about level d old r c w) where
   rule-is : rule width (meaning l) (meet to about level)
-      ≡ meeting-by (meaning l).seats.number (meaning l).seats.vector (entry (meaning l) to) to about level (side_of_number d) r
+      ≡ meeting-by (meaning l).seats.number (meaning l).seats.vector (entry (meaning l) to) to about level d r
   unfolding rule effect
-  rule-is = rw (← m.side, ← m.link) (meeting-other _ _ _ to about level (side_of_number d) old r m.other m.nearer)
+  rule-is = rw (← m.side, ← m.link) (meeting-other _ _ _ to about level d old r m.other m.nearer)
 
   pub passed-done : (n : List ℕ) {z : ℕ} {x : Indexed} {i : ℕ} → r ≡ Some z
       → i ≡ place seats width (meet z about level)
@@ -141,10 +137,9 @@ module _ {l : List ℕ} {to about level d : ℕ} {old r : code.Option ℕ} {c : 
   pub set-done : (n : List ℕ) {x : Indexed} → r ≡ None
       → to < seats
       → level < levels
-      → x ≡ send_all (told (meaning w) to about level (side_of_number d) (as_link old)) (indexed w n)
+      → x ≡ send_all (told (meaning w) to about level d (as_link old)) (indexed w n)
       → x ≡ carried to (rule width (meaning l) (meet to about level)) (indexed l n)
   unfolding carried changed setting
   set-done n t ht hl ex =
-      let D = side_of_number d in
       let e = rw (m.wrote, m.change, t, told_is) at ex in
-      rw (rule-is, t, ← m.link, ← same-other l to level D about ht hl, ← same-vector l to level D about ht hl) e
+      rw (rule-is, t, ← m.link, ← same-other l to level d about ht hl, ← same-vector l to level d about ht hl) e

@@ -4,7 +4,7 @@
 // asks that the record is sound.
 #![tactic(auto)]
 
-ghost use Rattle.std.specs.Prelude.{◌≡◌, not, cond, is_some, IfSome, MatchOption, [], ◌∷◌, ◌<◌, eqb, ltb, length};
+ghost use Rattle.std.specs.Prelude.{◌≡◌, not, cond, is_some, IfSome, MatchOption, [], ◌∷◌, ◌<◌, eqb, ltb};
 ghost use Rattle.graph.specs.Vector.{width, bit as bit_at};
 ghost use Rattle.protocol.specs.Message.{
   meet as meet_of,
@@ -17,54 +17,44 @@ ghost use Rattle.protocol.specs.Message.{
 };
 ghost use Rattle.protocol.specs.Rules.{to_link};
 ghost use Rattle.protocol.specs.pages.Deliver.{rule};
-ghost use Rattle.record.specs.Layout.{seats, levels, messages, size};
+ghost use Rattle.record.specs.Layout.{seats, levels, messages};
 ghost use Rattle.record.specs.Meaning.{meaning};
-ghost use Rattle.graph.specs.Side.{on_side, side_of_number};
+ghost use Rattle.graph.specs.Side.{on_side};
+ghost use Rattle.graph.specs.inner.Code.{as_side};
+ghost use Rattle.record.specs.inner.Code.{as_link};
 ghost use Rattle.rules.specs.inner.Done.{done, indexed, send_at, send_all, carried};
-ghost use Rattle.rules.specs.inner.Link.{as_link};
 ghost use Rattle.rules.specs.inner.Told.{told};
 
-use graph::bit;
+use graph::{Side, bit};
 use index::Index;
 use messages::{found_place, meet_place, none_place, probe_place, pull_place, seek_place};
-use record::fields::Change;
 use record::lots::{beyond, is_staying, link, share, side_of};
-use record::{NONE, SEATS, WIDTH, write_link};
+use record::{NONE, Record, WIDTH, write_link};
 
 // Sends the message at place i, and notes its word.
-fn send(rec: &mut [u8], index: &mut Index, i: usize)
-    requires { (length rec.old ≡ size) × (i < messages) }
+fn send(rec: &mut Record, index: &mut Index, i: usize)
+    requires { i < messages }
     ensures { indexed rec.new index.new ≡ send_at i (indexed rec.old index.old) }
 {
     record::send(rec, i);
     index.note(i);
 }
 
-// The link of seat s at level k on side d, if there is one.
-fn linked(rec: &[u8], s: usize, k: usize, d: usize) -> Option<usize>
-    requires { (length rec.now ≡ size) × (s < seats) × (k < levels) × (d < 2) }
-    ensures link { as_link result ≡ (meaning rec.now).link s k (side_of_number d) }
-    ensures seat { IfSome result (λ z. z < seats) }
-{
-    let z = link(rec, s, k, d);
-    (z < SEATS).then_some(z)
-}
-
 // 1 MEET, after a set below the highest level: PROBE to `about`, and PULL to the link on the other side, along that side, for the opposite
 // of the bit of `to`.
 fn spread(
-    rec: &mut [u8],
+    rec: &mut Record,
     index: &mut Index,
     to: usize,
     about: usize,
     level: usize,
     vector: u8,
     other: Option<usize>,
-    side: usize,
+    side: Side,
 )
-    requires { (length rec.old ≡ size) × (to < seats) × (about < seats) × (side < 2) × IfSome other (λ z. z < seats) }
+    requires { (to < seats) × (about < seats) × IfSome other (λ z. z < seats) }
     ensures { indexed rec.new index.new ≡ send_all (cond (ltb level width)
-        (probe_of about to level ∷ to_link (as_link other) (λ z. pull_of z (not (bit_at width level vector)) level (side_of_number side))) [])
+        (probe_of about to level ∷ to_link (as_link other) (λ z. pull_of z (not (bit_at width level vector)) level (as_side side))) [])
         (indexed rec.old index.old) }
 {
     if level < WIDTH {
@@ -77,43 +67,43 @@ fn spread(
 }
 
 // 1 MEET: the link on side d if it is nearer than `about`.
-fn nearer(rec: &[u8], old: Option<usize>, about: usize, d: usize) -> Option<usize>
-    requires { (length rec.now ≡ size) × (about < seats) × IfSome old (λ z. z < seats) }
+fn nearer(rec: &Record, old: Option<usize>, about: usize, d: Side) -> Option<usize>
+    requires { (about < seats) × IfSome old (λ z. z < seats) }
     ensures { MatchOption old (result ≡ None)
-        (λ z. result ≡ cond (on_side (side_of_number d) ((meaning rec.now).seats.number z) ((meaning rec.now).seats.number about)) (Some z) None) }
+        (λ z. result ≡ cond (on_side (as_side d) ((meaning rec.now).seats.number z) ((meaning rec.now).seats.number about)) (Some z) None) }
 {
     old.filter(|z| beyond(rec, *z, about, d))
 }
 
 // 1 MEET: what becomes of a link that is not `about`: it stays, or is set to it.
-fn change_to(about: usize, stays: bool) -> Change
+fn change_to(about: usize, stays: bool) -> Option<u8>
     requires { about < seats }
-    ensures { result ≡ cond stays Change.Keep (Change.Set about) }
+    ensures { result ≡ cond stays None (Some about) }
 {
     if stays {
-        Change::Keep
+        None
     } else {
-        Change::Set(about as u8)
+        Some(about as u8)
     }
 }
 
 // 1 MEET, the link was `old` and is set to `about`: what is sent. The rest of the entry is as it was.
 fn tell(
-    rec: &mut [u8],
+    rec: &mut Record,
     index: &mut Index,
     to: usize,
     about: usize,
     level: usize,
-    d: usize,
+    d: Side,
     old: Option<usize>,
 )
-    requires { (length rec.old ≡ size) × (to < seats) × (about < seats) × (level < levels) × (d < 2) × IfSome old (λ z. z < seats) }
+    requires { (to < seats) × (about < seats) × (level < levels) × IfSome old (λ z. z < seats) }
     ensures { indexed rec.new index.new
-        ≡ send_all (told (meaning rec.old) to about level (side_of_number d) (as_link old))
+        ≡ send_all (told (meaning rec.old) to about level (as_side d) (as_link old))
         (indexed rec.old index.old) }
 {
-    let away = 1 - d;
-    let other = linked(rec, to, level, away);
+    let away = d.opposite();
+    let other = link(rec, to, level, away);
     let vector = record::vector(rec, to);
     send(rec, index, meet_place(about, to, level));
     if let Some(z) = old {
@@ -123,13 +113,13 @@ fn tell(
 }
 
 // 1 MEET: the link is `about`, nothing; it is nearer, it gets the MEET; otherwise it is set.
-pub fn meet(rec: &mut [u8], index: &mut Index, to: usize, about: usize, level: usize)
-    requires { (length rec.old ≡ size) × (to < seats) × (about < seats) × (level < levels) }
+pub fn meet(rec: &mut Record, index: &mut Index, to: usize, about: usize, level: usize)
+    requires { (to < seats) × (about < seats) × (level < levels) }
     ensures { indexed rec.new index.new ≡ carried to (rule width (meaning rec.old) (meet_of to about level))
         (indexed rec.old index.old) }
 {
     let d = side_of(rec, to, about);
-    let old = linked(rec, to, level, d);
+    let old = link(rec, to, level, d);
     if old == Some(about) {
         return;
     }
@@ -143,8 +133,8 @@ pub fn meet(rec: &mut [u8], index: &mut Index, to: usize, about: usize, level: u
 }
 
 // 2 PROBE: more bits shared than the level, MEET one level up; otherwise on to the link away from `about`.
-pub fn probe(rec: &mut [u8], index: &mut Index, to: usize, about: usize, level: usize)
-    requires { (length rec.old ≡ size) × (to < seats) × (about < seats) × (level < width) }
+pub fn probe(rec: &mut Record, index: &mut Index, to: usize, about: usize, level: usize)
+    requires { (to < seats) × (about < seats) × (level < width) }
     ensures { indexed rec.new index.new ≡ carried to (rule width (meaning rec.old) (probe_of to about level))
         (indexed rec.old index.old) }
 {
@@ -152,36 +142,36 @@ pub fn probe(rec: &mut [u8], index: &mut Index, to: usize, about: usize, level: 
         return send(rec, index, meet_place(to, about, level + 1));
     }
     let d = side_of(rec, to, about);
-    if let Some(away) = linked(rec, to, level, 1 - d) {
+    if let Some(away) = link(rec, to, level, d.opposite()) {
         send(rec, index, probe_place(away, about, level));
     }
 }
 
 // 3 PULL: the bit is the wanted one, PROBE about itself to the link on the opposite side; otherwise on along the side.
-pub fn pull(rec: &mut [u8], index: &mut Index, to: usize, want: usize, level: usize, side: usize)
-    requires { (length rec.old ≡ size) × (to < seats) × (want < 2) × (level < width) × (side < 2) }
+pub fn pull(rec: &mut Record, index: &mut Index, to: usize, want: usize, level: usize, side: Side)
+    requires { (to < seats) × (want < 2) × (level < width) }
     ensures { indexed rec.new index.new ≡ carried to
-        (rule width (meaning rec.old) (pull_of to (eqb want 1) level (side_of_number side)))
+        (rule width (meaning rec.old) (pull_of to (eqb want 1) level (as_side side)))
         (indexed rec.old index.old) }
 {
     if bit(record::vector(rec, to), level) == want {
-        if let Some(behind) = linked(rec, to, level, 1 - side) {
+        if let Some(behind) = link(rec, to, level, side.opposite()) {
             send(rec, index, probe_place(behind, to, level));
         }
-    } else if let Some(ahead) = linked(rec, to, level, side) {
+    } else if let Some(ahead) = link(rec, to, level, side) {
         send(rec, index, pull_place(ahead, want, level, side));
     }
 }
 
 // 4 GOING: a staying lot sends its link on that side SEEK about itself.
-pub fn going(rec: &mut [u8], index: &mut Index, to: usize, level: usize, side: usize)
-    requires { (length rec.old ≡ size) × (to < seats) × (level < levels) × (side < 2) }
+pub fn going(rec: &mut Record, index: &mut Index, to: usize, level: usize, side: Side)
+    requires { (to < seats) × (level < levels) }
     ensures { indexed rec.new index.new ≡ carried to
-        (rule width (meaning rec.old) (going_of to level (side_of_number side)))
+        (rule width (meaning rec.old) (going_of to level (as_side side)))
         (indexed rec.old index.old) }
 {
     if is_staying(rec, to) {
-        if let Some(leaver) = linked(rec, to, level, side) {
+        if let Some(leaver) = link(rec, to, level, side) {
             send(rec, index, seek_place(leaver, to, level));
         }
     }
@@ -189,8 +179,8 @@ pub fn going(rec: &mut [u8], index: &mut Index, to: usize, level: usize, side: u
 
 // 5 SEEK: a staying lot sends `about` FOUND about itself. A leaving lot passes it on to the link away from `about`, or with none sends
 // `about` NONE with the side that faces the leaver.
-pub fn seek(rec: &mut [u8], index: &mut Index, to: usize, about: usize, level: usize)
-    requires { (length rec.old ≡ size) × (to < seats) × (about < seats) × (level < levels) }
+pub fn seek(rec: &mut Record, index: &mut Index, to: usize, about: usize, level: usize)
+    requires { (to < seats) × (about < seats) × (level < levels) }
     ensures { indexed rec.new index.new ≡ carried to (rule width (meaning rec.old) (seek_of to about level))
         (indexed rec.old index.old) }
 {
@@ -198,25 +188,25 @@ pub fn seek(rec: &mut [u8], index: &mut Index, to: usize, about: usize, level: u
         return send(rec, index, found_place(about, to, level));
     }
     let d = side_of(rec, about, to);
-    match linked(rec, to, level, d) {
+    match link(rec, to, level, d) {
         Some(away) => send(rec, index, seek_place(away, about, level)),
         None => send(rec, index, none_place(about, level, d)),
     }
 }
 
 // 6 FOUND: the link on the side of `about` is set to it.
-pub fn found(rec: &mut [u8], to: usize, about: usize, level: usize)
-    requires { (length rec.old ≡ size) × (to < seats) × (about < seats) × (level < levels) }
+pub fn found(rec: &mut Record, to: usize, about: usize, level: usize)
+    requires { (to < seats) × (about < seats) × (level < levels) }
     ensures { rec.new ≡ done to (rule width (meaning rec.old) (found_of to about level)) rec.old }
 {
     let d = side_of(rec, to, about);
-    write_link(rec, to, level, d, Change::Set(about as u8));
+    write_link(rec, to, level, d, Some(about as u8));
 }
 
 // 7 NONE: the link on the side is set to none.
-pub fn none(rec: &mut [u8], to: usize, level: usize, side: usize)
-    requires { (length rec.old ≡ size) × (to < seats) × (level < levels) × (side < 2) }
-    ensures { rec.new ≡ done to (rule width (meaning rec.old) (none_found to level (side_of_number side))) rec.old }
+pub fn none(rec: &mut Record, to: usize, level: usize, side: Side)
+    requires { (to < seats) × (level < levels) }
+    ensures { rec.new ≡ done to (rule width (meaning rec.old) (none_found to level (as_side side))) rec.old }
 {
-    write_link(rec, to, level, side, Change::Set(NONE));
+    write_link(rec, to, level, side, Some(NONE));
 }

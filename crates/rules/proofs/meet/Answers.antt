@@ -1,5 +1,6 @@
 -- `rules::meet` meets its contract. Assumes nothing.
 use mathlib.Core.Path.{sym, ◌∙◌}
+use Rattle.graph.specs.inner.Code.{as_side}
 use Rattle.rules.proofs.Meets.{same-done, Met, passed-done, set-done}
 use Rattle.rules.proofs.meet.Goals as goal
 use Rattle.rules.proofs.meet.Goals.{After-write_link}
@@ -7,20 +8,20 @@ use Rattle.rules.proofs.meet.Goals.{After-write_link}
 pub returns-then-eq : goal.returns-then-eq
 returns-then-eq c =
     let a = c.args in
-    same-done a.rec.now a.index.now a.to a.about a.level c.side_of-d.result c.linked-old.result
-    c.side_of-d.ensures.0
-    c.linked-old.ensures.link
+    same-done a.rec.now a.index.now a.to a.about a.level (as_side c.side_of-d.result) c.link-old.result
+    c.side_of-d.ensures
+    c.link-old.ensures.link
     (sym c.eq.ensures ∙ c.if-eq.true)
 
 -- where the link is another
 met : (w : After-write_link)
     →
     let a = w.args in
-    Met a.rec.now a.to a.about a.level w.side_of-d.result w.linked-old.result w.nearer-near.result
+    Met a.rec.now a.to a.about a.level (as_side w.side_of-d.result) w.link-old.result w.nearer-near.result
     w.change_to.result w.write_link.new.rec
 met w = record {
-  side = w.side_of-d.ensures.0;
-  link = w.linked-old.ensures.link;
+  side = w.side_of-d.ensures;
+  link = w.link-old.ensures.link;
   other = sym w.eq.ensures ∙ w.if-eq.false;
   nearer = w.nearer-near.ensures;
   change = rw (← w.is_some-stays.ensures) w.change_to.ensures;
@@ -33,4 +34,4 @@ returns-in-Some c =
 
 pub returns-in-None : goal.returns-in-None
 returns-in-None c =
-    set-done (met (goal.at.returns-in-None c).After-write_link) c.args.index.now c.in-None.is c.requires.1 c.requires.3 c.tell.ensures
+    set-done (met (goal.at.returns-in-None c).After-write_link) c.args.index.now c.in-None.is c.requires.0 c.requires.2 c.tell.ensures

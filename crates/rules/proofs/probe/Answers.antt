@@ -4,7 +4,6 @@ use borrow.Author.Tests.{lt-ltb, le-ltb}
 use Rattle.protocol.specs.Rules.{effect, probing, to_link}
 use Rattle.protocol.specs.pages.Deliver.{rule}
 use Rattle.rules.specs.inner.Done.{changed, send_all, carried}
-use Rattle.record.proofs.Links.{side-opp}
 use Rattle.rules.proofs.probe.Goals as goal
 
 pub returns-then-level-share : goal.returns-then-level-share
@@ -23,8 +22,8 @@ returns-in-Some c =
     rw (
       ← c.share.ensures,
       le-ltb _ _ c.if-level-share.false,
-      ← c.side_of-d.ensures.0,
-      ← side-opp _ c.side_of-d.ensures.1,
+      ← c.side_of-d.ensures,
+      ← c.opposite.ensures,
       ← c.in-Some.ensures.link,
       ← c.probe_place.ensures.0,
     ) c.send-in-Some.ensures
@@ -35,7 +34,7 @@ returns-in_default c =
     rw (
       ← c.share.ensures,
       le-ltb _ _ c.if-level-share.false,
-      ← c.side_of-d.ensures.0,
-      ← side-opp _ c.side_of-d.ensures.1,
+      ← c.side_of-d.ensures,
+      ← c.opposite.ensures,
       ← c.in_default.ensures.link,
     )

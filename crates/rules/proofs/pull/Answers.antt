@@ -4,7 +4,6 @@ use Rattle.protocol.specs.Rules.{effect, pulling, to_link}
 use Rattle.protocol.specs.pages.Deliver.{rule}
 use Rattle.record.proofs.Form.{meaning-vector}
 use Rattle.rules.specs.inner.Done.{changed, send_all, carried}
-use Rattle.record.proofs.Links.{side-opp}
 use Rattle.rules.proofs.Sides.{same_bits}
 use Rattle.rules.proofs.pull.Goals as goal
 
@@ -12,12 +11,12 @@ pub returns-in-Some : goal.returns-in-Some
 unfolding carried send_all changed rule effect pulling to_link
 returns-in-Some c =
     rw (
-      meaning-vector _ _ c.requires.1,
+      meaning-vector _ _ c.requires.0,
       ← c.vector.ensures,
       ← c.bit.ensures.0,
-      same_bits _ _ c.bit.ensures.1 c.requires.2,
+      same_bits _ _ c.bit.ensures.1 c.requires.1,
       eq-eqb _ _ c.if-bit-want.true,
-      ← side-opp _ c.requires.4,
+      ← c.opposite.ensures,
       ← c.in-Some.ensures.link,
       ← c.probe_place.ensures.0,
     ) c.send.ensures
@@ -26,36 +25,36 @@ pub returns-in_default : goal.returns-in_default
 unfolding carried send_all changed rule effect pulling to_link
 returns-in_default c =
     rw (
-      meaning-vector _ _ c.requires.1,
+      meaning-vector _ _ c.requires.0,
       ← c.vector.ensures,
       ← c.bit.ensures.0,
-      same_bits _ _ c.bit.ensures.1 c.requires.2,
+      same_bits _ _ c.bit.ensures.1 c.requires.1,
       eq-eqb _ _ c.if-bit-want.true,
-      ← side-opp _ c.requires.4,
+      ← c.opposite.ensures,
       ← c.in_default.ensures.link,
     )
 
-pub returns-in-Some-linked : goal.returns-in-Some-linked
+pub returns-in-Some-link : goal.returns-in-Some-link
 unfolding carried send_all changed rule effect pulling to_link
-returns-in-Some-linked c =
+returns-in-Some-link c =
     rw (
-      meaning-vector _ _ c.requires.1,
+      meaning-vector _ _ c.requires.0,
       ← c.vector.ensures,
       ← c.bit.ensures.0,
-      same_bits _ _ c.bit.ensures.1 c.requires.2,
+      same_bits _ _ c.bit.ensures.1 c.requires.1,
       ne_eqb _ _ c.if-bit-want.false,
-      ← c.in-Some-linked.ensures.link,
+      ← c.in-Some-link.ensures.link,
       ← c.pull_place.ensures.0,
-    ) c.send-in-Some-linked.ensures
+    ) c.send-in-Some-link.ensures
 
-pub returns-in_default-linked : goal.returns-in_default-linked
+pub returns-in_default-link : goal.returns-in_default-link
 unfolding carried send_all changed rule effect pulling to_link
-returns-in_default-linked c =
+returns-in_default-link c =
     rw (
-      meaning-vector _ _ c.requires.1,
+      meaning-vector _ _ c.requires.0,
       ← c.vector.ensures,
       ← c.bit.ensures.0,
-      same_bits _ _ c.bit.ensures.1 c.requires.2,
+      same_bits _ _ c.bit.ensures.1 c.requires.1,
       ne_eqb _ _ c.if-bit-want.false,
-      ← c.in_default-linked.ensures.link,
+      ← c.in_default-link.ensures.link,
     )

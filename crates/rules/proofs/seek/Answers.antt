@@ -22,7 +22,7 @@ returns-in-Some c =
       staying-in,
       ← c.is_staying.ensures,
       c.if-is_staying.false,
-      ← c.side_of-d.ensures.0,
+      ← c.side_of-d.ensures,
       ← c.in-Some.ensures.link,
       ← c.seek_place.ensures.0,
     ) c.send-in-Some.ensures
@@ -34,7 +34,7 @@ returns-in-None c =
       staying-in,
       ← c.is_staying.ensures,
       c.if-is_staying.false,
-      ← c.side_of-d.ensures.0,
+      ← c.side_of-d.ensures,
       ← c.in-None.ensures.link,
       ← c.none_place.ensures.0,
     ) c.send-in-None.ensures

@@ -1,6 +1,7 @@
 -- `rules::spread` meets its contract. Assumes nothing.
 use borrow.Author.Tests.{le-ltb}
 use Rattle.rules.specs.inner.Done.{send_all}
+use Rattle.graph.specs.inner.Code.{as_side}
 use Rattle.rules.proofs.Meets.{spread-sent}
 use Rattle.rules.proofs.Sides.{bit_not}
 use Rattle.rules.proofs.Sends.{send-link, send-no-link}
@@ -9,7 +10,7 @@ use Rattle.rules.proofs.spread.Goals as goal
 pub returns-in-Some : goal.returns-in-Some
 returns-in-Some c =
     let a = c.args in
-    spread-sent a.rec.now a.to a.about a.vector a.other a.side a.index.now
+    spread-sent a.rec.now a.to a.about a.vector a.other (as_side a.side) a.index.now
     c.if-level-lt-WIDTH.true
     c.probe_place.ensures.0
     c.send.ensures
@@ -18,7 +19,7 @@ returns-in-Some c =
 pub returns-in_default : goal.returns-in_default
 returns-in_default c =
     let a = c.args in
-    spread-sent a.rec.now a.to a.about a.vector a.other a.side a.index.now
+    spread-sent a.rec.now a.to a.about a.vector a.other (as_side a.side) a.index.now
     c.if-level-lt-WIDTH.true
     c.probe_place.ensures.0
     c.send.ensures

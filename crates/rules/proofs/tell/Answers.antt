@@ -3,7 +3,8 @@ use mathlib.Core.Path.{◌≡◌}
 use Rattle.protocol.specs.Message.{meet}
 use Rattle.protocol.specs.Rules.{to_link}
 use Rattle.rules.specs.inner.Done.{indexed, send_all}
-use Rattle.rules.specs.inner.Link.{as_link}
+use Rattle.record.specs.inner.Code.{as_link}
+use Rattle.graph.specs.inner.Code.{as_side}
 use Rattle.rules.proofs.Meets.{told-sent}
 use Rattle.rules.proofs.Sends.{send-link, send-no-link}
 use Rattle.rules.proofs.tell.Goals as goal
@@ -19,12 +20,11 @@ returns c =
       | in-Some w ↦ rw (w.rec-is, w.index-is, w.in-Some.is, send-link, ← w.meet_place-in-Some.ensures.0) w.send-in-Some.ensures
       | in_default w ↦ rw (w.rec-is, w.index-is, w.in_default.is, send-no-link)
     ] in
-    told-sent a.rec.now a.index.now a.to a.about a.level a.old c.linked-other.result a.d c.vector-vector.result
-    c.requires.1
-    c.requires.4
-    c.linked-other.ensures.link
+    told-sent a.rec.now a.index.now a.to a.about a.level a.old c.link-other.result (as_side a.d) c.vector-vector.result
+    c.requires.0
+    (rw c.opposite-away.ensures at c.link-other.ensures.link)
     c.vector-vector.ensures
     c.meet_place.ensures.0
     c.send.ensures
     handed
-    c.spread.ensures
+    (rw c.opposite-away.ensures at c.spread.ensures)
