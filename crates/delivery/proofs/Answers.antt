@@ -14,37 +14,30 @@ use Rattle.record.specs.Layout.{seats}
 use Rattle.record.specs.Meaning.{meaning, bytes_of}
 use Rattle.record.specs.Reading.{record_refusal}
 use Rattle.record.specs.Call.{call_refusal, called}
-use Rattle.record.specs.Answer.{number_of, Numbered, outcome}
-use Rattle.record.specs.declared.Answer.{Answer}
-use Rattle.record.specs.declared.Answer.TheVariants.{Done, Refused}
+use Rattle.std.specs.Prelude.{Result, Ok, Err}
+use Rattle.std.specs.Result.{IsErrAnd}
+use Rattle.record.specs.Answer.{refusal_number, number_of, outcome}
+use Rattle.record.specs.declared.refusals.Refusal.{Refusal}
+use Rattle.record.specs.declared.refusals.Refusal.TheVariants.{NoSuchMessage}
 use Rattle.record.proofs.Refused.{record-passed}
 use Rattle.record.proofs.Accepted.{refused-early, outcome-refused, outcome-done}
 use Rattle.record.proofs.Call.{record-accepted}
 
 -- answer a and the bytes y are what the delivery of n on l comes to
-abbrev pub Told : (l : List ℕ) → Name → Answer → (y : List ℕ) → Type 0
-Told l n a y = (outcome a y ≡ called l (deliver n)) × Numbered a
+abbrev pub Told : (l : List ℕ) → Name → Result (Unit {0}) Refusal → (y : List ℕ) → Type 0
+Told l n a y = outcome a y ≡ called l (deliver n)
 
-module _ (l : List ℕ) (n : Name) where
-  told-refused : (k : ℕ) → k ≡ call_refusal l (deliver n) → k ≢ 0 → Told l n (Refused k) l
-  unfolding number_of
-  told-refused k e h = (outcome-refused l (deliver n) k e h refl, omega (arith, h))
+-- the record is not refused: the message is pending or not
+module _ (l : List ℕ) (n : Name) (fine : record_refusal l ≡ 0) where
+  refusal_is : (b : Bool) → is_pending (meaning l).pending (named n) ≡ b → call_refusal l (deliver n) ≡ first (row 10 (not b) ∷ [])
+  unfolding refusal rows
+  refusal_is b p = let f = record-passed l refl fine in record-accepted l f.sized f.fine (deliver n) ∙ rw p
 
-  -- the record is refused
-  pub refuse-record : {k : ℕ} → k ≡ record_refusal l → k ≢ 0 → Told l n (Refused k) l
-  refuse-record {k} e h = told-refused k (refused-early l (deliver n) e h) h
+  pub refuse-message : is_pending (meaning l).pending (named n) ≡ false → Told l n (Err NoSuchMessage) l
+  unfolding first number_of
+  refuse-message p = outcome-refused l (deliver n) 10 (sym (refusal_is false p)) (λ e. omega arith) refl
 
-  -- it is not: the message is pending or not
-  module _ (fine : record_refusal l ≡ 0) where
-    refusal_is : (b : Bool) → is_pending (meaning l).pending (named n) ≡ b → call_refusal l (deliver n) ≡ first (row 10 (not b) ∷ [])
-    unfolding refusal rows
-    refusal_is b p = let f = record-passed l refl fine in record-accepted l f.sized f.fine (deliver n) ∙ rw p
-
-    pub refuse-message : is_pending (meaning l).pending (named n) ≡ false → Told l n (Refused 10) l
-    unfolding first
-    refuse-message p = told-refused 10 (sym (refusal_is false p)) (λ e. omega arith)
-
-    pub delivered : {y : List ℕ} → is_pending (meaning l).pending (named n) ≡ true → y ≡ bytes_of (accept seats width (meaning l) (deliver n))
-        → Told l n Done y
-    unfolding first number_of
-    delivered p h = (outcome-done l (deliver n) (refusal_is true p) h, tt)
+  pub delivered : {y : List ℕ} → is_pending (meaning l).pending (named n) ≡ true → y ≡ bytes_of (accept seats width (meaning l) (deliver n))
+      → Told l n (Ok tt) y
+  unfolding first number_of
+  delivered p h = outcome-done l (deliver n) (refusal_is true p) h

@@ -19,7 +19,10 @@ use Rattle.protocol.specs.pages.Deliver.{rule}
 use Rattle.record.specs.Layout.{seats, messages, pending_from, size}
 use Rattle.record.specs.Meaning.{meaning}
 use Rattle.record.specs.Reading.{record_refusal}
-use Rattle.record.specs.declared.Answer.TheVariants.{Done, Refused}
+use Rattle.std.specs.Prelude.{Result, Ok, Err}
+use Rattle.std.specs.Result.{IsErrAnd}
+use Rattle.record.specs.declared.refusals.Refusal.{Refusal}
+use Rattle.record.specs.declared.refusals.Refusal.TheVariants.{NoSuchMessage}
 use Rattle.record.proofs.Form.{exists-pending}
 use Rattle.record.proofs.Sound.{sound-is}
 use Rattle.record.proofs.Refused.{record-passed}
@@ -40,9 +43,12 @@ sized l fine = (record-passed l refl fine).sized
 abbrev pub Taken : (l : List ℕ) → Name → (p : Bool) → (x : List ℕ) → Type 0
 Taken l n p x = (p ≡ is_pending (meaning l).pending (named n)) × (x ≡ cond p (clear_bit l pending_from (place_of (named n))) l)
 
--- it was not pending
-pub idle : (l : List ℕ) → record_refusal l ≡ 0 → (n : Name) {p : Bool} {x : List ℕ} → Taken l n p x → p ≡ false → Told l n (Refused 10) x
-idle l fine n t e = subst (λ (y : List ℕ). Told l n (Refused 10) y) (sym (t.1 ∙ rw e)) (refuse-message l n fine (sym t.0 ∙ e))
+-- it was not pending, and the refusal r of that is handed on
+pub idle : (l : List ℕ) → record_refusal l ≡ 0 → (n : Name) (a : Result (Unit {0}) Refusal) (r : Refusal) {x : List ℕ} → IsErrAnd a (λ q. q ≡ r)
+    → Taken l n false x → r ≡ NoSuchMessage → Told l n a x
+idle l fine n (Ok tt) r h t e = absurd h
+idle l fine n (Err q) r h t e =
+    rw (h ∙ e) (subst (λ (y : List ℕ). Told l n (Err NoSuchMessage) y) (sym t.1) (refuse-message l n fine (sym t.0)))
 
 -- it was: the condition of the kind holds, and the message exists
 module _ (l : List ℕ) (fine : record_refusal l ≡ 0) {n : Name} {m : Msg} (k : Kind n m) {p : Bool} {x : List ℕ} (t : Taken l n p x) (q : p ≡ true) where
@@ -62,7 +68,7 @@ module _ (l : List ℕ) (fine : record_refusal l ≡ 0) {n : Name} {m : Msg} (k 
   taken = let h = is-there in t.1 ∙ rw (q, h.1, T_true {b = exists seats width m} fits.1)
 
   -- y is the record after its rule
-  pub carried-out : AreBytes l → {y : List ℕ} → y ≡ done (name_of m).to (rule width (meaning x) m) x → Told l n Done y
+  pub carried-out : AreBytes l → {y : List ℕ} → y ≡ done (name_of m).to (rule width (meaning x) m) x → Told l n (Ok tt) y
   carried-out bs ey =
       let r = record-passed l refl fine in
       let s = (sound-is l r.sized bs).0 r.fine in
@@ -71,7 +77,7 @@ module _ (l : List ℕ) (fine : record_refusal l ≡ 0) {n : Name} {m : Msg} (k 
 
   -- with an index beside the record
   pub carried-noted : AreBytes l → (i : List ℕ) {y j : List ℕ}
-      → indexed y j ≡ carried (name_of m).to (rule width (meaning x) m) (indexed x i) → Told l n Done y
+      → indexed y j ≡ carried (name_of m).to (rule width (meaning x) m) (indexed x i) → Told l n (Ok tt) y
   carried-noted bs i e =
       carried-out bs (ap (λ (b : Indexed). b.bytes) e ∙ carried-bytes (name_of m).to (rule width (meaning x) m) (indexed x i))
 
@@ -100,6 +106,6 @@ pub named-zero : {k : ℕ} (t a l s : ℕ) → k ≡ 0 → named (name k t a l s
 unfolding named
 named-zero t a l s e = rw e
 
-pub refuse-kind : (l : List ℕ) (n : Name) → record_refusal l ≡ 0 → named n ≡ none → Told l n (Refused 10) l
+pub refuse-kind : (l : List ℕ) (n : Name) → record_refusal l ≡ 0 → named n ≡ none → Told l n (Err NoSuchMessage) l
 unfolding is_pending
 refuse-kind l n fine e = refuse-message l n fine (rw e)

@@ -2,7 +2,7 @@
 // specs/Call.antt.
 #![tactic(auto)]
 
-ghost use Rattle.std.specs.Prelude.{◌≡◌, cond};
+ghost use Rattle.std.specs.Prelude.{◌≡◌, cond, is_ok, IfErr};
 ghost use Rattle.memory.specs.Bits.{clear_bit};
 ghost use Rattle.protocol.specs.Message.{name, named};
 ghost use Rattle.protocol.specs.State.{is_pending};
@@ -11,133 +11,117 @@ ghost use Rattle.record.specs.Layout.{pending_from};
 ghost use Rattle.record.specs.Meaning.{meaning};
 ghost use Rattle.record.specs.Reading.{record_refusal};
 ghost use Rattle.record.specs.Call.{called};
-ghost use Rattle.record.specs.Answer.{Numbered, outcome};
+ghost use Rattle.record.specs.Answer.{outcome};
+ghost use Rattle.record.specs.declared.refusals.Refusal.TheVariants.{NoSuchMessage};
+ghost use Rattle.messages.specs.inner.Numbers.{numbers};
 ghost use Rattle.messages.specs.inner.Places.{place_of};
 
 use index::Index;
-use messages::place_of;
-use record::refusals::NO_SUCH_MESSAGE;
-use record::{Answer, MESSAGES};
+use graph::Side;
+use messages::{Message, place_of};
+use record::Record;
+use record::refusals::Refusal;
 use rules::{found, going, meet, none, probe, pull, seek};
-use soundness::record_refusal;
+use soundness::look;
 
-// Takes the message that five numbers name away if it is pending, and says whether it was.
-fn take_named(rec: &mut [u8], kind: u8, to: usize, about: usize, level: usize, side: usize) -> bool
+// Takes the message that five numbers name away; refused, and nothing is taken, if it is not pending.
+fn take_named(rec: &mut Record, m: Message) -> Result<(), Refusal>
     requires { record_refusal rec.old ≡ 0 }
-    ensures { let n = named (name kind to about level side) in let l = rec.old in
-        (result ≡ is_pending (meaning l).pending n) × (rec.new ≡ cond result (clear_bit l pending_from (place_of n)) l) }
+    ensures taken { let n = named (numbers m) in let l = rec.old in
+        (is_ok result ≡ is_pending (meaning l).pending n) × (rec.new ≡ cond (is_ok result) (clear_bit l pending_from (place_of n)) l) }
+    ensures refused { IfErr result (λ r. r ≡ NoSuchMessage) }
 {
-    let i = place_of(kind, to, about, level, side);
-    if i == MESSAGES {
-        return false;
+    match place_of(m) {
+        Some(i) if record::is_pending(rec, i) => {
+            record::take(rec, i);
+            Ok(())
+        }
+        _ => Err(Refusal::NoSuchMessage),
     }
-    if !record::is_pending(rec, i) {
-        return false;
-    }
-    record::take(rec, i);
-    true
 }
 
-// The kinds, each on a record that is not refused: the message is taken away, and its rule is done; or it is refused. What a rule notes in an
-// index is not used here.
-fn deliver_meet(rec: &mut [u8], to: usize, about: usize, level: usize, side: usize) -> Answer
+// The kinds, each on a record that is not refused: the message with that kind and the other four numbers of m is taken away, and its rule is done; or it
+// is refused. What a rule notes in an index is not used here.
+fn deliver_meet(rec: &mut Record, m: Message) -> Result<(), Refusal>
     requires { record_refusal rec.old ≡ 0 }
-    ensures { (outcome result rec.new ≡ called rec.old (delivering (name 1 to about level side))) × Numbered result }
+    ensures { outcome result rec.new ≡ called rec.old (delivering (name 1 m.to m.about m.level m.side)) }
 {
-    if !take_named(rec, 1, to, about, level, side) {
-        return Answer::Refused(NO_SUCH_MESSAGE);
-    }
-    meet(rec, &mut Index::new(), to, about, level);
-    Answer::Done
+    take_named(rec, Message { kind: 1, ..m })?;
+    meet(rec, &mut Index::new(), m.to as usize, m.about as usize, m.level as usize);
+    Ok(())
 }
 
-fn deliver_probe(rec: &mut [u8], to: usize, about: usize, level: usize, side: usize) -> Answer
+fn deliver_probe(rec: &mut Record, m: Message) -> Result<(), Refusal>
     requires { record_refusal rec.old ≡ 0 }
-    ensures { (outcome result rec.new ≡ called rec.old (delivering (name 2 to about level side))) × Numbered result }
+    ensures { outcome result rec.new ≡ called rec.old (delivering (name 2 m.to m.about m.level m.side)) }
 {
-    if !take_named(rec, 2, to, about, level, side) {
-        return Answer::Refused(NO_SUCH_MESSAGE);
-    }
-    probe(rec, &mut Index::new(), to, about, level);
-    Answer::Done
+    take_named(rec, Message { kind: 2, ..m })?;
+    probe(rec, &mut Index::new(), m.to as usize, m.about as usize, m.level as usize);
+    Ok(())
 }
 
-fn deliver_pull(rec: &mut [u8], to: usize, about: usize, level: usize, side: usize) -> Answer
+fn deliver_pull(rec: &mut Record, m: Message) -> Result<(), Refusal>
     requires { record_refusal rec.old ≡ 0 }
-    ensures { (outcome result rec.new ≡ called rec.old (delivering (name 3 to about level side))) × Numbered result }
+    ensures { outcome result rec.new ≡ called rec.old (delivering (name 3 m.to m.about m.level m.side)) }
 {
-    if !take_named(rec, 3, to, about, level, side) {
-        return Answer::Refused(NO_SUCH_MESSAGE);
-    }
-    pull(rec, &mut Index::new(), to, about, level, side);
-    Answer::Done
+    take_named(rec, Message { kind: 3, ..m })?;
+    pull(rec, &mut Index::new(), m.to as usize, m.about as usize, m.level as usize, Side::of_number(m.side as usize));
+    Ok(())
 }
 
-fn deliver_going(rec: &mut [u8], to: usize, about: usize, level: usize, side: usize) -> Answer
+fn deliver_going(rec: &mut Record, m: Message) -> Result<(), Refusal>
     requires { record_refusal rec.old ≡ 0 }
-    ensures { (outcome result rec.new ≡ called rec.old (delivering (name 4 to about level side))) × Numbered result }
+    ensures { outcome result rec.new ≡ called rec.old (delivering (name 4 m.to m.about m.level m.side)) }
 {
-    if !take_named(rec, 4, to, about, level, side) {
-        return Answer::Refused(NO_SUCH_MESSAGE);
-    }
-    going(rec, &mut Index::new(), to, level, side);
-    Answer::Done
+    take_named(rec, Message { kind: 4, ..m })?;
+    going(rec, &mut Index::new(), m.to as usize, m.level as usize, Side::of_number(m.side as usize));
+    Ok(())
 }
 
-fn deliver_seek(rec: &mut [u8], to: usize, about: usize, level: usize, side: usize) -> Answer
+fn deliver_seek(rec: &mut Record, m: Message) -> Result<(), Refusal>
     requires { record_refusal rec.old ≡ 0 }
-    ensures { (outcome result rec.new ≡ called rec.old (delivering (name 5 to about level side))) × Numbered result }
+    ensures { outcome result rec.new ≡ called rec.old (delivering (name 5 m.to m.about m.level m.side)) }
 {
-    if !take_named(rec, 5, to, about, level, side) {
-        return Answer::Refused(NO_SUCH_MESSAGE);
-    }
-    seek(rec, &mut Index::new(), to, about, level);
-    Answer::Done
+    take_named(rec, Message { kind: 5, ..m })?;
+    seek(rec, &mut Index::new(), m.to as usize, m.about as usize, m.level as usize);
+    Ok(())
 }
 
-fn deliver_found(rec: &mut [u8], to: usize, about: usize, level: usize, side: usize) -> Answer
+fn deliver_found(rec: &mut Record, m: Message) -> Result<(), Refusal>
     requires { record_refusal rec.old ≡ 0 }
-    ensures { (outcome result rec.new ≡ called rec.old (delivering (name 6 to about level side))) × Numbered result }
+    ensures { outcome result rec.new ≡ called rec.old (delivering (name 6 m.to m.about m.level m.side)) }
 {
-    if !take_named(rec, 6, to, about, level, side) {
-        return Answer::Refused(NO_SUCH_MESSAGE);
-    }
-    found(rec, to, about, level);
-    Answer::Done
+    take_named(rec, Message { kind: 6, ..m })?;
+    found(rec, m.to as usize, m.about as usize, m.level as usize);
+    Ok(())
 }
 
-fn deliver_none(rec: &mut [u8], to: usize, about: usize, level: usize, side: usize) -> Answer
+fn deliver_none(rec: &mut Record, m: Message) -> Result<(), Refusal>
     requires { record_refusal rec.old ≡ 0 }
-    ensures { (outcome result rec.new ≡ called rec.old (delivering (name 7 to about level side))) × Numbered result }
+    ensures { outcome result rec.new ≡ called rec.old (delivering (name 7 m.to m.about m.level m.side)) }
 {
-    if !take_named(rec, 7, to, about, level, side) {
-        return Answer::Refused(NO_SUCH_MESSAGE);
-    }
-    none(rec, to, level, side);
-    Answer::Done
+    take_named(rec, Message { kind: 7, ..m })?;
+    none(rec, m.to as usize, m.level as usize, Side::of_number(m.side as usize));
+    Ok(())
 }
 
 // Delivers the message that five numbers name: it is taken away, and its rule is done. Refused: 1 wrong size, 2 unsound, 10 no such
 // message.
-pub fn deliver(rec: &mut [u8], kind: u8, to: u8, about: u8, level: u8, side: u8) -> Answer
-    ensures { (outcome result rec.new ≡ called rec.old (delivering (name kind to about level side))) × Numbered result }
+pub fn deliver(rec: &mut [u8], m: Message) -> Result<(), Refusal>
+    ensures { outcome result rec.new ≡ called rec.old (delivering (numbers m)) }
 {
-    let refused = record_refusal(rec);
-    if refused != 0 {
-        return Answer::Refused(refused);
-    }
-    let to = to as usize;
-    let about = about as usize;
-    let level = level as usize;
-    let side = side as usize;
-    match kind {
-        1 => deliver_meet(rec, to, about, level, side),
-        2 => deliver_probe(rec, to, about, level, side),
-        3 => deliver_pull(rec, to, about, level, side),
-        4 => deliver_going(rec, to, about, level, side),
-        5 => deliver_seek(rec, to, about, level, side),
-        6 => deliver_found(rec, to, about, level, side),
-        7 => deliver_none(rec, to, about, level, side),
-        0 | 8..=255 => Answer::Refused(NO_SUCH_MESSAGE),
+    let Some(rec) = rec.as_mut_array() else {
+        return Err(Refusal::WrongSize);
+    };
+    look(rec)?;
+    match m.kind {
+        1 => deliver_meet(rec, m),
+        2 => deliver_probe(rec, m),
+        3 => deliver_pull(rec, m),
+        4 => deliver_going(rec, m),
+        5 => deliver_seek(rec, m),
+        6 => deliver_found(rec, m),
+        7 => deliver_none(rec, m),
+        0 | 8..=255 => Err(Refusal::NoSuchMessage),
     }
 }

@@ -60,6 +60,13 @@ module _ (l : List ℕ) (c : Call) where
   answered-refused B (Ok x) r e h = absurd e
   answered-refused B (Err q) r e h = outcome-refused l c _ h (refusal-not-0 r) (ap refusal_number e)
 
+  -- so does one on a record that is refused
+  pub refused-record : {A : Type 0} (B : Type 0) (a : Result A Refusal) (r : Refusal) → IsErrAnd a (λ q. q ≡ r)
+      → number_of {A = B} (Err r) ≡ record_refusal l → outcome a l ≡ called l c
+  unfolding number_of
+  refused-record B (Ok x) r e h = absurd e
+  refused-record B (Err q) r e h = outcome-refused l c _ (refused-early l c h (refusal-not-0 r)) (refusal-not-0 r) (ap refusal_number e)
+
   -- an accepted one those of the meaning after it
   pub answered-done : {A B : Type 0} (x : A) (y : B) {m : List ℕ} → number_of (Ok x) ≡ call_refusal l c
       → m ≡ bytes_of (accept seats width (meaning l) c) → outcome (Ok y) m ≡ called l c
@@ -70,3 +77,8 @@ module _ (l : List ℕ) (c : Call) where
   pub answered-accepted : {A : Type 0} (x : A) → AreBytes l → number_of (Ok x) ≡ call_refusal l c → Accepted l c
   unfolding number_of
   answered-accepted x b z = accepted l c b (sym z)
+
+-- nothing is refused: the number is 0
+pub number-0 : {A : Type 0} (x : A) {n : ℕ} → number_of (Ok x) ≡ n → n ≡ 0
+unfolding number_of
+number-0 x e = sym e

@@ -1,28 +1,26 @@
 -- `delivery::deliver_meet` meets its contract. Assumes nothing.
-use mathlib.Core.Path.{refl, ◌∙◌}
+use mathlib.Core.Path.{refl}
 use borrow.Author.Rules.{rules}
 use Rattle.protocol.specs.Message.{name}
 use Rattle.delivery.proofs.ByKind.{meet-kind, meet-in}
-use Rattle.delivery.proofs.Steps.{sized, idle, fits, carried-noted}
+use Rattle.delivery.proofs.Steps.{idle, fits, carried-noted}
 use Rattle.delivery.proofs.deliver_meet.Goals as goal
 
-pub returns-then-not-take_named : goal.returns-then-not-take_named
-returns-then-not-take_named c =
-    let a = c.args in
-    idle a.rec.now c.requires (name 1 a.to a.about a.level a.side) c.take_named.ensures c.if-not-take_named.true
+pub returns-in_err-take_named : goal.returns-in_err-take_named
+returns-in_err-take_named c =
+    let m = c.args.m in
+    let e = c.in_err-take_named.ensures in
+    idle c.args.rec.now c.requires (name 1 m.to m.about m.level m.side) c.from_residual.result _ c.from_residual.ensures.1 e.taken e.refused
 
 pub meet-requires : goal.meet-requires
 meet-requires c =
-    let a = c.args in
-    let k = meet-kind a.to a.about a.level a.side in
-    let f = fits a.rec.now c.requires k c.take_named.ensures c.if-not-take_named.false in
-    let p = meet-in a.to a.about a.level a.side f.1 in
-    let z = c.take_named.auto.rec ∙ sized a.rec.now c.requires in
-    (z, p.0, p.1, p.2)
+    let m = c.args.m in
+    let f = fits c.args.rec.now c.requires (meet-kind m.to m.about m.level m.side) c.in_ok-take_named.ensures.taken refl in
+    let p = meet-in m.to m.about m.level m.side f.1 in
+    (p.0, p.1, p.2)
 
 pub returns : goal.returns
 returns c =
-    let a = c.args in
-    let k = meet-kind a.to a.about a.level a.side in
-    carried-noted a.rec.now c.requires k c.take_named.ensures c.if-not-take_named.false
-    (search rules) _ c.meet.ensures
+    let m = c.args.m in
+    carried-noted c.args.rec.now c.requires (meet-kind m.to m.about m.level m.side) c.in_ok-take_named.ensures.taken refl (λ i. search rules)
+    _ c.meet.ensures
