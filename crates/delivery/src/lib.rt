@@ -38,8 +38,8 @@ fn take_named(rec: &mut [u8], kind: u8, to: usize, about: usize, level: usize, s
     true
 }
 
-// The kinds, each on a record that is not refused: the message is taken away, and its rule is done; or it is refused. What a rule notes in an
-// index is not used here.
+// The kinds, a small handler for each as document 01 asks, on a record that is not refused: the message is taken away, and its rule is done; or it
+// is refused. What a rule notes in an index is not used here.
 fn deliver_meet(rec: &mut [u8], to: usize, about: usize, level: usize, side: usize) -> Answer
     requires { record_refusal rec.old ≡ 0 }
     ensures { (outcome result rec.new ≡ called rec.old (delivering (name 1 to about level side))) × Numbered result }

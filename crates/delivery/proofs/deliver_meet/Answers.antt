@@ -1,5 +1,5 @@
 -- `delivery::deliver_meet` meets its contract. Assumes nothing.
-use mathlib.Core.Path.{refl, ◌∙◌}
+use mathlib.Core.Path.{◌∙◌}
 use borrow.Author.Rules.{rules}
 use Rattle.protocol.specs.Message.{name}
 use Rattle.delivery.proofs.ByKind.{meet-kind, meet-in}
