@@ -1,6 +1,6 @@
 -- A test of every number below n: the steps of a loop, what it says of each number, and ranges joined and nested. Assumes nothing.
-use Prim.Native.Nat.{ℕ, zero, suc, ◌+◌, ◌*◌, ◌<◌}
-use mathlib.Core.Path.{◌≡◌, refl, ◌∙◌}
+use Prim.Native.Nat.{ℕ, zero, suc, ◌+◌, ◌-◌, ◌*◌, ◌≤◌, ◌<◌}
+use mathlib.Core.Path.{◌≡◌, refl, sym, ap, ◌∙◌}
 use mathlib.Core.Logic.{⊎_elim}
 use mathlib.Core.Bool.{Bool, true, false, ◌&&◌}
 use native.Mathlib.Omega.{arith}
@@ -68,3 +68,11 @@ pub all-product : (m n : ℕ) (p : ℕ → Bool) → all (m * n) p ≡ all m (λ
 unfolding all
 all-product zero n p = rw zero-mul
 all-product (suc m) n p = rw (suc-mul, all_append, all-product m n p)
+
+-- where all from m on pass, the first m decide
+pub all-above : (n m : ℕ) (p : ℕ → Bool) → m ≤ n → ((i : ℕ) → i < n → m ≤ i → p i ≡ true) → all m p ≡ all n p
+all-above n m p h a =
+    let e : m + (n - m) ≡ n = omega arith in
+    sym (ap (λ (k : ℕ). all k p) (sym e) ∙ all_append m (n - m) p
+    ∙ ap (λ b. all m p && b) (all_from (n - m) (λ j. p (m + j)) (λ j q. a (m + j) (omega arith) (omega arith)))
+    ∙ and-true (all m p))

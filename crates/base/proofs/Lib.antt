@@ -7,4 +7,5 @@ pub mod First
 pub mod Count
 pub mod Tabulate
 pub mod Stops
+pub mod Ranges
 pub mod Bits

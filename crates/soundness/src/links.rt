@@ -53,12 +53,7 @@ fn lot_fits(rec: &Record, numbers: &[u64; SEATS], x: usize) -> bool
         × (seated (seats_in rec.now) x ≡ true) }
     ensures { result ≡ all levels (λ k. link_fits rec.now x k left && link_fits rec.now x k right) }
 {
-    for k in 0..LEVELS {
-        if !level_fits(rec, numbers, x, k) {
-            return false;
-        }
-    }
-    true
+    (0..LEVELS).all(|k| level_fits(rec, numbers, x, k))
 }
 
 // All links of seat x: a seat without a lot has none, reserved or free.
@@ -78,10 +73,5 @@ pub fn links_fit(rec: &Record, numbers: &[u64; SEATS], top: usize) -> bool
         × ((s : ℕ) → s < seats → top ≤ s → taken (seats_in rec.now) s ≡ false) }
     ensures { result ≡ links_fit rec.now }
 {
-    for x in 0..top {
-        if !seat_fits(rec, numbers, x) {
-            return false;
-        }
-    }
-    true
+    (0..top).all(|x| seat_fits(rec, numbers, x))
 }
