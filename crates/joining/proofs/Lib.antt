@@ -1,3 +1,2 @@
 -- Why join and leave do what the definitions say.
 pub mod After
-pub mod Ranges

@@ -1,7 +1,7 @@
 -- `joining::newcomer::any_seated` meets its contract. Assumes nothing.
 use borrow.Author.Rules.{rules}
 use borrow.Author.Tests.{tests}
-use Rattle.joining.proofs.Ranges.{any-over}
+use Rattle.base.proofs.Ranges.{any-over}
 use Rattle.joining.proofs.newcomer.any_seated.Goals as goal
 
 pub returns : goal.returns
