@@ -62,12 +62,14 @@ pub fn lacks_contact(rec: &Record, contact: usize) -> bool
     ensures { result ≡ lacks_contact seats (seats_in rec.now) contact }
 {
     if contact < SEATS {
-        return !is_seated(rec, contact);
+        !is_seated(rec, contact)
+    } else {
+        any_seated(rec)
     }
-    any_seated(rec)
 }
 
-// Whether a call names a seat or a contact that does not exist.
+// Whether a call names a seat or a contact that does not exist. The contact is the call's number and no Option: 255 is none, and the others that are no
+// seat are refused.
 pub fn lacks_seat(seat: usize, contact: usize) -> bool
     ensures { result ≡ no_seat seats seat || no_such_contact seats contact }
 {
