@@ -27,4 +27,5 @@ greet-requires c = confirm-seat (may-confirm (goal.at.greet-requires c).In_ok-co
 pub returns : goal.returns
 returns c =
     let t = may-confirm (goal.at.returns c).In_ok-confirm_refusal in
-    rw (← c.in-Some.ensures.cases.same) (answered-done _ _ _ tt c.in_ok-confirm_refusal.ensures (rw (c.greet.ensures, c.set_state.ensures) (sym (confirm-bytes t))))
+    rw (← c.in-Some.ensures.cases.same)
+    (answered-done _ _ _ tt c.in_ok-confirm_refusal.ensures (rw (c.greet.ensures, c.set_state.ensures) (sym (confirm-bytes t))))

@@ -13,7 +13,8 @@ returns-in_default c = answered-size _ _ c.in_default.ensures.cases
 
 pub returns-in_err-reserve_refusal : goal.returns-in_err-reserve_refusal
 returns-in_err-reserve_refusal c =
-    rw (← c.in-Some.ensures.cases.same) (answered-refused _ _ _ c.from_residual.result _ c.from_residual.ensures.1 (c.in_err-reserve_refusal.ensures c.args.vector))
+    let e = c.in_err-reserve_refusal.ensures c.args.vector in
+    rw (← c.in-Some.ensures.cases.same) (answered-refused _ _ _ c.from_residual.result _ c.from_residual.ensures.1 e)
 
 may-reserve : (c : In_ok-reserve_refusal) → let a = c.args in Accepted c.in-Some.rec.now (reserve a.seat a.number a.vector)
 may-reserve c = answered-accepted _ _ _ (λ i. search rules) (c.in_ok-reserve_refusal.ensures c.args.vector)
