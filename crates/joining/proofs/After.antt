@@ -1,11 +1,11 @@
--- The bytes of the meaning after an accepted join and leave: the fields that change. Three fields of a seat without links, and the MEET to the contact,
--- for any call that leaves them. Assumes nothing.
+-- The bytes of the meaning after an accepted join and leave: the fields that change. Three fields of a seat without links, the state alone, the MEET to
+-- the contact, and no message, for any call that leaves them. Assumes nothing.
 use Prim.Native.Nat.{ℕ, ◌<◌}
 use mathlib.Core.Path.{◌≡◌, ap, ◌∙◌}
 use mathlib.Core.Logic.{⊎_elim}
 use mathlib.Core.Option.{none}
 use mathlib.Core.Bool.{Bool, false}
-use mathlib.Core.List.{List}
+use mathlib.Core.List.{List, []}
 use lib.ListN.{set}
 use borrow.Author.Tests.{lt-ltb, le-ltb}
 use Rattle.graph.specs.Vector.{width}
@@ -38,12 +38,21 @@ filled-bytes {l} f h s t n v p e =
     bytes-with_lot-unlinked (meaning l) s t n v p (λ k d q. empty-unlinked h s k d e)
     ∙ ap (λ (m : List ℕ). filled m s (state_byte t) n v) (bytes-meaning f)
 
+-- another state of a seat
+pub marked-bytes : {l : List ℕ} → Form l → (s : ℕ) (t : SeatState) → s < seats → bytes_of (with_state (meaning l) s t) ≡ set l (state_at s) (state_byte t)
+marked-bytes {l} f s t p =
+    bytes-with_state (meaning l) s t p ∙ ap (λ (m : List ℕ). set m (state_at s) (state_byte t)) (bytes-meaning f)
+
+-- no message
+pub silent-bytes : (M : Meaning) → bytes_of (with_pending M (pending_after [] none M.pending)) ≡ bytes_of M
+silent-bytes M = ap (λ (p : Msg → Bool). bytes_of (with_pending M p)) (after_nothing M.pending)
+
 -- the contact's MEET
 pub greeted-bytes : (M : Meaning) (s c : ℕ) → s < seats
     → bytes_of (with_pending M (pending_after (greeting seats s c) none M.pending)) ≡ greeted (bytes_of M) s c
 greeted-bytes M s c p = ⊎_elim
     (λ h. rw (lt-ltb c seats h) (bytes-with_message M (meet c s 0) (meet-exists c s h p)))
-    (λ h. rw (le-ltb c seats h) (ap (λ (q : Msg → Bool). bytes_of (with_pending M q)) (after_nothing M.pending)))
+    (λ h. rw (le-ltb c seats h) (silent-bytes M))
     (lt-or-ge c seats)
 
 module _ {l : List ℕ} {s n v c : ℕ} (a : Accepted l (join s n v c)) where
@@ -69,7 +78,4 @@ module _ {l : List ℕ} {s : ℕ} (a : Accepted l (leave s)) where
 
   pub leave-bytes : bytes_of (accept seats width (meaning l) (leave s)) ≡ set l (state_at s) (state_byte leaving)
   unfolding accept seats_after links_after sends takes
-  leave-bytes =
-      ap (λ (p : Msg → Bool). bytes_of (with_pending (with_state (meaning l) s leaving) p)) (after_nothing (meaning l).pending)
-      ∙ bytes-with_state (meaning l) s leaving leave-seat
-      ∙ ap (λ (m : List ℕ). set m (state_at s) (state_byte leaving)) (bytes-meaning a.form)
+  leave-bytes = silent-bytes (with_state (meaning l) s leaving) ∙ marked-bytes a.form s leaving leave-seat

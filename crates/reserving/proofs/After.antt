@@ -1,25 +1,21 @@
 -- The bytes of the meaning after an accepted reservation, confirmation and return: the fields that change. Assumes nothing.
 use Prim.Native.Nat.{ℕ, ◌<◌}
 use mathlib.Core.Path.{◌≡◌, ap, ◌∙◌}
-use mathlib.Core.Bool.{Bool}
 use mathlib.Core.List.{List}
 use lib.ListN.{set}
 use Rattle.graph.specs.Vector.{width}
-use Rattle.protocol.specs.Message.{Msg}
 use Rattle.protocol.specs.Rules.{free, staying, reserved}
 use Rattle.protocol.specs.Calls.{reserve, confirm, give_back, seats_after, links_after, sends, takes, accept}
-use Rattle.protocol.proofs.Calls.{after_nothing}
 use Rattle.protocol.proofs.SoundFacts.{free-empty, held-empty}
 use Rattle.protocol.proofs.Accepted.{Reserves, reserve-rows, confirm-rows, GivesBack, give-back-rows}
 use Rattle.record.specs.Layout.{seats, state_at}
 use Rattle.record.specs.Meaning.{meaning, bytes_of, state_byte}
-use Rattle.record.proofs.Round.{bytes-meaning}
-use Rattle.record.proofs.Update.{with_state, with_pending, bytes-with_state}
+use Rattle.record.proofs.Update.{with_state}
 use Rattle.record.proofs.Entry.{with_lot}
 use Rattle.record.proofs.Accepted.{Accepted}
 use Rattle.record.specs.inner.Entry.{filled}
 use Rattle.joining.specs.inner.Newcomer.{greeted}
-use Rattle.joining.proofs.After.{filled-bytes, greeted-bytes}
+use Rattle.joining.proofs.After.{filled-bytes, marked-bytes, silent-bytes, greeted-bytes}
 
 module _ {l : List ℕ} {s n v : ℕ} (a : Accepted l (reserve s n v)) where
   reserve-ok : Reserves seats width (meaning l).seats (meaning l).pending s n
@@ -31,7 +27,7 @@ module _ {l : List ℕ} {s n v : ℕ} (a : Accepted l (reserve s n v)) where
   pub reserve-bytes : bytes_of (accept seats width (meaning l) (reserve s n v)) ≡ filled l s (state_byte reserved) n v
   unfolding accept seats_after links_after sends takes
   reserve-bytes =
-      ap (λ (p : Msg → Bool). bytes_of (with_pending (with_lot (meaning l) s reserved n v) p)) (after_nothing (meaning l).pending)
+      silent-bytes (with_lot (meaning l) s reserved n v)
       ∙ filled-bytes a.form a.fine s reserved n v reserve-seat (free-empty (meaning l).seats s reserve-ok.free)
 
 module _ {l : List ℕ} {s c : ℕ} (a : Accepted l (confirm s c)) where
@@ -42,8 +38,7 @@ module _ {l : List ℕ} {s c : ℕ} (a : Accepted l (confirm s c)) where
   unfolding accept seats_after links_after sends takes
   confirm-bytes =
       greeted-bytes (with_state (meaning l) s staying) s c confirm-seat
-      ∙ ap (λ (m : List ℕ). greeted m s c)
-      (bytes-with_state (meaning l) s staying confirm-seat ∙ ap (λ (m : List ℕ). set m (state_at s) (state_byte staying)) (bytes-meaning a.form))
+      ∙ ap (λ (m : List ℕ). greeted m s c) (marked-bytes a.form s staying confirm-seat)
 
 module _ {l : List ℕ} {s : ℕ} (a : Accepted l (give_back s)) where
   give-back-ok : GivesBack seats width (meaning l).seats (meaning l).pending s
@@ -55,5 +50,5 @@ module _ {l : List ℕ} {s : ℕ} (a : Accepted l (give_back s)) where
   pub give-back-bytes : bytes_of (accept seats width (meaning l) (give_back s)) ≡ filled l s (state_byte free) 0 0
   unfolding accept seats_after links_after sends takes
   give-back-bytes =
-      ap (λ (p : Msg → Bool). bytes_of (with_pending (with_lot (meaning l) s free 0 0) p)) (after_nothing (meaning l).pending)
+      silent-bytes (with_lot (meaning l) s free 0 0)
       ∙ filled-bytes a.form a.fine s free 0 0 give-back-seat (held-empty (meaning l).seats s give-back-ok.reserved)

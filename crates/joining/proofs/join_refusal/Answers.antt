@@ -1,17 +1,9 @@
 -- `joining::join_refusal` meets its contract: the record's rows, then the table's. Assumes nothing.
-use Rattle.protocol.specs.Calls.{join}
-use Rattle.record.proofs.Refused.{record-passed}
-use Rattle.record.proofs.Accepted.{refused-early, refused-late}
+use Rattle.record.proofs.Answered.{answered-early, answered-late}
 use Rattle.joining.proofs.join_refusal.Goals as goal
 
-pub returns-then-n-ne0 : goal.returns-then-n-ne0
-returns-then-n-ne0 c = λ v. let a = c.args in
-    refused-early a.rec.now (join a.seat a.number v a.contact) c.record_refusal-n.ensures c.if-n-ne0.true
-
-pub join_row-requires : goal.join_row-requires
-join_row-requires c = (record-passed c.args.rec.now c.record_refusal-n.ensures c.if-n-ne0.false).sized
+pub returns-in_err-look : goal.returns-in_err-look
+returns-in_err-look c = λ v. answered-early _ _ _ c.from_residual.result _ c.from_residual.ensures.1 c.in_err-look.ensures.refused
 
 pub returns : goal.returns
-returns c = λ v. let a = c.args in
-    refused-late a.rec.now (join a.seat a.number v a.contact) c.record_refusal-n.ensures c.if-n-ne0.false
-    (c.join_row.ensures v)
+returns c = λ v. answered-late _ _ _ _ c.in_ok-look.ensures.refused (c.join_row.ensures v)

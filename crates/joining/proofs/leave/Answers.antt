@@ -1,32 +1,29 @@
 -- `joining::leave` meets its contract. Assumes nothing.
 use mathlib.Core.Path.{sym, ◌∙◌}
-use native.Mathlib.Omega.{arith}
+use borrow.Author.Rules.{rules}
 use Rattle.protocol.specs.Calls.{leave}
-use Rattle.record.specs.Answer.{number_of}
-use Rattle.record.proofs.Accepted.{Accepted, accepted, outcome-refused, outcome-done}
+use Rattle.record.proofs.Accepted.{Accepted}
+use Rattle.record.proofs.Answered.{answered-size, answered-refused, answered-accepted, answered-done}
 use Rattle.joining.proofs.After.{leave-seat, leave-bytes}
 use Rattle.joining.proofs.leave.Goals as goal
-use Rattle.joining.proofs.leave.Goals.{Else-n-ne0}
+use Rattle.joining.proofs.leave.Goals.{In_ok-leave_refusal}
 
-pub returns-then-n-ne0 : goal.returns-then-n-ne0
-returns-then-n-ne0 c =
-    let a = c.args in
-    let e = outcome-refused a.rec.now (leave a.seat) _ c.leave_refusal-n.ensures c.if-n-ne0.true c.answer_of.ensures.0 in
-    (e, c.answer_of.ensures.1)
+pub returns-in_default : goal.returns-in_default
+returns-in_default c = answered-size _ _ c.in_default.ensures.cases
 
-may-leave : (c : Else-n-ne0) → let a = c.args in Accepted a.rec.now (leave a.seat)
-may-leave c =
-    let a = c.args in
-    accepted a.rec.now (leave a.seat) (λ i. omega (arith, c.slice_known-1.given i)) (sym c.leave_refusal-n.ensures ∙ c.if-n-ne0.false)
+pub returns-in_err-leave_refusal : goal.returns-in_err-leave_refusal
+returns-in_err-leave_refusal c =
+    rw (← c.in-Some.ensures.cases.same) (answered-refused _ _ _ c.from_residual.result _ c.from_residual.ensures.1 c.in_err-leave_refusal.ensures)
+
+may-leave : (c : In_ok-leave_refusal) → Accepted c.in-Some.rec.now (leave c.args.seat)
+may-leave c = answered-accepted _ _ _ (λ i. search rules) c.in_ok-leave_refusal.ensures
 
 pub set_state-requires : goal.set_state-requires
-set_state-requires c = let t = may-leave (goal.at.set_state-requires c).Else-n-ne0 in (t.form.sized, leave-seat t)
+set_state-requires c = leave-seat (may-leave (goal.at.set_state-requires c).In_ok-leave_refusal)
 
 -- the state is written,
 -- and nothing else
 pub returns : goal.returns
-unfolding number_of
 returns c =
-    let a = c.args in
-    let z = sym c.leave_refusal-n.ensures ∙ c.if-n-ne0.false in
-    (outcome-done a.rec.now (leave a.seat) z (c.set_state.ensures ∙ sym (leave-bytes (may-leave (goal.at.returns c).Else-n-ne0))), tt)
+    let t = may-leave (goal.at.returns c).In_ok-leave_refusal in
+    rw (← c.in-Some.ensures.cases.same) (answered-done _ _ _ tt c.in_ok-leave_refusal.ensures (c.set_state.ensures ∙ sym (leave-bytes t)))

@@ -1,32 +1,28 @@
 -- `reserving::reserve` meets its contract. Assumes nothing.
 use mathlib.Core.Path.{sym, ◌∙◌}
-use native.Mathlib.Omega.{arith}
+use borrow.Author.Rules.{rules}
 use Rattle.protocol.specs.Calls.{reserve}
-use Rattle.record.specs.Answer.{number_of}
-use Rattle.record.proofs.Accepted.{Accepted, accepted, outcome-refused, outcome-done}
+use Rattle.record.proofs.Accepted.{Accepted}
+use Rattle.record.proofs.Answered.{answered-size, answered-refused, answered-accepted, answered-done}
 use Rattle.reserving.proofs.After.{reserve-seat, reserve-bytes}
 use Rattle.reserving.proofs.reserve.Goals as goal
-use Rattle.reserving.proofs.reserve.Goals.{Else-n-ne0}
+use Rattle.reserving.proofs.reserve.Goals.{In_ok-reserve_refusal}
 
-pub returns-then-n-ne0 : goal.returns-then-n-ne0
-returns-then-n-ne0 c =
-    let a = c.args in
-    let call = reserve a.seat a.number a.vector in
-    let e = outcome-refused a.rec.now call _ (c.reserve_refusal-n.ensures a.vector) c.if-n-ne0.true c.answer_of.ensures.0 in
-    (e, c.answer_of.ensures.1)
+pub returns-in_default : goal.returns-in_default
+returns-in_default c = answered-size _ _ c.in_default.ensures.cases
 
-may-reserve : (c : Else-n-ne0) → let a = c.args in Accepted a.rec.now (reserve a.seat a.number a.vector)
-may-reserve c =
-    let a = c.args in
-    accepted a.rec.now (reserve a.seat a.number a.vector) (λ i. omega (arith, c.slice_known-1.given i))
-    (sym (c.reserve_refusal-n.ensures a.vector) ∙ c.if-n-ne0.false)
+pub returns-in_err-reserve_refusal : goal.returns-in_err-reserve_refusal
+returns-in_err-reserve_refusal c =
+    let e = c.in_err-reserve_refusal.ensures c.args.vector in
+    rw (← c.in-Some.ensures.cases.same) (answered-refused _ _ _ c.from_residual.result _ c.from_residual.ensures.1 e)
+
+may-reserve : (c : In_ok-reserve_refusal) → let a = c.args in Accepted c.in-Some.rec.now (reserve a.seat a.number a.vector)
+may-reserve c = answered-accepted _ _ _ (λ i. search rules) (c.in_ok-reserve_refusal.ensures c.args.vector)
 
 pub fill-requires : goal.fill-requires
-fill-requires c = let t = may-reserve (goal.at.fill-requires c).Else-n-ne0 in (t.form.sized, reserve-seat t)
+fill-requires c = reserve-seat (may-reserve (goal.at.fill-requires c).In_ok-reserve_refusal)
 
 pub returns : goal.returns
-unfolding number_of
 returns c =
-    let a = c.args in
-    let z = sym (c.reserve_refusal-n.ensures a.vector) ∙ c.if-n-ne0.false in
-    (outcome-done a.rec.now (reserve a.seat a.number a.vector) z (c.fill.ensures ∙ sym (reserve-bytes (may-reserve (goal.at.returns c).Else-n-ne0))), tt)
+    let t = may-reserve (goal.at.returns c).In_ok-reserve_refusal in
+    rw (← c.in-Some.ensures.cases.same) (answered-done _ _ _ tt (c.in_ok-reserve_refusal.ensures c.args.vector) (c.fill.ensures ∙ sym (reserve-bytes t)))
