@@ -109,7 +109,7 @@ module _ (l x : List ℕ) (fine : record_refusal l ≡ 0) (b : AreBytes l) {w : 
           (delivered l (name_of m) fine (rw (named-name m) is-pending)
           (ap (λ (o : Indexed). o.bytes) out-here
           ∙ carried-bytes (name_of m).to (rule width (meaning y) m) (indexed y z)
-          ∙ deliver-bytes form sound (name_of m) m (named-name m) (true-T is-pending) taken)).0
+          ∙ deliver-bytes form sound (name_of m) m (named-name m) (true-T is-pending) taken))
 
       rule-here : rule width (meaning y) m ≡ rule width (meaning l) m
       rule-here = ap (λ (a : List ℕ). rule width (meaning a) m) taken ∙ same-rule form sound (name_of m) m (named-name m) (true-T is-pending)

@@ -13,7 +13,15 @@ use Rattle.graph.specs.Vector.{width}
 use Rattle.protocol.specs.Message.{name_of}
 use Rattle.protocol.specs.Order.{smallest}
 use Rattle.protocol.specs.Calls.{deliver}
-use Rattle.record.specs.Layout.{seats}
+use Rattle.std.specs.Prelude.{Result, Ok, Err}
+use Rattle.std.specs.Result.{IsErrAnd}
+use Rattle.record.specs.Layout.{seats, size}
+use Rattle.record.specs.Answer.{refusal_number, number_of}
+use Rattle.record.specs.declared.refusals.Refusal.{Refusal}
+use Rattle.record.specs.declared.refusals.Refusal.TheVariants.{WrongSize}
+use Rattle.record.proofs.Determined.{refusal_number-positive}
+use Rattle.record.proofs.Refused.{wrong_size_lem}
+use Rattle.bundle.specs.Answer.{bundle_outcome}
 use Rattle.record.specs.Meaning.{meaning}
 use Rattle.record.specs.Reading.{record_refusal}
 use Rattle.record.specs.Call.{called}
@@ -87,8 +95,18 @@ module _ {l₀ : List ℕ} {limit : ℕ} {l x : List ℕ} {reach n : ℕ} (g : G
       next : bundled l (limit - n) ≡ record { refused = 0; delivered = suc to-do.delivered; after = to-do.after }
       next = let z : limit - n ≡ suc (limit - (n + 1)) = omega arith in rw z (bundle-step l g.fine (limit - (n + 1)) d.message d.least)
 
--- the record is refused
-pub refuse-bundle : (l : List ℕ) (limit k : ℕ) → k ≡ record_refusal l → k ≢ 0
-    → (record { refused = k; delivered = 0; after = l } ≡ bundled l limit) × (0 < k)
-refuse-bundle l limit zero e h = absurd (h refl)
-refuse-bundle l limit (suc k) e h = (sym (bundle-same l limit k (refused-number l limit ∙ sym e)), omega arith)
+-- the record is refused, with a number other than 0
+refuse-bundle : (l : List ℕ) (limit k : ℕ) → k ≡ record_refusal l → 0 < k → record { refused = k; delivered = 0; after = l } ≡ bundled l limit
+refuse-bundle l limit zero e h = absurd (omega arith)
+refuse-bundle l limit (suc k) e h = sym (bundle-same l limit k (refused-number l limit ∙ sym e))
+
+-- by a refusal that is handed on
+pub refused-bundle : (l : List ℕ) (limit : ℕ) {B : Type 0} (a : Result ℕ Refusal) (r : Refusal) {b : Result B Refusal} → b ≡ Err r
+    → number_of b ≡ record_refusal l → IsErrAnd a (λ q. q ≡ r) → bundle_outcome a l ≡ bundled l limit
+unfolding number_of
+refused-bundle l limit (Ok n) r w e h = absurd h
+refused-bundle l limit (Err q) r w e h = refuse-bundle l limit (refusal_number q) (ap refusal_number h ∙ (rw w at e)) (refusal_number-positive q)
+
+-- the bytes have another size
+pub unsized-bundle : (l : List ℕ) (limit : ℕ) → length l ≢ size → bundle_outcome (Err WrongSize) l ≡ bundled l limit
+unsized-bundle l limit h = refuse-bundle l limit (refusal_number WrongSize) (wrong_size_lem l h) (refusal_number-positive WrongSize)

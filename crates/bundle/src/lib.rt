@@ -10,31 +10,26 @@ ghost use Rattle.protocol.specs.Message.{name_of};
 ghost use Rattle.protocol.specs.Numbering.{message_at};
 ghost use Rattle.protocol.specs.Order.{smallest};
 ghost use Rattle.protocol.specs.pages.Deliver.{rule};
-ghost use Rattle.record.specs.Layout.{seats, messages, size};
+ghost use Rattle.record.specs.Layout.{seats, messages};
 ghost use Rattle.record.specs.Meaning.{meaning};
 ghost use Rattle.record.specs.Reading.{record_refusal};
 ghost use Rattle.record.specs.Bundle.{bundled};
 ghost use Rattle.index.specs.inner.Index.{words, is_noted};
 ghost use Rattle.rules.specs.inner.Done.{indexed, carried};
-ghost use Rattle.bundle.specs.Answer.{bundle_outcome, BundleNumbered};
+ghost use Rattle.bundle.specs.Answer.{bundle_outcome};
 ghost use Rattle.bundle.specs.inner.Steps.{first_word, Tracks, IsStruck, IsReady, IsDelivered};
 
+use graph::Side;
 use index::{Index, WORD};
 use messages::{FOUNDS, GOINGS, NONES, PROBES, PULLS, SEEKS, first_pending};
-use record::{LEVELS, MESSAGES, PENDING, SEATS, WIDTH};
+use record::refusals::Refusal;
+use record::{LEVELS, PENDING, Record, SEATS, WIDTH};
 use rules::{found, going, meet, none, probe, pull, seek};
 use soundness::look;
 
-// The answer of a bundle: how many messages were delivered.
-#[derive(Drop)]
-pub enum Bundled {
-    Delivered(u16),
-    Refused(u8),
-}
-
 // Does the rule of the message at place i: its kind by the block that holds i, its numbers by the digits of its place there.
-fn carry_out(rec: &mut [u8], index: &mut Index, i: usize)
-    requires { (length rec.old ≡ size) × (i < messages) }
+fn carry_out(rec: &mut Record, index: &mut Index, i: usize)
+    requires { i < messages }
     ensures { let m = message_at seats width i in indexed rec.new index.new
         ≡ carried (name_of m).to (rule width (meaning rec.old) m) (indexed rec.old index.old) }
 {
@@ -51,12 +46,12 @@ fn carry_out(rec: &mut [u8], index: &mut Index, i: usize)
         let j = i - PULLS;
         let level = j / 2;
         let bit = level / WIDTH;
-        return pull(rec, index, bit / 2, bit % 2, level % WIDTH, j % 2);
+        return pull(rec, index, bit / 2, bit % 2, level % WIDTH, Side::of_number(j % 2));
     }
     if i < SEEKS {
         let j = i - GOINGS;
         let level = j / 2;
-        return going(rec, index, level / LEVELS, level % LEVELS, j % 2);
+        return going(rec, index, level / LEVELS, level % LEVELS, Side::of_number(j % 2));
     }
     if i < FOUNDS {
         let j = i - SEEKS;
@@ -70,7 +65,7 @@ fn carry_out(rec: &mut [u8], index: &mut Index, i: usize)
     }
     let j = i - NONES;
     let level = j / 2;
-    none(rec, level / LEVELS, level % LEVELS, j % 2);
+    none(rec, level / LEVELS, level % LEVELS, Side::of_number(j % 2));
 }
 
 // Strikes word w out of the index if its last message is taken.
@@ -84,7 +79,7 @@ fn strike_last(index: &mut Index, w: usize, last: bool)
 }
 
 // Delivers the smallest message: the first of word w, which is the first that has one.
-fn deliver_first(rec: &mut [u8], index: &mut Index, w: usize)
+fn deliver_first(rec: &mut Record, index: &mut Index, w: usize)
     requires { (record_refusal rec.old ≡ 0) × IsReady rec.old index.old w }
     ensures { IsDelivered rec.old index.old rec.new index.new }
 {
@@ -95,8 +90,8 @@ fn deliver_first(rec: &mut [u8], index: &mut Index, w: usize)
 
 // The first word that has a pending message, if there is one. Up to `reach` all words that have one are noted; the next one is sought there, and
 // noted, only if none of these is left.
-fn next_word(rec: &[u8], index: &mut Index, reach: &mut usize) -> Option<usize>
-    requires { (length rec.now ≡ size) × Tracks rec.now index.old reach.old }
+fn next_word(rec: &Record, index: &mut Index, reach: &mut usize) -> Option<usize>
+    requires { Tracks rec.now index.old reach.old }
     ensures { MatchOption result (smallest seats width (meaning rec.now).pending ≡ none)
         (λ w. Tracks rec.now index.new reach.new × IsReady rec.now index.new w) }
 {
@@ -104,17 +99,14 @@ fn next_word(rec: &[u8], index: &mut Index, reach: &mut usize) -> Option<usize>
     if noted.is_some_and(|w| w < *reach) {
         return noted;
     }
-    let i = first_pending(rec, *reach * WORD);
-    if i == MESSAGES {
-        return None;
-    }
+    let i = first_pending(rec, *reach * WORD)?;
     index.note(i);
     *reach = i / WORD + 1;
     Some(i / WORD)
 }
 
 // Delivers the smallest message until none is pending or the limit is reached, and counts. No word below `from` has a pending message.
-fn deliver_smallest(rec: &mut [u8], limit: u16, from: usize) -> u16
+fn deliver_smallest(rec: &mut Record, limit: u16, from: usize) -> u16
     requires { (record_refusal rec.old ≡ 0) × (from ≤ first_word rec.old) }
     ensures { record { refused = 0; delivered = result; after = rec.new } ≡ bundled rec.old limit }
 {
@@ -131,15 +123,14 @@ fn deliver_smallest(rec: &mut [u8], limit: u16, from: usize) -> u16
 
 // Delivers the smallest pending message by its five numbers, again and again, until none is pending or the limit is reached, and says how many it
 // delivered. Limit 0 changes nothing. Refused: 1 wrong size, 2 unsound.
-pub fn bundle(rec: &mut [u8], limit: u16) -> Bundled
-    ensures { (bundle_outcome result rec.new ≡ bundled rec.old limit) × BundleNumbered result }
+pub fn bundle(rec: &mut [u8], limit: u16) -> Result<u16, Refusal>
+    ensures { bundle_outcome result rec.new ≡ bundled rec.old limit }
 {
-    let seen = look(rec);
-    if seen.refused != 0 {
-        return Bundled::Refused(seen.refused);
+    let Some(rec) = rec.as_mut_array() else {
+        return Err(Refusal::WrongSize);
+    };
+    match look(rec)? {
+        Some(first) => Ok(deliver_smallest(rec, limit, first / WORD)),
+        None => Ok(0),
     }
-    if seen.first == MESSAGES {
-        return Bundled::Delivered(0);
-    }
-    Bundled::Delivered(deliver_smallest(rec, limit, seen.first / WORD))
 }

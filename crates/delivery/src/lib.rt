@@ -40,8 +40,8 @@ fn take_named(rec: &mut Record, m: Message) -> Result<(), Refusal>
     }
 }
 
-// The kinds, each on a record that is not refused: the message with that kind and the other four numbers of m is taken away, and its rule is done; or it
-// is refused. What a rule notes in an index is not used here.
+// The kinds, a small handler for each as document 01 asks, on a record that is not refused: the message with that kind and the other four
+// numbers of m is taken away, and its rule is done; or it is refused. What a rule notes in an index is not used here.
 fn deliver_meet(rec: &mut Record, m: Message) -> Result<(), Refusal>
     requires { record_refusal rec.old ≡ 0 }
     ensures { outcome result rec.new ≡ called rec.old (delivering (name 1 m.to m.about m.level m.side)) }

@@ -1,20 +1,27 @@
 -- `bundle::bundle` meets its contract. Assumes nothing.
-use mathlib.Core.Path.{sym, ◌∙◌}
+use mathlib.Core.Path.{refl, sym, ◌∙◌}
+use Rattle.record.proofs.Answered.{number-0}
 use Rattle.record.proofs.Bundle.{bundle-done}
 use Rattle.bundle.proofs.Ready.{first-place, quiet_none}
-use Rattle.bundle.proofs.Going.{refuse-bundle}
+use Rattle.bundle.proofs.Going.{refused-bundle, unsized-bundle}
 use Rattle.bundle.proofs.bundle.Goals as goal
 
-pub returns-then-seen-ne0 : goal.returns-then-seen-ne0
-returns-then-seen-ne0 c =
-    refuse-bundle c.args.rec.now c.args.limit _ c.look-seen.ensures.refused c.if-seen-ne0.true
+pub returns-in_default : goal.returns-in_default
+returns-in_default c = unsized-bundle _ _ c.in_default.ensures.cases
 
-pub returns-then-seen-eq-MESSAGES : goal.returns-then-seen-eq-MESSAGES
-returns-then-seen-eq-MESSAGES c =
-    let l = c.args.rec.now in
-    let q = quiet_none l (c.look-seen.ensures.first c.if-seen-ne0.false) c.if-seen-eq-MESSAGES.true in
-    (sym (bundle-done l c.args.limit (sym c.look-seen.ensures.refused ∙ c.if-seen-ne0.false) q), tt)
+pub returns-in_err-first : goal.returns-in_err-first
+returns-in_err-first c =
+    rw (← c.in-Some.ensures.cases.same)
+    (refused-bundle _ _ c.from_residual.result _ c.in_err-first.was c.look.ensures.refused c.from_residual.ensures.1)
+
+pub returns-in-None : goal.returns-in-None
+returns-in-None c =
+    let l = c.in-Some.rec.now in
+    let none = rw c.in-None.is at c.in_ok-first.ensures.first in
+    rw (← c.in-Some.ensures.cases.same)
+    (sym (bundle-done l c.args.limit (number-0 _ c.in_ok-first.ensures.refused) (quiet_none l (sym none) refl)))
 
 pub deliver_smallest-requires : goal.deliver_smallest-requires
 deliver_smallest-requires c =
-    (sym c.look-seen.ensures.refused ∙ c.if-seen-ne0.false, first-place _ (c.look-seen.ensures.first c.if-seen-ne0.false))
+    let place = rw c.in-Some-2.is at c.in_ok-first.ensures.first in
+    (number-0 _ c.in_ok-first.ensures.refused, first-place _ place.0)

@@ -16,11 +16,11 @@ returns-then-i-lt-PULLS c =
 
 pub returns-then-i-lt-GOINGS : goal.returns-then-i-lt-GOINGS
 returns-then-i-lt-GOINGS c =
-    rw (at_place (pull-at c.if-i-lt-PULLS.false c.if-i-lt-GOINGS.true)) c.pull.ensures
+    rw (at_place (pull-at c.if-i-lt-PULLS.false c.if-i-lt-GOINGS.true)) (rw c.of_number.ensures at c.pull.ensures)
 
 pub returns-then-i-lt-SEEKS : goal.returns-then-i-lt-SEEKS
 returns-then-i-lt-SEEKS c =
-    rw (at_place (going-at c.if-i-lt-GOINGS.false c.if-i-lt-SEEKS.true)) c.going.ensures
+    rw (at_place (going-at c.if-i-lt-GOINGS.false c.if-i-lt-SEEKS.true)) (rw c.of_number-then-i-lt-SEEKS.ensures at c.going.ensures)
 
 pub returns-then-i-lt-FOUNDS : goal.returns-then-i-lt-FOUNDS
 returns-then-i-lt-FOUNDS c =
@@ -34,4 +34,4 @@ returns-then-i-lt-NONES c =
 pub returns : goal.returns
 unfolding rule effect
 returns c =
-    rw (at_place (none-at c.if-i-lt-NONES.false c.requires.1)) (carried-silent _ _ _ _ refl c.none.ensures)
+    rw (at_place (none-at c.if-i-lt-NONES.false c.requires)) (carried-silent _ _ _ _ refl (rw c.of_number-2.ensures at c.none.ensures))

@@ -18,10 +18,7 @@ overflow_add-w c =
     omega (arith, place-within c.args.rec.now c.args.index.now c.requires.0 (search rules) c.requires.1 c.clear_first-cleared.ensures.bit)
 
 pub carry_out-requires : goal.carry_out-requires
-carry_out-requires c = (
-  c.clear_first-cleared.auto.rec ∙ sized c.args.rec.now c.requires.0,
-  place-within c.args.rec.now c.args.index.now c.requires.0 (search rules) c.requires.1 c.clear_first-cleared.ensures.bit,
-)
+carry_out-requires c = place-within c.args.rec.now c.args.index.now c.requires.0 (search rules) c.requires.1 c.clear_first-cleared.ensures.bit
 
 pub returns : goal.returns
 returns c =

@@ -2,19 +2,19 @@
 -- nothing.
 use mathlib.Core.Path.{refl}
 use native.Mathlib.Omega.{arith}
+use borrow.Author.Rules.{rules}
 use Rattle.memory.proofs.Zeros.{replicate-zero}
-use Rattle.delivery.proofs.Steps.{sized}
 use Rattle.index.specs.inner.Index.{parts}
 use Rattle.bundle.proofs.Going.{going-first, going-none, going-limit, going_on}
 use Rattle.bundle.proofs.deliver_smallest.Goals as goal
 
 pub loop-n-init : goal.loop-n-init
 loop-n-init c =
-    going-first c.args.rec.now c.args.limit c.requires.0 (λ j. omega (arith, c.type_inv.rec j))
+    going-first c.args.rec.now c.args.limit c.requires.0 (λ j. search rules)
     (rw c.new-index.ensures (λ i. replicate-zero parts i)) (rw c.new-index.ensures refl) c.requires.1
 
 pub next_word-requires : goal.next_word-requires
-next_word-requires c = let g = c.loop-n.invariant in (sized c.loop-n.rec g.fine.passed, g.tracks)
+next_word-requires c = c.loop-n.invariant.tracks
 
 pub returns-in_default : goal.returns-in_default
 returns-in_default c = going-none c.loop-n.invariant c.in_default.ensures

@@ -1,24 +1,21 @@
 -- `bundle::next_word` meets its contract. Assumes nothing.
-use Prim.Native.Nat.{◌<◌}
-use native.Mathlib.Omega.{arith}
+use mathlib.Core.Path.{◌≡◌, refl, sym}
 use borrow.Author.Rules.{rules}
-use Rattle.record.specs.Layout.{messages}
 use Rattle.bundle.proofs.Ready.{noted-ready, none-below, none_left, extended, found-ready}
 use Rattle.bundle.proofs.next_word.Goals as goal
 
 pub returns-then-is_some_and : goal.returns-then-is_some_and
-returns-then-is_some_and c = noted-ready _ c.requires.1 _ c.first-noted.ensures (search rules) c.if-is_some_and.true
+returns-then-is_some_and c = noted-ready _ c.requires _ c.first-noted.ensures (search rules) c.if-is_some_and.true
 
-pub returns-then-i-eq-MESSAGES : goal.returns-then-i-eq-MESSAGES
-returns-then-i-eq-MESSAGES c =
-    let k = c.requires.1 in
-    none_left k (none-below _ k.within _ c.first-noted.ensures (search rules) c.if-is_some_and.false) c.first_pending-i.ensures.0
-    c.if-i-eq-MESSAGES.true
+pub returns-in_err-i : goal.returns-in_err-i
+returns-in_err-i c =
+    let k = c.requires in
+    let none = none-below _ k.within _ c.first-noted.ensures (search rules) c.if-is_some_and.false in
+    rw c.from_residual.ensures (none_left k none (sym c.in_err-i.ensures) refl)
 
 pub returns : goal.returns
 returns c =
-    let k = c.requires.1 in
+    let k = c.requires in
     let none = none-below _ k.within _ c.first-noted.ensures (search rules) c.if-is_some_and.false in
-    let e = c.first_pending-i.ensures.0 in
-    let h : c.first_pending-i.result < messages = omega (arith, c.first_pending-i.ensures.1, c.if-i-eq-MESSAGES.false) in
+    let (e, h) = c.in_ok-i.ensures in
     rw c.note.ensures (extended k none e h, found-ready k none e h)
