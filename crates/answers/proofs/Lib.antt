@@ -1,2 +1,3 @@
 -- Why answers are put as the definitions say.
 pub mod Parts
+pub mod Words

@@ -1,12 +1,16 @@
 -- `next_first` meets its contract: before each turn, of the seats passed. Assumes nothing.
-use Prim.Native.Nat.{◌≤◌}
-use mathlib.Core.Path.{◌≡◌}
+use Rattle.std.proofs.Common.{◌≡◌, ◌<◌}
+use Rattle.std.specs.Option.{ForSome}
 use Rattle.graph.specs.Vector.{width}
 use Rattle.record.specs.Layout.{seats}
-use Rattle.record.specs.Meaning.{link_of, meaning}
+use Rattle.record.specs.Meaning.{meaning}
 use Rattle.check_links.specs.Check.{members_in}
 use Rattle.listing.specs.Lists.{next_first}
+use Rattle.answers.specs.inner.Seat.{seat_of}
 use Rattle.answers.proofs.lists.next_first.Given as goal
 
 abbrev pub invariant-loop-s : goal.invariant-loop-s
-invariant-loop-s l = (l.s ≤ seats) × (link_of l.best ≡ next_first width (members_in l.rec) (meaning l.rec).link l.s l.k (link_of l.last))
+invariant-loop-s l = record {
+  seat : ForSome l.best (λ y. y < seats);
+  first : seat_of l.best ≡ next_first width (members_in l.rec) (meaning l.rec).link l.s l.k (seat_of l.last);
+}
