@@ -1,6 +1,6 @@
 // The lists of a record as text (line P). The lists of a level are found by the lots with which they begin: after each the one of the smallest bits
 // above its own, or of the same bits and a larger first number.
-#![tactic(auto, using(crate::proofs::Parts::lots), unfolding(listing::specs::Lists::begins, listing::specs::Lists::comes_before, listing::specs::Lists::comes_after, listing::specs::Lists::earlier, listing::specs::Lists::first_of))]
+#![tactic(auto, using(crate::proofs::Parts::lots), unfolding(listing::specs::Lists::begins, listing::specs::Lists::comes_before, listing::specs::Lists::comes_after, listing::specs::Lists::earlier, listing::specs::Lists::first_of, listing::specs::Text::list_text, listing::specs::Text::lists_text, listing::specs::Text::level_text))]
 
 ghost use Rattle.std.specs.Prelude.{◌≡◌, ◌++◌, map, ◌<◌, length};
 ghost use Rattle.std.specs.Option.{ForSome};

@@ -1,7 +1,7 @@
 -- A text after a text is the two as one. Assumes nothing.
 use Prim.Native.Nat.{ℕ, ◌+◌}
 use mathlib.Core.Path.{◌≡◌, refl, sym}
-use mathlib.Core.List.{List, [], ◌++◌}
+use mathlib.Core.List.{List, [], ◌∷◌, ◌++◌}
 use Rattle.text.specs.inner.Put.{Put}
 use Rattle.text.specs.inner.Written.{bytes_after, place_after}
 use Rattle.std.proofs.Common.{min, max, length}
@@ -28,6 +28,15 @@ bytes-append o n t u = sym (put_then (put_after o n t) (put_after (bytes_after o
 pub place-append : (o : List ℕ) (n : ℕ) (t u : List ℕ) → place_after o n (t ++ u) ≡ place_after (bytes_after o n t) (place_after o n t) u
 unfolding bytes_after place_after
 place-append o n t u = sym (put_then (put_after o n t) (put_after (bytes_after o n t) (place_after o n t) u)).next
+
+-- a byte, and then the others
+pub bytes-cons : (o : List ℕ) (n b : ℕ) (t : List ℕ)
+    → bytes_after o n (b ∷ t) ≡ bytes_after (bytes_after o n (b ∷ [])) (place_after o n (b ∷ [])) t
+bytes-cons o n b t = bytes-append o n (b ∷ []) t
+
+pub place-cons : (o : List ℕ) (n b : ℕ) (t : List ℕ)
+    → place_after o n (b ∷ t) ≡ place_after (bytes_after o n (b ∷ [])) (place_after o n (b ∷ [])) t
+place-cons o n b t = place-append o n (b ∷ []) t
 
 -- as `Put` says it
 pub sets_is : (o : List ℕ) (n : ℕ) (t : List ℕ) → sets o n t ≡ bytes_after o n t

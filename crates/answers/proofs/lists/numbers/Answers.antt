@@ -1,0 +1,26 @@
+-- `numbers` meets its contract: before each turn the numbers that are left. Assumes nothing.
+use Rattle.std.proofs.Common.{arith, ◌≡◌, ◌-◌}
+use Rattle.record.specs.Layout.{seats}
+use Rattle.record.specs.Meaning.{seats_in, meaning, link_of}
+use Rattle.listing.proofs.Steps.{numbers-zero, numbers-none}
+use Rattle.answers.proofs.Parts.{lots}
+use Rattle.answers.proofs.Turns.{numbers-turn}
+use Rattle.answers.proofs.lists.numbers.Goals as goal
+
+pub loop-preserved : goal.loop-preserved
+loop-preserved c =
+    let l = c.args.rec.now in
+    let e = numbers-turn seats c.loop.counter (omega arith) (seats_in l).number (meaning l).link c.args.k c.loop.seat in
+    record { turns = omega arith; left = grind (arith, lots) }
+
+pub returns-after-loop : goal.returns-after-loop
+returns-after-loop c =
+    let l = c.args.rec.now in
+    let e = numbers-zero (seats_in l).number (meaning l).link c.args.k (link_of c.loop.seat) in
+    grind (arith, lots)
+
+pub returns-then-seat-ge-SEATS : goal.returns-then-seat-ge-SEATS
+returns-then-seat-ge-SEATS c =
+    let l = c.args.rec.now in
+    let e = numbers-none (seats_in l).number (meaning l).link c.args.k (seats - c.loop.counter) in
+    grind (arith, lots)

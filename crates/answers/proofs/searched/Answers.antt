@@ -1,0 +1,5 @@
+use Rattle.std.proofs.Common.{arith, rules}
+use Rattle.answers.proofs.searched.Goals as goal
+
+pub returns : goal.returns
+returns c = ?
