@@ -3,13 +3,14 @@
 #![tactic(auto, using(crate::proofs::Words::parts_of_text), unfolding(program::specs::Text::bad_text, program::specs::Text::refused_text, program::specs::Text::hops_text, program::specs::Text::holder_text, program::specs::Text::phase_text, program::specs::Text::counts_text))]
 
 ghost use Rattle.std.proofs.Math.Option.{none, some};
-ghost use Rattle.std.specs.Prelude.{◌≡◌, ◌++◌};
+ghost use Rattle.std.specs.Prelude.{◌≡◌, ◌≤◌, ◌++◌, length};
 ghost use Rattle.record.specs.Answer.{number_of, Numbered};
 ghost use Rattle.find.specs.Answer.{found_numbers, FoundNumbered};
 ghost use Rattle.text.specs.inner.Written.{written};
 ghost use Rattle.program.specs.Text.{bad_text, refused_text, done_text, holder_text, hops_text, found_text};
 ghost use Rattle.program.specs.Text.{phase_text, counts_text};
 ghost use Rattle.program.specs.Print.{print_text};
+ghost use Rattle.program.specs.inner.Room.{room};
 ghost use Rattle.answers.specs.inner.Whole.{Whole};
 
 mod lists;
@@ -36,7 +37,8 @@ pub fn bad(out: &mut [u8]) -> usize
 
 // `no N`
 fn refused(n: u8, w: &mut Writer<'_>)
-    ensures { w.new ≡ written w.old (refused_text n) }
+    ensures text { w.new ≡ written w.old (refused_text n) }
+    ensures fits { length (refused_text n) ≤ room }
 {
     w.bytes(b"no ");
     w.decimal(n as u64);
@@ -67,7 +69,8 @@ fn hops(h: u64, w: &mut Writer<'_>)
 
 // `holder S hops H`
 fn holder(seat: u8, h: u64, w: &mut Writer<'_>)
-    ensures { w.new ≡ written w.old (holder_text (some seat) ++ hops_text h) }
+    ensures text { w.new ≡ written w.old (holder_text (some seat) ++ hops_text h) }
+    ensures fits { length (holder_text (some seat) ++ hops_text h) ≤ room }
 {
     w.bytes(b"holder ");
     w.decimal(seat as u64);
@@ -76,7 +79,8 @@ fn holder(seat: u8, h: u64, w: &mut Writer<'_>)
 
 // `none hops H`
 fn nobody(h: u64, w: &mut Writer<'_>)
-    ensures { w.new ≡ written w.old (holder_text none ++ hops_text h) }
+    ensures text { w.new ≡ written w.old (holder_text none ++ hops_text h) }
+    ensures fits { length (holder_text none ++ hops_text h) ≤ room }
 {
     w.bytes(b"none");
     hops(h, w);

@@ -2,7 +2,7 @@
 use Rattle.std.proofs.Common.{arith, subst}
 use Rattle.record.specs.Answer.{number_of, Numbered}
 use Rattle.program.specs.Text.{done_text}
-use Rattle.program.proofs.Long.{ok-length, refused-length}
+use Rattle.program.proofs.Long.{ok-length}
 use Rattle.program.proofs.Texts.{done_refused}
 use Rattle.answers.proofs.Words.{parts_of_text}
 use Rattle.answers.proofs.changed.Goals as goal
@@ -14,6 +14,5 @@ returns c = elim c.match-answer.branch [
     in-Done w ↦ rw w.in-Done.is (record { put = grind (arith, parts_of_text); fits = ok-length })
   | in-Refused w ↦
     let e = w.in-Refused.is in
-    let r = w.in-Refused in
-    rw (e, done_refused _ (subst Numbered e c.requires)) (record { put = grind (arith, parts_of_text); fits = ? })
+    rw (e, done_refused _ (subst Numbered e c.requires)) (record { put = grind (arith, parts_of_text); fits = w.refused.ensures.fits })
   ]
