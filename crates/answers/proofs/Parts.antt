@@ -10,7 +10,7 @@ use Rattle.record.proofs.SeatBytes.{number-bytes, vector-bytes}
 use Rattle.record.proofs.Links.{link_of-some, link_of-none}
 use Rattle.check_links.specs.Check.{members_in}
 use Rattle.listing.specs.Lists.{shared_bits}
-use Rattle.answers.proofs.Words.{parts_of_text}
+use Rattle.answers.proofs.Words.{words}
 use Rattle.answers.proofs.Turns.{turns}
 
 pub bits-read : (l : List ℕ) (k s : ℕ) → s < seats → shared_bits width (members_in l) k s ≡ number_at l (vector_from s) vector_size / 2 ^ (width - k)
@@ -18,4 +18,4 @@ unfolding shared_bits
 bits-read l k s h = rw (vector-bytes l s h)
 
 -- for the check
-pub ruleset lots = (parts_of_text, turns, bits-read, number-bytes, vector-bytes, link_of-some, link_of-none)
+pub ruleset lots = (words, turns, bits-read, number-bytes, vector-bytes, link_of-some, link_of-none)

@@ -13,7 +13,7 @@ use Rattle.command.specs.Ascii.{ascii}
 use Rattle.command.specs.Text.{shown}
 use Rattle.listing.specs.Lists.{first_of, next_first}
 use Rattle.listing.specs.Text.{text_below, list_text}
-use Rattle.listing.proofs.Steps.{next_more, lists_after, lists-more, numbers_from, numbers_more, digits_from, digits_more}
+use Rattle.listing.proofs.Steps.{next-none, next_more, lists_after, lists-more, numbers_from, numbers_more, digits_from, digits_more}
 
 pub next-turn : (W : ℕ) (G : Lots) (L : Links) (n k : ℕ) (a : Option ℕ) → next_first W G L (n + 1) k a ≡ first_of W G L k a n (next_first W G L n k a)
 next-turn W G L n k a = rw add-one (next_more W G L k n a)
@@ -40,4 +40,4 @@ module _ (m i : ℕ) (h : i < m) where
   digits-turn W v = let n : m - i ≡ suc (m - (i + 1)) = omega arith in rw n (digits_more W v (m - (i + 1)) i)
 
 -- for the check
-pub ruleset turns = (next-turn, below-none, below_turn)
+pub ruleset turns = (next-none, next-turn, below-none, below_turn)

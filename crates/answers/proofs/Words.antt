@@ -14,4 +14,4 @@ ascii-codes empty = refl
 ascii-codes (c then s) = ap (λ (t : List ℕ). code c ∷ t) (ascii-codes s)
 
 -- for the check: text after text, and words
-pub ruleset parts_of_text = (texts, ascii-codes)
+pub ruleset words = (texts, ascii-codes)

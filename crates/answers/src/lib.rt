@@ -1,6 +1,17 @@
 // The text of an answer of `lots`, put over the start of a lent buffer; nothing here reads or writes anything else. Each public function gives the
 // position after its text. A buffer of ROOM bytes has room for every answer.
-#![tactic(auto, using(crate::proofs::Words::parts_of_text), unfolding(program::specs::Text::bad_text, program::specs::Text::refused_text, program::specs::Text::hops_text, program::specs::Text::holder_text, program::specs::Text::phase_text, program::specs::Text::counts_text))]
+#![tactic(
+    auto,
+    using(crate::proofs::Words::words),
+    unfolding(
+        program::specs::Text::bad_text,
+        program::specs::Text::refused_text,
+        program::specs::Text::hops_text,
+        program::specs::Text::holder_text,
+        program::specs::Text::phase_text,
+        program::specs::Text::counts_text
+    )
+)]
 
 ghost use Rattle.std.proofs.Math.Option.{none, some};
 ghost use Rattle.std.specs.Prelude.{◌≡◌, ◌≤◌, ◌++◌, length};
@@ -41,7 +52,7 @@ fn refused(n: u8, w: &mut Writer<'_>)
     ensures fits { length (refused_text n) ≤ room }
 {
     w.bytes(b"no ");
-    w.decimal(n as u64);
+    w.decimal(u64::from(n));
     w.bytes(b"\n");
 }
 
@@ -73,7 +84,7 @@ fn holder(seat: u8, h: u64, w: &mut Writer<'_>)
     ensures fits { length (holder_text (some seat) ++ hops_text h) ≤ room }
 {
     w.bytes(b"holder ");
-    w.decimal(seat as u64);
+    w.decimal(u64::from(seat));
     hops(h, w);
 }
 
@@ -112,11 +123,11 @@ fn counts(lots: u8, phase: u8, pending: u32, w: &mut Writer<'_>)
     ensures { w.new ≡ written w.old (counts_text (record { refused = 0; lots = lots; phase = phase; pending = pending })) }
 {
     w.bytes(b"lots ");
-    w.decimal(lots as u64);
+    w.decimal(u64::from(lots));
     w.bytes(b" phase ");
     phase_name(phase, w);
     w.bytes(b" pending ");
-    w.decimal(pending as u64);
+    w.decimal(u64::from(pending));
     w.bytes(b"\n");
 }
 

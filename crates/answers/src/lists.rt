@@ -1,6 +1,18 @@
 // The lists of a record as text (line P). The lists of a level are found by the lots with which they begin: after each the one of the smallest bits
 // above its own, or of the same bits and a larger first number.
-#![tactic(auto, using(crate::proofs::Parts::lots), unfolding(listing::specs::Lists::begins, listing::specs::Lists::comes_before, listing::specs::Lists::comes_after, listing::specs::Lists::earlier, listing::specs::Lists::first_of, listing::specs::Text::list_text, listing::specs::Text::lists_text, listing::specs::Text::level_text))]
+#![tactic(
+    auto,
+    using(crate::proofs::Parts::lots),
+    unfolding(
+        listing::specs::Lists::begins,
+        listing::specs::Lists::comes_before,
+        listing::specs::Lists::comes_after,
+        listing::specs::Lists::earlier,
+        listing::specs::Lists::first_of,
+        listing::specs::Text::list_text,
+        listing::specs::Text::lists_text
+    )
+)]
 
 ghost use Rattle.std.specs.Prelude.{◌≡◌, ◌++◌, map, ◌<◌, length};
 ghost use Rattle.std.specs.Option.{ForSome};
@@ -26,7 +38,7 @@ fn shared_bits(rec: &[u8], s: usize, k: usize) -> usize
     requires { (length rec.now ≡ size) × (s < seats) × (k < levels) }
     ensures { let l = rec.now in result ≡ shared_bits width (members_in l) k s }
 {
-    (record::vector(rec, s) as usize) >> (WIDTH - k)
+    usize::from(record::vector(rec, s)) >> (WIDTH - k)
 }
 
 // Whether a list of level k begins on seat s and goes on.

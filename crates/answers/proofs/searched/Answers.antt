@@ -2,7 +2,7 @@
 use Rattle.std.proofs.Common.{arith, subst}
 use Rattle.find.specs.Answer.{FoundNumbered}
 use Rattle.program.proofs.Texts.{found-refused, found-hops}
-use Rattle.answers.proofs.Words.{parts_of_text}
+use Rattle.answers.proofs.Words.{words}
 use Rattle.answers.proofs.searched.Goals as goal
 use Rattle.answers.proofs.searched.Goals.{in-Refused, in-Holder, in-Nobody}
 
@@ -10,7 +10,7 @@ pub returns : goal.returns
 returns c = elim c.match-answer.branch [
     in-Refused w ↦
     let e = w.in-Refused.is in
-    rw (e, found-refused _ (subst FoundNumbered e c.requires)) (record { put = grind (arith, parts_of_text); fits = w.refused.ensures.fits })
-  | in-Holder w ↦ rw (w.in-Holder.is, found-hops) (record { put = grind (arith, parts_of_text); fits = w.holder.ensures.fits })
-  | in-Nobody w ↦ rw (w.in-Nobody.is, found-hops) (record { put = grind (arith, parts_of_text); fits = w.nobody.ensures.fits })
+    rw (e, found-refused _ (subst FoundNumbered e c.requires)) (record { put = grind (arith, words); fits = w.refused.ensures.fits })
+  | in-Holder w ↦ rw (w.in-Holder.is, found-hops) (record { put = grind (arith, words); fits = w.holder.ensures.fits })
+  | in-Nobody w ↦ rw (w.in-Nobody.is, found-hops) (record { put = grind (arith, words); fits = w.nobody.ensures.fits })
   ]

@@ -7,7 +7,7 @@ use Rattle.check_links.specs.Check.{members_in}
 use Rattle.listing.specs.Text.{level_text}
 use Rattle.listing.proofs.Steps.{lists-zero, lists-none}
 use Rattle.answers.specs.inner.Seat.{seat_of}
-use Rattle.answers.proofs.Words.{parts_of_text}
+use Rattle.answers.proofs.Words.{words}
 use Rattle.answers.proofs.Turns.{lists-turn}
 use Rattle.answers.proofs.lists.level.Goals as goal
 
@@ -18,14 +18,14 @@ loop-preserved c =
     let h : x < seats = c.next_first.ensures.seat x c.in-Some.is in
     let e = lists-turn seats c.loop.counter (omega arith) seats width (members_in l) (meaning l).link c.args.k (seat_of c.loop.last) x
         (sym c.next_first.ensures.next ∙ rw c.in-Some.is) in
-    record { turns = omega arith; seat = grind (arith, parts_of_text); left = grind (arith, parts_of_text) }
+    record { turns = omega arith; seat = grind (arith, words); left = grind (arith, words) }
 
 pub returns-after-loop : goal.returns-after-loop
 unfolding level_text
 returns-after-loop c =
     let l = c.args.rec.now in
     let e = lists-zero seats width (members_in l) (meaning l).link c.args.k (seat_of c.loop.last) in
-    grind (arith, parts_of_text)
+    grind (arith, words)
 
 pub returns-in_default : goal.returns-in_default
 unfolding level_text
@@ -33,4 +33,4 @@ returns-in_default c =
     let l = c.args.rec.now in
     let e = lists-none seats width (members_in l) (meaning l).link c.args.k (seats - c.loop.counter) (seat_of c.loop.last)
         (sym c.next_first.ensures.next ∙ rw c.in_default.is) in
-    grind (arith, parts_of_text)
+    grind (arith, words)
