@@ -4,8 +4,7 @@ use mathlib.Core.Path.{◌≡◌}
 use mathlib.Core.List.{List}
 use Rattle.graph.specs.Vector.{width}
 use Rattle.memory.specs.Bytes.{number_at}
-use Rattle.record.specs.Layout.{seats, number_from, number_size, vector_from, vector_size}
-use Rattle.record.specs.Meaning.{seats_in}
+use Rattle.record.specs.Layout.{seats, vector_from, vector_size}
 use Rattle.record.proofs.SeatBytes.{number-bytes, vector-bytes}
 use Rattle.record.proofs.Links.{link_of-some, link_of-none}
 use Rattle.check_links.specs.Check.{members_in}

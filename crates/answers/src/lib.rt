@@ -1,17 +1,6 @@
 // The text of an answer of `lots`, put over the start of a lent buffer; nothing here reads or writes anything else. Each public function gives the
 // position after its text. A buffer of ROOM bytes has room for every answer.
-#![tactic(
-    auto,
-    using(crate::proofs::Words::words),
-    unfolding(
-        program::specs::Text::bad_text,
-        program::specs::Text::refused_text,
-        program::specs::Text::hops_text,
-        program::specs::Text::holder_text,
-        program::specs::Text::phase_text,
-        program::specs::Text::counts_text
-    )
-)]
+#![tactic(auto)]
 
 ghost use Rattle.std.proofs.Math.Option.{none, some};
 ghost use Rattle.std.specs.Prelude.{◌≡◌, ◌≤◌, ◌++◌, length};
@@ -38,6 +27,7 @@ const NUMBER: usize = 21;
 pub const ROOM: usize = 64 + record::LEVELS * ((NUMBER + (record::WIDTH + 6)) * record::SEATS);
 
 // A line of another form.
+#[tactic(auto, using(crate::proofs::Words::words), unfolding(program::specs::Text::bad_text))]
 pub fn bad(out: &mut [u8]) -> usize
     ensures { Whole out.old bad_text out.new result }
 {
@@ -47,6 +37,7 @@ pub fn bad(out: &mut [u8]) -> usize
 }
 
 // `no N`
+#[tactic(auto, using(crate::proofs::Words::words), unfolding(program::specs::Text::refused_text))]
 fn refused(n: u8, w: &mut Writer<'_>)
     ensures text { w.new ≡ written w.old (refused_text n) }
     ensures fits { length (refused_text n) ≤ room }
@@ -70,6 +61,7 @@ pub fn changed(answer: Answer, out: &mut [u8]) -> usize
 }
 
 // The hops, after the holder.
+#[tactic(auto, using(crate::proofs::Words::words), unfolding(program::specs::Text::hops_text))]
 fn hops(h: u64, w: &mut Writer<'_>)
     ensures { w.new ≡ written w.old (hops_text h) }
 {
@@ -79,6 +71,7 @@ fn hops(h: u64, w: &mut Writer<'_>)
 }
 
 // `holder S hops H`
+#[tactic(auto, using(crate::proofs::Words::words), unfolding(program::specs::Text::holder_text))]
 fn holder(seat: u8, h: u64, w: &mut Writer<'_>)
     ensures text { w.new ≡ written w.old (holder_text (some seat) ++ hops_text h) }
     ensures fits { length (holder_text (some seat) ++ hops_text h) ≤ room }
@@ -89,6 +82,7 @@ fn holder(seat: u8, h: u64, w: &mut Writer<'_>)
 }
 
 // `none hops H`
+#[tactic(auto, using(crate::proofs::Words::words), unfolding(program::specs::Text::holder_text))]
 fn nobody(h: u64, w: &mut Writer<'_>)
     ensures text { w.new ≡ written w.old (holder_text none ++ hops_text h) }
     ensures fits { length (holder_text none ++ hops_text h) ≤ room }
@@ -112,6 +106,7 @@ pub fn searched(answer: Found, out: &mut [u8]) -> usize
 }
 
 // The phase by its name.
+#[tactic(auto, using(crate::proofs::Words::words), unfolding(program::specs::Text::phase_text))]
 fn phase_name(phase: u8, w: &mut Writer<'_>)
     ensures { w.new ≡ written w.old (phase_text phase) }
 {
@@ -119,6 +114,7 @@ fn phase_name(phase: u8, w: &mut Writer<'_>)
 }
 
 // The first line of P.
+#[tactic(auto, using(crate::proofs::Words::words), unfolding(program::specs::Text::counts_text))]
 fn counts(lots: u8, phase: u8, pending: u32, w: &mut Writer<'_>)
     ensures { w.new ≡ written w.old (counts_text (record { refused = 0; lots = lots; phase = phase; pending = pending })) }
 {

@@ -1,18 +1,6 @@
 // The lists of a record as text (line P). The lists of a level are found by the lots with which they begin: after each the one of the smallest bits
 // above its own, or of the same bits and a larger first number.
-#![tactic(
-    auto,
-    using(crate::proofs::Parts::lots),
-    unfolding(
-        listing::specs::Lists::begins,
-        listing::specs::Lists::comes_before,
-        listing::specs::Lists::comes_after,
-        listing::specs::Lists::earlier,
-        listing::specs::Lists::first_of,
-        listing::specs::Text::list_text,
-        listing::specs::Text::lists_text
-    )
-)]
+#![tactic(auto, using(crate::proofs::Parts::lots))]
 
 ghost use Rattle.std.specs.Prelude.{◌≡◌, ◌++◌, map, ◌<◌, length};
 ghost use Rattle.std.specs.Option.{ForSome};
@@ -42,6 +30,7 @@ fn shared_bits(rec: &[u8], s: usize, k: usize) -> usize
 }
 
 // Whether a list of level k begins on seat s and goes on.
+#[tactic(auto, using(crate::proofs::Parts::lots), unfolding(listing::specs::Lists::begins))]
 fn begins(rec: &[u8], s: usize, k: usize) -> bool
     requires { (length rec.now ≡ size) × (s < seats) × (k < levels) }
     ensures { let l = rec.now in result ≡ begins_at width (members_in l) (meaning l).link k s }
@@ -50,6 +39,7 @@ fn begins(rec: &[u8], s: usize, k: usize) -> bool
 }
 
 // Whether the list of level k that begins on seat x comes before that on seat y.
+#[tactic(auto, using(crate::proofs::Parts::lots), unfolding(listing::specs::Lists::comes_before))]
 fn comes_before(rec: &[u8], k: usize, x: usize, y: usize) -> bool
     requires { (length rec.now ≡ size) × (x < seats) × (y < seats) × (k < levels) }
     ensures { let l = rec.now in result ≡ comes_before width (members_in l) k x y }
@@ -60,6 +50,7 @@ fn comes_before(rec: &[u8], k: usize, x: usize, y: usize) -> bool
 }
 
 // Whether it comes after that on seat `last`, if there is one.
+#[tactic(auto, using(crate::proofs::Parts::lots), unfolding(listing::specs::Lists::comes_after))]
 fn comes_after(rec: &[u8], k: usize, last: Option<usize>, x: usize) -> bool
     requires { (length rec.now ≡ size) × (x < seats) × (k < levels) × ForSome last (λ y. y < seats) }
     ensures { let l = rec.now in result ≡ comes_after width (members_in l) k (seat_of last) x }
@@ -68,6 +59,7 @@ fn comes_after(rec: &[u8], k: usize, last: Option<usize>, x: usize) -> bool
 }
 
 // The seat x, or `best` if there is one and its list comes before.
+#[tactic(auto, using(crate::proofs::Parts::lots), unfolding(listing::specs::Lists::earlier))]
 fn earlier(rec: &[u8], k: usize, x: usize, best: Option<usize>) -> usize
     requires { (length rec.now ≡ size) × (x < seats) × (k < levels) × ForSome best (λ y. y < seats) }
     ensures seat { result < seats }
@@ -80,7 +72,14 @@ fn earlier(rec: &[u8], k: usize, x: usize, best: Option<usize>) -> usize
 }
 
 // The first of the list that begins on seat s, if it comes after that on seat `last`, and the one that was found before it.
-fn first_of(rec: &[u8], k: usize, last: Option<usize>, s: usize, best: Option<usize>) -> Option<usize>
+#[tactic(auto, using(crate::proofs::Parts::lots), unfolding(listing::specs::Lists::first_of))]
+fn first_of(
+    rec: &[u8],
+    k: usize,
+    last: Option<usize>,
+    s: usize,
+    best: Option<usize>,
+) -> Option<usize>
     requires { (length rec.now ≡ size) × (s < seats) × (k < levels) × ForSome last (λ y. y < seats) × ForSome best (λ y. y < seats) }
     ensures seat { ForSome result (λ y. y < seats) }
     ensures first { let l = rec.now in
@@ -137,6 +136,7 @@ fn numbers(rec: &[u8], s: usize, k: usize, w: &mut Writer<'_>)
 }
 
 // The list of level k that begins on seat s: level, bits and numbers.
+#[tactic(auto, using(crate::proofs::Parts::lots), unfolding(listing::specs::Text::list_text))]
 fn list(rec: &[u8], s: usize, k: usize, w: &mut Writer<'_>)
     requires { (length rec.now ≡ size) × (s < seats) × (k < levels) }
     ensures { let l = rec.now in w.new ≡ written w.old (list_text seats width (members_in l) (meaning l).link k s) }
@@ -165,6 +165,7 @@ fn level(rec: &[u8], k: usize, w: &mut Writer<'_>)
 }
 
 // The lists of all levels.
+#[tactic(auto, using(crate::proofs::Parts::lots), unfolding(listing::specs::Text::lists_text))]
 pub fn lists(rec: &[u8], w: &mut Writer<'_>)
     requires { length rec.now ≡ size }
     ensures { let l = rec.now in w.new ≡ written w.old (lists_text seats width (members_in l) (meaning l).link) }

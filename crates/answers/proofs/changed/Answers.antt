@@ -11,8 +11,8 @@ use Rattle.answers.proofs.changed.Goals.{in-Done, in-Refused}
 pub returns : goal.returns
 unfolding done_text number_of
 returns c = elim c.match-answer.branch [
-    in-Done w ↦ rw w.in-Done.is (record { put = grind (arith, words); fits = ok-length })
+  | in-Done w ↦ rw w.in-Done.is (record { put = grind (arith, words); fits = ok-length })
   | in-Refused w ↦
-    let e = w.in-Refused.is in
-    rw (e, done_refused _ (subst Numbered e c.requires)) (record { put = grind (arith, words); fits = w.refused.ensures.fits })
-  ]
+      let e = w.in-Refused.is in
+      rw (e, done_refused _ (subst Numbered e c.requires)) (record { put = grind (arith, words); fits = w.refused.ensures.fits })
+]

@@ -28,21 +28,21 @@ returns c =
     let r = c.read_counts.ensures in
     record {
       put = elim c.match-read_counts.branch [
-        in-Refused w ↦
-        let q = w.in-Refused.is in
-        rw (print-refused l _ (sym r.0 ∙ ap count_numbers q) (subst CountsNumbered q r.1)) (grind (arith, words))
-      | in-Counted+then-pending-eq0+then-links_fit w ↦
-        let e = sym r.0 ∙ ap count_numbers w.in-Counted.is in
-        let p = counts-passed l (ap (λ (a : CountAnswer). a.refused) e) in
-        let y = sym w.links_fit.ensures ∙ w.if-links_fit.true in
-        rw (print-yes l _ e refl w.if-pending-eq0.true y, ← yes-lists l b p y) (grind (arith, words))
-      | in-Counted+else-pending-eq0 w ↦
-        let e = sym r.0 ∙ ap count_numbers w.in-Counted.is in
-        elim w.else-pending-eq0.branch [
-          else-pending-eq0-via-then-pending-eq0+else-links_fit v ↦
-          rw (print-no l _ e refl v.if-pending-eq0.true (sym v.links_fit.ensures ∙ v.if-links_fit.false)) (grind (arith, words))
-        | else-pending-eq0-via-else-pending-eq0 v ↦ rw (print-waits l _ e refl v.if-pending-eq0.false) (grind (arith, words))
-        ]
+        | in-Refused w ↦
+            let q = w.in-Refused.is in
+            rw (print-refused l _ (sym r.0 ∙ ap count_numbers q) (subst CountsNumbered q r.1)) (grind (arith, words))
+        | in-Counted+then-pending-eq0+then-links_fit w ↦
+            let e = sym r.0 ∙ ap count_numbers w.in-Counted.is in
+            let p = counts-passed l (ap (λ (a : CountAnswer). a.refused) e) in
+            let y = sym w.links_fit.ensures ∙ w.if-links_fit.true in
+            rw (print-yes l _ e refl w.if-pending-eq0.true y, ← yes-lists l b p y) (grind (arith, words))
+        | in-Counted+else-pending-eq0 w ↦
+            let e = sym r.0 ∙ ap count_numbers w.in-Counted.is in
+            elim w.else-pending-eq0.branch [
+              | else-pending-eq0-via-then-pending-eq0+else-links_fit v ↦
+                  rw (print-no l _ e refl v.if-pending-eq0.true (sym v.links_fit.ensures ∙ v.if-links_fit.false)) (grind (arith, words))
+              | else-pending-eq0-via-else-pending-eq0 v ↦ rw (print-waits l _ e refl v.if-pending-eq0.false) (grind (arith, words))
+            ]
       ];
       fits = print-length l b;
     }

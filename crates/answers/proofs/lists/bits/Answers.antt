@@ -20,6 +20,6 @@ pub returns : goal.returns
 returns c =
     let e = digits-zero width c.args.vector c.loop-j.j in
     elim c.if-k-eq0.branch [
-      then-k-eq0 w ↦ let z : c.args.k ≡ 0 = w.if-k-eq0.true in rw (z, bits_none) (grind (arith, words))
-    | else-k-eq0 w ↦ let h : 0 < c.args.k = omega (arith, w.if-k-eq0.false) in rw (bits-all width c.args.k c.args.vector h) (grind (arith, words))
+      | then-k-eq0 w ↦ let z : c.args.k ≡ 0 = w.if-k-eq0.true in rw (z, bits_none) (grind (arith, words))
+      | else-k-eq0 w ↦ let h : 0 < c.args.k = omega (arith, w.if-k-eq0.false) in rw (bits-all width c.args.k c.args.vector h) (grind (arith, words))
     ]

@@ -1,5 +1,5 @@
 -- `level` meets its contract: before each turn the lists that are left. Assumes nothing.
-use Rattle.std.proofs.Common.{arith, ◌≡◌, ◌-◌, ◌<◌, sym, ◌∙◌}
+use Rattle.std.proofs.Common.{arith, ◌-◌, ◌<◌, sym, ◌∙◌}
 use Rattle.graph.specs.Vector.{width}
 use Rattle.record.specs.Layout.{seats}
 use Rattle.record.specs.Meaning.{meaning}
@@ -17,7 +17,7 @@ loop-preserved c =
     let x = c.in-Some.first in
     let h : x < seats = c.next_first.ensures.seat x c.in-Some.is in
     let e = lists-turn seats c.loop.counter (omega arith) seats width (members_in l) (meaning l).link c.args.k (seat_of c.loop.last) x
-        (sym c.next_first.ensures.next ∙ rw c.in-Some.is) in
+    (sym c.next_first.ensures.next ∙ rw c.in-Some.is) in
     record { turns = omega arith; seat = grind (arith, words); left = grind (arith, words) }
 
 pub returns-after-loop : goal.returns-after-loop
@@ -32,5 +32,5 @@ unfolding level_text
 returns-in_default c =
     let l = c.args.rec.now in
     let e = lists-none seats width (members_in l) (meaning l).link c.args.k (seats - c.loop.counter) (seat_of c.loop.last)
-        (sym c.next_first.ensures.next ∙ rw c.in_default.is) in
+    (sym c.next_first.ensures.next ∙ rw c.in_default.is) in
     grind (arith, words)

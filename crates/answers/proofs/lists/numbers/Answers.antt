@@ -1,5 +1,5 @@
 -- `numbers` meets its contract: before each turn the numbers that are left. Assumes nothing.
-use Rattle.std.proofs.Common.{arith, ◌≡◌, ◌-◌}
+use Rattle.std.proofs.Common.{arith, ◌-◌}
 use Rattle.record.specs.Layout.{seats}
 use Rattle.record.specs.Meaning.{seats_in, meaning, link_of}
 use Rattle.listing.proofs.Steps.{numbers-zero, numbers-none}
