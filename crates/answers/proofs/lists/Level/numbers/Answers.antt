@@ -5,22 +5,22 @@ use Rattle.record.specs.Meaning.{seats_in, meaning, link_of}
 use Rattle.listing.proofs.Steps.{numbers-zero, numbers-none}
 use Rattle.answers.proofs.Parts.{lots}
 use Rattle.answers.proofs.Turns.{numbers-turn}
-use Rattle.answers.proofs.lists.numbers.Goals as goal
+use Rattle.answers.proofs.lists.Level.numbers.Goals as goal
 
 pub loop-preserved : goal.loop-preserved
 loop-preserved c =
-    let l = c.args.rec.now in
-    let e = numbers-turn seats c.loop.counter (omega arith) (seats_in l).number (meaning l).link c.args.k c.loop.seat in
+    let l = c.args.self.now.rec.now in
+    let e = numbers-turn seats c.loop.counter (omega arith) (seats_in l).number (meaning l).link c.args.self.now.k c.loop.seat in
     record { turns = omega arith; left = grind (arith, lots) }
 
 pub returns-after-loop : goal.returns-after-loop
 returns-after-loop c =
-    let l = c.args.rec.now in
-    let e = numbers-zero (seats_in l).number (meaning l).link c.args.k (link_of c.loop.seat) in
+    let l = c.args.self.now.rec.now in
+    let e = numbers-zero (seats_in l).number (meaning l).link c.args.self.now.k (link_of c.loop.seat) in
     grind (arith, lots)
 
 pub returns-then-seat-ge-SEATS : goal.returns-then-seat-ge-SEATS
 returns-then-seat-ge-SEATS c =
-    let l = c.args.rec.now in
-    let e = numbers-none (seats_in l).number (meaning l).link c.args.k (seats - c.loop.counter) in
+    let l = c.args.self.now.rec.now in
+    let e = numbers-none (seats_in l).number (meaning l).link c.args.self.now.k (seats - c.loop.counter) in
     grind (arith, lots)

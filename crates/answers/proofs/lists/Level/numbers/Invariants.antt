@@ -5,11 +5,11 @@ use Rattle.record.specs.Layout.{seats}
 use Rattle.record.specs.Meaning.{seats_in, link_of, meaning}
 use Rattle.listing.proofs.Steps.{numbers_from}
 use Rattle.text.specs.inner.Written.{written}
-use Rattle.answers.proofs.lists.numbers.Given as goal
+use Rattle.answers.proofs.lists.Level.numbers.Given as goal
 
 abbrev pub invariant-loop : goal.invariant-loop
 invariant-loop l = record {
   turns : l.counter ≤ seats;
-  left : written l.initial.w (numbers_from (seats_in l.rec).number (meaning l.rec).link l.k seats (some l.s))
-      ≡ written l.w (numbers_from (seats_in l.rec).number (meaning l.rec).link l.k (seats - l.counter) (link_of l.seat));
+  left : written l.initial.w (numbers_from (seats_in l.self.rec.now).number (meaning l.self.rec.now).link l.self.k seats (some l.s))
+      ≡ written l.w (numbers_from (seats_in l.self.rec.now).number (meaning l.self.rec.now).link l.self.k (seats - l.counter) (link_of l.seat));
 }

@@ -9,12 +9,12 @@ use Rattle.check_links.specs.Check.{members_in}
 use Rattle.listing.proofs.Steps.{lists_after}
 use Rattle.text.specs.inner.Written.{written}
 use Rattle.answers.specs.inner.Seat.{seat_of}
-use Rattle.answers.proofs.lists.level.Given as goal
+use Rattle.answers.proofs.lists.Level.lists.Given as goal
 
 abbrev pub invariant-loop : goal.invariant-loop
 invariant-loop l = record {
   turns : l.counter ≤ seats;
   seat : ForSome l.last (λ y. y < seats);
-  left : written l.initial.w (lists_after seats width (members_in l.rec) (meaning l.rec).link l.k seats none)
-      ≡ written l.w (lists_after seats width (members_in l.rec) (meaning l.rec).link l.k (seats - l.counter) (seat_of l.last));
+  left : written l.initial.w (lists_after seats width (members_in l.self.rec.now) (meaning l.self.rec.now).link l.self.k seats none)
+      ≡ written l.w (lists_after seats width (members_in l.self.rec.now) (meaning l.self.rec.now).link l.self.k (seats - l.counter) (seat_of l.last));
 }
