@@ -5,9 +5,10 @@
 ghost use Rattle.std.specs.Prelude.{◌≡◌, ◌++◌, map, ◌<◌, length};
 ghost use Rattle.std.specs.Option.{ForSome};
 ghost use Rattle.std.proofs.Math.Option.{some};
+ghost use Rattle.graph.specs.Side.{side_of_number};
 ghost use Rattle.graph.specs.Vector.{width};
 ghost use Rattle.record.specs.Layout.{seats, levels, size};
-ghost use Rattle.record.specs.Meaning.{seats_in, meaning, link_of};
+ghost use Rattle.record.specs.Meaning.{seats_in, meaning};
 ghost use Rattle.command.specs.Text.{shown, spaced};
 ghost use Rattle.check_links.specs.Check.{members_in};
 ghost use Rattle.listing.specs.Lists.{begins as begins_at, right_from, shared_bits, comes_before, comes_after};
@@ -39,6 +40,17 @@ impl Level<'_> {
         usize::from(record::vector(self.rec, s)) >> (WIDTH - self.k)
     }
 
+    // The neighbour of seat s on side d, if there is one.
+    #[tactic(auto, using(crate::proofs::Parts::lots), unfolding(record::specs::Meaning::link_of))]
+    fn neighbour(&self, s: usize, d: usize) -> Option<usize>
+        requires { (s < seats) × (d < 2) }
+        ensures seat { ForSome result (λ y. y < seats) }
+        ensures link { let l = self.now.rec.now in seat_of result ≡ (meaning l).link s self.now.k (side_of_number d) }
+    {
+        let seat = link(self.rec, s, self.k, d);
+        (seat < SEATS).then_some(seat)
+    }
+
     // Whether a list begins on seat s and goes on.
     #[tactic(auto, using(crate::proofs::Parts::lots), unfolding(listing::specs::Lists::begins))]
     fn begins(&self, s: usize) -> bool
@@ -46,8 +58,8 @@ impl Level<'_> {
         ensures { let l = self.now.rec.now in result ≡ begins_at width (members_in l) (meaning l).link self.now.k s }
     {
         is_member(self.rec, s)
-            && link(self.rec, s, self.k, LEFT) >= SEATS
-            && link(self.rec, s, self.k, RIGHT) < SEATS
+            && self.neighbour(s, LEFT).is_none()
+            && self.neighbour(s, RIGHT).is_some()
     }
 
     // Whether the list that begins on seat x comes before that on seat y.
@@ -67,6 +79,7 @@ impl Level<'_> {
         requires { (x < seats) × ForSome last (λ y. y < seats) }
         ensures { let l = self.now.rec.now in result ≡ comes_after width (members_in l) self.now.k (seat_of last) x }
     {
+        // a `match`: what `is_none_or` answers by a method was not proved
         match last {
             Some(last) => self.comes_before(last, x),
             None => true,
@@ -108,6 +121,7 @@ impl Level<'_> {
         ensures next { let l = self.now.rec.now in
             seat_of result ≡ next_first width (members_in l) (meaning l).link seats self.now.k (seat_of last) }
     {
+        // a loop: that `reduce` may call its closure at every item was not proved
         let mut best = None;
         for s in 0..SEATS {
             best = self.first_of(last, s, best);
@@ -121,14 +135,15 @@ impl Level<'_> {
         ensures { let l = self.now.rec.now in w.new ≡ written w.old
             (spaced (map (λ z. shown ((seats_in l).number z)) (right_from (meaning l).link seats self.now.k (some s)))) }
     {
-        let mut seat = s;
+        // SEATS turns at most: the links of any bytes may lead round
+        let mut next = Some(s);
         for _ in 0..SEATS {
-            if seat >= SEATS {
+            let Some(seat) = next else {
                 break;
-            }
+            };
             w.bytes(b" ");
             w.decimal(record::number(self.rec, seat));
-            seat = link(self.rec, seat, self.k, RIGHT);
+            next = self.neighbour(seat, RIGHT);
         }
     }
 

@@ -50,7 +50,7 @@ impl<'a> Writer<'a> {
         }
     }
 
-    // A number in decimal.
+    // A number in decimal. By hand: the library's printing promises its text on `Ok` alone, and here nothing can fail.
     pub fn decimal(&mut self, x: u64)
         ensures { self.new ≡ written self.old (shown x) }
     {

@@ -8,7 +8,8 @@ use Rattle.program.proofs.Long.{print-length}
 use Rattle.program.proofs.Printed.{print-refused, print-waits, print-no, print-yes, yes-lists}
 use Rattle.answers.proofs.Words.{words}
 use Rattle.answers.proofs.print.Goals as goal
-use Rattle.answers.proofs.print.Goals.{in-Refused, in-Counted+then-pending-eq0+then-links_fit, in-Counted+else-pending-eq0, else-pending-eq0-via-then-pending-eq0+else-links_fit, else-pending-eq0-via-else-pending-eq0}
+use Rattle.answers.proofs.print.Goals.{in-Refused, in-Counted+then-pending-eq0+then-links_fit, in-Counted+else-pending-eq0}
+use Rattle.answers.proofs.print.Goals.{else-pending-eq0-via-then-pending-eq0+else-links_fit, else-pending-eq0-via-else-pending-eq0}
 
 pub links_fit-requires : goal.links_fit-requires
 links_fit-requires c =
