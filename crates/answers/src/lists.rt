@@ -15,7 +15,7 @@ ghost use Rattle.listing.specs.Lists.{begins as begins_at, right_from, shared_bi
 ghost use Rattle.listing.specs.Lists.{earlier as earlier_of, first_of, next_first};
 ghost use Rattle.listing.specs.Text.{bits_text, list_text, level_text, lists_text};
 ghost use Rattle.text.specs.inner.Written.{written};
-ghost use Rattle.answers.specs.inner.Seat.{seat_of};
+ghost use Rattle.answers.specs.inner.Seat.{as_link};
 
 use graph::{LEFT, RIGHT};
 use record::lots::{is_member, link};
@@ -45,7 +45,7 @@ impl Level<'_> {
     fn neighbour(&self, s: usize, d: usize) -> Option<usize>
         requires { (s < seats) × (d < 2) }
         ensures seat { ForSome result (λ y. y < seats) }
-        ensures link { let l = self.now.rec.now in seat_of result ≡ (meaning l).link s self.now.k (side_of_number d) }
+        ensures link { let l = self.now.rec.now in as_link result ≡ (meaning l).link s self.now.k (side_of_number d) }
     {
         let seat = link(self.rec, s, self.k, d);
         (seat < SEATS).then_some(seat)
@@ -77,7 +77,7 @@ impl Level<'_> {
     #[tactic(auto, using(crate::proofs::Parts::lots), unfolding(listing::specs::Lists::comes_after))]
     fn comes_after(&self, last: Option<usize>, x: usize) -> bool
         requires { (x < seats) × ForSome last (λ y. y < seats) }
-        ensures { let l = self.now.rec.now in result ≡ comes_after width (members_in l) self.now.k (seat_of last) x }
+        ensures { let l = self.now.rec.now in result ≡ comes_after width (members_in l) self.now.k (as_link last) x }
     {
         // a `match`: what `is_none_or` answers by a method was not proved
         match last {
@@ -91,7 +91,7 @@ impl Level<'_> {
     fn earlier(&self, x: usize, best: Option<usize>) -> usize
         requires { (x < seats) × ForSome best (λ y. y < seats) }
         ensures seat { result < seats }
-        ensures earlier { let l = self.now.rec.now in some result ≡ earlier_of width (members_in l) self.now.k x (seat_of best) }
+        ensures earlier { let l = self.now.rec.now in some result ≡ earlier_of width (members_in l) self.now.k x (as_link best) }
     {
         match best {
             Some(best) if !self.comes_before(x, best) => best,
@@ -105,7 +105,7 @@ impl Level<'_> {
         requires { (s < seats) × ForSome last (λ y. y < seats) × ForSome best (λ y. y < seats) }
         ensures seat { ForSome result (λ y. y < seats) }
         ensures first { let l = self.now.rec.now in
-            seat_of result ≡ first_of width (members_in l) (meaning l).link self.now.k (seat_of last) s (seat_of best) }
+            as_link result ≡ first_of width (members_in l) (meaning l).link self.now.k (as_link last) s (as_link best) }
     {
         if self.begins(s) && self.comes_after(last, s) {
             Some(self.earlier(s, best))
@@ -119,7 +119,7 @@ impl Level<'_> {
         requires { ForSome last (λ y. y < seats) }
         ensures seat { ForSome result (λ y. y < seats) }
         ensures next { let l = self.now.rec.now in
-            seat_of result ≡ next_first width (members_in l) (meaning l).link seats self.now.k (seat_of last) }
+            as_link result ≡ next_first width (members_in l) (meaning l).link seats self.now.k (as_link last) }
     {
         // a loop: that `reduce` may call its closure at every item was not proved
         let mut best = None;

@@ -1,7 +1,7 @@
--- A seat of the code, or none, as one of the definitions. Assumes nothing.
+-- A seat of the code, or none, as a link of the definitions. Assumes nothing.
 use Rattle.std.specs.Prelude.{ℕ, Option as RustOption, Some, None}
 use Rattle.std.proofs.Math.Option.{Option, none, some}
 
-abbrev pub seat_of : RustOption ℕ → Option ℕ
-seat_of None = none
-seat_of (Some x) = some x
+abbrev pub as_link : RustOption ℕ → Option ℕ
+as_link None = none
+as_link (Some x) = some x

@@ -1,3 +1,4 @@
+-- `decimal` puts the digits of a number: all but the last, and then the last. Assumes nothing.
 use Rattle.std.proofs.Common.{arith}
 use Rattle.command.proofs.Decimal.{shown-digit, shown-more}
 use Rattle.text.proofs.Written.{texts}

@@ -8,7 +8,7 @@ use Rattle.record.specs.Meaning.{meaning}
 use Rattle.check_links.specs.Check.{members_in}
 use Rattle.listing.proofs.Steps.{lists_after}
 use Rattle.text.specs.inner.Written.{written}
-use Rattle.answers.specs.inner.Seat.{seat_of}
+use Rattle.answers.specs.inner.Seat.{as_link}
 use Rattle.answers.proofs.lists.Level.lists.Given as goal
 
 abbrev pub invariant-loop : goal.invariant-loop
@@ -16,5 +16,5 @@ invariant-loop l = record {
   turns : l.counter ≤ seats;
   seat : ForSome l.last (λ y. y < seats);
   left : written l.initial.w (lists_after seats width (members_in l.self.rec.now) (meaning l.self.rec.now).link l.self.k seats none)
-      ≡ written l.w (lists_after seats width (members_in l.self.rec.now) (meaning l.self.rec.now).link l.self.k (seats - l.counter) (seat_of l.last));
+      ≡ written l.w (lists_after seats width (members_in l.self.rec.now) (meaning l.self.rec.now).link l.self.k (seats - l.counter) (as_link l.last));
 }

@@ -3,7 +3,7 @@ use Rattle.std.proofs.Common.{arith, ◌-◌, ◌<◌}
 use Rattle.record.specs.Layout.{seats}
 use Rattle.record.specs.Meaning.{seats_in, meaning}
 use Rattle.listing.proofs.Steps.{numbers-zero, numbers-none}
-use Rattle.answers.specs.inner.Seat.{seat_of}
+use Rattle.answers.specs.inner.Seat.{as_link}
 use Rattle.answers.proofs.Parts.{lots}
 use Rattle.answers.proofs.Turns.{numbers-turn}
 use Rattle.answers.proofs.lists.Level.numbers.Goals as goal
@@ -19,7 +19,7 @@ loop-preserved c =
 pub returns-after-loop : goal.returns-after-loop
 returns-after-loop c =
     let l = c.args.self.now.rec.now in
-    let e = numbers-zero (seats_in l).number (meaning l).link c.args.self.now.k (seat_of c.loop.next) in
+    let e = numbers-zero (seats_in l).number (meaning l).link c.args.self.now.k (as_link c.loop.next) in
     grind (arith, lots)
 
 pub returns-in_default : goal.returns-in_default
