@@ -1,2 +1,4 @@
 -- Why answers are put as the definitions say.
 pub mod Parts
+pub mod Words
+pub mod Turns

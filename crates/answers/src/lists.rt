@@ -1,192 +1,201 @@
 // The lists of a record as text (line P). The lists of a level are found by the lots with which they begin: after each the one of the smallest bits
-// above its own, or of the same bits and a larger first number. Each function that takes a position n of the lent buffer puts its text there and
-// gives the position after it.
-ghost use Rattle.std.specs.Prelude.{◌≡◌, ◌∷◌, ◌++◌, map, ◌<◌, ◌-◌, length};
+// above its own, or of the same bits and a larger first number.
+#![tactic(auto, using(crate::proofs::Parts::lots))]
+
+ghost use Rattle.std.specs.Prelude.{◌≡◌, ◌++◌, map, ◌<◌, length};
+ghost use Rattle.std.specs.Option.{ForSome};
 ghost use Rattle.std.proofs.Math.Option.{some};
+ghost use Rattle.graph.specs.Side.{side_of_number};
 ghost use Rattle.graph.specs.Vector.{width};
 ghost use Rattle.record.specs.Layout.{seats, levels, size};
-ghost use Rattle.record.specs.Meaning.{seats_in, meaning, link_of};
+ghost use Rattle.record.specs.Meaning.{seats_in, meaning};
 ghost use Rattle.command.specs.Text.{shown, spaced};
 ghost use Rattle.check_links.specs.Check.{members_in};
-ghost use Rattle.listing.specs.Lists.{begins as beginsAt, right_from, shared_bits, comes_before, comes_after};
-ghost use Rattle.listing.specs.Lists.{earlier as earlierOf, first_of, next_first};
+ghost use Rattle.listing.specs.Lists.{begins as begins_at, right_from, shared_bits, comes_before, comes_after};
+ghost use Rattle.listing.specs.Lists.{earlier as earlier_of, first_of, next_first};
 ghost use Rattle.listing.specs.Text.{bits_text, list_text, level_text, lists_text};
-ghost use Rattle.text.specs.inner.Put.{Put};
+ghost use Rattle.text.specs.inner.Written.{written};
+ghost use Rattle.answers.specs.inner.Seat.{as_link};
 
 use graph::{LEFT, RIGHT};
 use record::lots::{is_member, link};
 use record::{LEVELS, SEATS, WIDTH};
+use text::Writer;
 
-const SPACE: u8 = b' ';
-
-const NEWLINE: u8 = b'\n';
-
-const ZERO: u8 = b'0';
-
-// The first k bits of the vector on seat s, as a number.
-fn shared_bits(rec: &[u8], s: usize, k: usize) -> usize
-    requires { (length rec.now ≡ size) × (s < seats) × (k < levels) }
-    ensures { let l = rec.now in result ≡ shared_bits width (members_in l) k s }
-{
-    (record::vector(rec, s) as usize) >> (WIDTH - k)
+// A level of a record.
+#[derive(Clone, Copy)]
+struct Level<'a> {
+    rec: &'a [u8],
+    k: usize,
+    ghost sized: { length rec.now ≡ size },
+    ghost level: { k < levels },
 }
 
-// Whether a list of level k begins on seat s and goes on.
-fn begins(rec: &[u8], s: usize, k: usize) -> bool
-    requires { (length rec.now ≡ size) × (s < seats) × (k < levels) }
-    ensures { let l = rec.now in result ≡ beginsAt width (members_in l) (meaning l).link k s }
-{
-    if !is_member(rec, s) {
-        return false;
+impl Level<'_> {
+    // The first k bits of the vector on seat s, as a number.
+    fn shared_bits(&self, s: usize) -> usize
+        requires { s < seats }
+        ensures { let l = self.now.rec.now in result ≡ shared_bits width (members_in l) self.now.k s }
+    {
+        usize::from(record::vector(self.rec, s)) >> (WIDTH - self.k)
     }
-    if link(rec, s, k, LEFT) < SEATS {
-        return false;
-    }
-    link(rec, s, k, RIGHT) < SEATS
-}
 
-// Whether the list of level k that begins on seat x comes before that on seat y.
-fn comes_before(rec: &[u8], k: usize, x: usize, y: usize) -> bool
-    requires { (length rec.now ≡ size) × (x < seats) × (y < seats) × (k < levels) }
-    ensures { let l = rec.now in result ≡ comes_before width (members_in l) k x y }
-{
-    let a = shared_bits(rec, x, k);
-    let b = shared_bits(rec, y, k);
-    if a != b {
-        return a < b;
+    // The neighbour of seat s on side d, if there is one.
+    #[tactic(auto, using(crate::proofs::Parts::lots), unfolding(record::specs::Meaning::link_of))]
+    fn neighbour(&self, s: usize, d: usize) -> Option<usize>
+        requires { (s < seats) × (d < 2) }
+        ensures seat { ForSome result (λ y. y < seats) }
+        ensures link { let l = self.now.rec.now in as_link result ≡ (meaning l).link s self.now.k (side_of_number d) }
+    {
+        let seat = link(self.rec, s, self.k, d);
+        (seat < SEATS).then_some(seat)
     }
-    record::number(rec, x) < record::number(rec, y)
-}
 
-// Whether it comes after that on seat `last`, if that is one.
-fn comes_after(rec: &[u8], k: usize, last: usize, x: usize) -> bool
-    requires { (length rec.now ≡ size) × (x < seats) × (k < levels) }
-    ensures { let l = rec.now in result ≡ comes_after width (members_in l) k (link_of last) x }
-{
-    if last >= SEATS {
-        return true;
+    // Whether a list begins on seat s and goes on.
+    #[tactic(auto, using(crate::proofs::Parts::lots), unfolding(listing::specs::Lists::begins))]
+    fn begins(&self, s: usize) -> bool
+        requires { s < seats }
+        ensures { let l = self.now.rec.now in result ≡ begins_at width (members_in l) (meaning l).link self.now.k s }
+    {
+        is_member(self.rec, s)
+            && self.neighbour(s, LEFT).is_none()
+            && self.neighbour(s, RIGHT).is_some()
     }
-    comes_before(rec, k, last, x)
-}
 
-// The seat x, or `best` if that is one and its list comes before.
-fn earlier(rec: &[u8], k: usize, x: usize, best: usize) -> usize
-    requires { (length rec.now ≡ size) × (x < seats) × (k < levels) }
-    ensures { let l = rec.now in
-        link_of result ≡ earlierOf width (members_in l) k x (link_of best) }
-{
-    if best >= SEATS {
-        return x;
+    // Whether the list that begins on seat x comes before that on seat y.
+    #[tactic(auto, using(crate::proofs::Parts::lots), unfolding(listing::specs::Lists::comes_before))]
+    fn comes_before(&self, x: usize, y: usize) -> bool
+        requires { (x < seats) × (y < seats) }
+        ensures { let l = self.now.rec.now in result ≡ comes_before width (members_in l) self.now.k x y }
+    {
+        let a = self.shared_bits(x);
+        let b = self.shared_bits(y);
+        a < b || (a == b && record::number(self.rec, x) < record::number(self.rec, y))
     }
-    if comes_before(rec, k, x, best) {
-        return x;
-    }
-    best
-}
 
-// The first of the list that begins on seat s, if it comes after that on seat `last`, and the one that was found before it.
-fn first_of(rec: &[u8], k: usize, last: usize, s: usize, best: usize) -> usize
-    requires { (length rec.now ≡ size) × (s < seats) × (k < levels) }
-    ensures { let l = rec.now in
-        link_of result ≡ first_of width (members_in l) (meaning l).link k (link_of last) s (link_of best) }
-{
-    if !begins(rec, s, k) {
-        return best;
+    // Whether it comes after that on seat `last`, if there is one.
+    #[tactic(auto, using(crate::proofs::Parts::lots), unfolding(listing::specs::Lists::comes_after))]
+    fn comes_after(&self, last: Option<usize>, x: usize) -> bool
+        requires { (x < seats) × ForSome last (λ y. y < seats) }
+        ensures { let l = self.now.rec.now in result ≡ comes_after width (members_in l) self.now.k (as_link last) x }
+    {
+        // a `match`: what `is_none_or` answers by a method was not proved
+        match last {
+            Some(last) => self.comes_before(last, x),
+            None => true,
+        }
     }
-    if !comes_after(rec, k, last, s) {
-        return best;
-    }
-    earlier(rec, k, s, best)
-}
 
-// The seat on which the first list of level k after that on seat `last` begins; SEATS if there is none.
-fn next_first(rec: &[u8], k: usize, last: usize) -> usize
-    requires { (length rec.now ≡ size) × (k < levels) }
-    ensures { let l = rec.now in link_of result ≡ next_first width (members_in l) (meaning l).link seats k (link_of last) }
-{
-    let mut best = SEATS;
-    for s in 0..SEATS {
-        best = first_of(rec, k, last, s, best);
+    // The seat x, or `best` if there is one and its list comes before.
+    #[tactic(auto, using(crate::proofs::Parts::lots), unfolding(listing::specs::Lists::earlier))]
+    fn earlier(&self, x: usize, best: Option<usize>) -> usize
+        requires { (x < seats) × ForSome best (λ y. y < seats) }
+        ensures seat { result < seats }
+        ensures earlier { let l = self.now.rec.now in some result ≡ earlier_of width (members_in l) self.now.k x (as_link best) }
+    {
+        match best {
+            Some(best) if !self.comes_before(x, best) => best,
+            _ => x,
+        }
     }
-    best
+
+    // The first of the list that begins on seat s, if it comes after that on seat `last`, and the one that was found before it.
+    #[tactic(auto, using(crate::proofs::Parts::lots), unfolding(listing::specs::Lists::first_of))]
+    fn first_of(&self, last: Option<usize>, s: usize, best: Option<usize>) -> Option<usize>
+        requires { (s < seats) × ForSome last (λ y. y < seats) × ForSome best (λ y. y < seats) }
+        ensures seat { ForSome result (λ y. y < seats) }
+        ensures first { let l = self.now.rec.now in
+            as_link result ≡ first_of width (members_in l) (meaning l).link self.now.k (as_link last) s (as_link best) }
+    {
+        if self.begins(s) && self.comes_after(last, s) {
+            Some(self.earlier(s, best))
+        } else {
+            best
+        }
+    }
+
+    // The seat on which the first list after that on seat `last` begins, if there is one.
+    fn next_first(&self, last: Option<usize>) -> Option<usize>
+        requires { ForSome last (λ y. y < seats) }
+        ensures seat { ForSome result (λ y. y < seats) }
+        ensures next { let l = self.now.rec.now in
+            as_link result ≡ next_first width (members_in l) (meaning l).link seats self.now.k (as_link last) }
+    {
+        // a loop: that `reduce` may call its closure at every item was not proved
+        let mut best = None;
+        for s in 0..SEATS {
+            best = self.first_of(last, s, best);
+        }
+        best
+    }
+
+    // The numbers from seat s on, with a space before each.
+    fn numbers(&self, s: usize, w: &mut Writer<'_>)
+        requires { s < seats }
+        ensures { let l = self.now.rec.now in w.new ≡ written w.old
+            (spaced (map (λ z. shown ((seats_in l).number z)) (right_from (meaning l).link seats self.now.k (some s)))) }
+    {
+        // SEATS turns at most: the links of any bytes may lead round
+        let mut next = Some(s);
+        for _ in 0..SEATS {
+            let Some(seat) = next else {
+                break;
+            };
+            w.bytes(b" ");
+            w.decimal(record::number(self.rec, seat));
+            next = self.neighbour(seat, RIGHT);
+        }
+    }
+
+    // The list that begins on seat s: level, bits and numbers.
+    #[tactic(auto, using(crate::proofs::Parts::lots), unfolding(listing::specs::Text::list_text))]
+    fn list(&self, s: usize, w: &mut Writer<'_>)
+        requires { s < seats }
+        ensures { let l = self.now.rec.now in w.new ≡ written w.old (list_text seats width (members_in l) (meaning l).link self.now.k s) }
+    {
+        w.decimal(self.k as u64);
+        w.bytes(b" ");
+        bits(record::vector(self.rec, s), self.k, w);
+        w.bytes(b":");
+        self.numbers(s, w);
+        w.bytes(b"\n");
+    }
+
+    // All lists.
+    fn lists(&self, w: &mut Writer<'_>)
+        ensures { let l = self.now.rec.now in w.new ≡ written w.old (level_text seats width (members_in l) (meaning l).link self.now.k) }
+    {
+        let mut last = None;
+        for _ in 0..SEATS {
+            let Some(first) = self.next_first(last) else {
+                break;
+            };
+            self.list(first, w);
+            last = Some(first);
+        }
+    }
 }
 
 // The first k bits of a vector, `-` for none.
-fn bits(vector: u8, k: usize, out: &mut [u8], n: usize) -> usize
+fn bits(vector: u8, k: usize, w: &mut Writer<'_>)
     requires { k < levels }
-    ensures { Put out.old n (bits_text width k vector) out.new result }
+    ensures { w.new ≡ written w.old (bits_text width k vector) }
 {
     if k == 0 {
-        return text::bytes(out, n, b"-");
+        w.bytes(b"-");
     }
-    let mut at = n;
     for j in 0..k {
-        at = text::byte(out, at, ZERO + graph::bit(vector, j) as u8);
+        w.byte(b'0' + graph::bit(vector, j) as u8);
     }
-    at
-}
-
-// The numbers from seat s on, if that is one, along level k, with a space before each.
-fn numbers(rec: &[u8], s: usize, k: usize, out: &mut [u8], n: usize) -> usize
-    requires { (length rec.now ≡ size) × (k < levels) }
-    ensures { let l = rec.now in
-        Put out.old n (spaced (map (λ z. shown ((seats_in l).number z))
-        (right_from (meaning l).link seats k (link_of s)))) out.new result }
-{
-    let mut seat = s;
-    let mut at = n;
-    for _ in 0..SEATS {
-        if seat >= SEATS {
-            return at;
-        }
-        at = text::byte(out, at, SPACE);
-        at = text::decimal(out, at, record::number(rec, seat));
-        seat = link(rec, seat, k, RIGHT);
-    }
-    at
-}
-
-// The list of level k that begins on seat s: level, bits and numbers.
-fn list(rec: &[u8], s: usize, k: usize, out: &mut [u8], n: usize) -> usize
-    requires { (length rec.now ≡ size) × (s < seats) × (k < levels) }
-    ensures { let l = rec.now in
-        Put out.old n (list_text seats width (members_in l) (meaning l).link k s) out.new result }
-{
-    let mut at = text::decimal(out, n, k as u64);
-    at = text::byte(out, at, SPACE);
-    at = bits(record::vector(rec, s), k, out, at);
-    at = text::byte(out, at, b':');
-    at = numbers(rec, s, k, out, at);
-    text::byte(out, at, NEWLINE)
-}
-
-// The lists of level k.
-fn level(rec: &[u8], k: usize, out: &mut [u8], n: usize) -> usize
-    requires { (length rec.now ≡ size) × (k < levels) }
-    ensures { let l = rec.now in
-        Put out.old n (level_text seats width (members_in l) (meaning l).link k) out.new result }
-{
-    let mut last = SEATS;
-    let mut at = n;
-    for _ in 0..SEATS {
-        last = next_first(rec, k, last);
-        if last >= SEATS {
-            return at;
-        }
-        at = list(rec, last, k, out, at);
-    }
-    at
 }
 
 // The lists of all levels.
-pub fn lists(rec: &[u8], out: &mut [u8], n: usize) -> usize
+#[tactic(auto, using(crate::proofs::Parts::lots), unfolding(listing::specs::Text::lists_text))]
+pub fn lists(rec: &[u8], w: &mut Writer<'_>)
     requires { length rec.now ≡ size }
-    ensures { let l = rec.now in
-        Put out.old n (lists_text seats width (members_in l) (meaning l).link) out.new result }
+    ensures { let l = rec.now in w.new ≡ written w.old (lists_text seats width (members_in l) (meaning l).link) }
 {
-    let mut at = n;
     for k in 0..LEVELS {
-        at = level(rec, k, out, at);
+        Level { rec, k }.lists(w);
     }
-    at
 }

@@ -1,3 +1,3 @@
 -- Text after text in a lent buffer.
 pub mod Put
-pub mod Puts
+pub mod Written

@@ -1,18 +1,8 @@
--- `nobody` meets its contract: two texts, one after the other. Assumes nothing.
-use mathlib.Core.Path.{refl}
-use mathlib.Core.Option.{none}
-use native.Mathlib.Omega.{arith}
-use Rattle.base.proofs.Tests.{none-some}
-use Rattle.command.specs.Ascii.{ascii}
-use Rattle.text.proofs.Put.{put_then}
-use Rattle.program.specs.Text.{holder_text}
+-- `nobody` has room for its text. Assumes nothing.
+use Rattle.std.proofs.Common.{arith}
+use Rattle.std.proofs.Math.Option.{none}
 use Rattle.program.proofs.Long.{found-length}
 use Rattle.answers.proofs.nobody.Goals as goal
 
-pub returns : goal.returns
-unfolding holder_text ascii
-returns c =
-    record {
-      put = put_then c.bytes-end.ensures c.hops.ensures;
-      fits = found-length none (λ x e. none-some refl e) c.args.h (omega (arith, c.ranges.h));
-    }
+pub returns-clause-fits : goal.returns-clause-fits
+returns-clause-fits c = found-length none (λ x e. cc) c.args.h (omega arith)
