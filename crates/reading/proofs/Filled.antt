@@ -1,14 +1,15 @@
--- A loop that fills a range of bytes, and a loop that fills the links of each entry of bytes that are 0: it ends at the bytes that open
--- writes. Assumes nothing.
-use Prim.Native.Nat.{ℕ, ◌+◌, ◌-◌, ◌*◌, ◌/◌, ◌%◌, ◌<◌}
-use mathlib.Core.Path.{◌≡◌, refl, sym, ap, ◌∙◌}
-use mathlib.Core.Logic.{inl, inr, ⊎_elim, ◌≢◌}
+-- A range of bytes that is filled, and a loop that fills the links of each entry of bytes that are 0: it ends at the bytes that open writes. Assumes nothing.
+use Prim.Native.Nat.{ℕ, ◌+◌, ◌-◌, ◌*◌, ◌/◌, ◌%◌, ◌≤◌, ◌<◌}
+use mathlib.Core.Path.{◌≡◌, sym, ap, ◌∙◌}
+use mathlib.Core.Logic.{inl, inr, ◌⊎◌, ⊎_elim, ◌≢◌}
 use mathlib.Core.List.{List}
 use native.Mathlib.Omega.{arith}
-use lib.ListN.{length, get_or, set, length-set, get_or-eq_default}
-use lib.Seq.{get_or-set_same, get_or-set_other}
-use Rattle.base.proofs.Cases.{lt-or-ge, eq-or-ne}
+use lib.ListN.{length, get_or, replicate}
+use borrow.Rule.Slice.PartMut.{mid_of, put_mid, mid_len}
+use Rattle.std.proofs.lemmas.List.{places}
+use Rattle.base.proofs.Cases.{lt-or-ge}
 use Rattle.memory.specs.Bytes.{digit}
+use Rattle.memory.proofs.Zeros.{replicate-zero}
 use Rattle.memory.proofs.Digits.{digit-zero, digit-last}
 use Rattle.graph.specs.Side.{Side, side_number, side_of_number}
 use Rattle.protocol.proofs.Numbering.{side_number-lt}
@@ -18,32 +19,27 @@ use Rattle.record.specs.inner.Cell.{InRecord, Holds}
 use Rattle.record.specs.inner.Opened.{opened_value, IsOpened}
 use Rattle.record.proofs.Places.{side_number-side}
 use Rattle.record.proofs.Cells.{cell-once}
-use Rattle.reading.specs.inner.Filled.{Filled}
 
-pub filled_none : (l : List ℕ) (a v : ℕ) → Filled l a 0 v l
-filled_none l a v = record { sized = refl; within = λ j h. absurd (omega arith); beside = λ i h. refl }
+-- m is l with v in the n bytes from a on
+pub record Filled (l : List ℕ) (a n v : ℕ) (m : List ℕ) : Type 0 where
+  pub sized : length m ≡ length l
+  pub within : (j : ℕ) → j < n → get_or m (a + j) 0 ≡ v
+  pub beside : (i : ℕ) → (i < a) ⊎ (a + n ≤ i) → get_or m i 0 ≡ get_or l i 0
 
-pub filled_more : (l m : List ℕ) (a n v : ℕ) → a + n < length l → Filled l a n v m → Filled l a (n + 1) v (set m (a + n) v)
-filled_more l m a n v h f = record {
-  sized = length-set m (a + n) v ∙ f.sized;
-  within = λ j p. ⊎_elim
-      (λ e. ap (λ (k : ℕ). get_or (set m (a + n) v) (a + k) 0) e ∙ get_or-set_same m (a + n) v 0 (omega (arith, f.sized)))
-      (λ ne. get_or-set_other m (a + n) (a + j) v 0 (λ e. ne (omega arith)) ∙ f.within j (let q : j < n = by j p ne in q))
-      (eq-or-ne j n);
-  beside = λ i p.
-      get_or-set_other m (a + n) i v 0 (λ e. ⊎_elim (λ q. omega arith) (λ q. omega arith) p)
-      ∙ f.beside i (⊎_elim (λ q. inl q) (λ q. inr (omega arith)) p);
-}
-  where
-    by : (j : ℕ) → j < n + 1 → (j ≡ n → ⊥) → j < n
-    by j p ne = ⊎_elim (λ q. q) (λ q. absurd (ne (omega arith))) (lt-or-ge j n)
+-- the k bytes from a on, which are n, filled by `fill`
+filled : (l : List ℕ) (a k n v : ℕ) (ys : List ℕ) → k ≡ n → a + n ≤ length l → ys ≡ replicate (length (mid_of a k l)) v → Filled l a n v (put_mid a k l ys)
+filled l a k n v ys e h y =
+    let m : length (mid_of a k l) ≡ n = ap (λ (i : ℕ). length (mid_of a i l)) {x = k} {y = a + n - a} (omega arith) ∙ mid_len a (a + n) l h ∙ omega arith in
+    let z : ys ≡ replicate n v = rw m at y in
+    record {
+      sized = grind (arith, places);
+      within = λ j p. grind (arith, places);
+      beside = λ i p. ⊎_elim (λ q. grind (arith, places)) (λ q. grind (arith, places)) p;
+    }
 
 -- the whole filled with 0
-pub all-zero : (l : List ℕ) (n : ℕ) {m : List ℕ} → length l ≡ n → Filled l 0 n 0 m → (i : ℕ) → get_or m i 0 ≡ 0
-all-zero l n {m} e f i = ⊎_elim
-    (λ h. ap (λ (k : ℕ). get_or m k 0) (omega arith) ∙ f.within i h)
-    (λ h. get_or-eq_default m 0 (omega (arith, f.sized)))
-    (lt-or-ge i n)
+pub zero-filled : (n : ℕ) {m : List ℕ} → m ≡ replicate n 0 → (i : ℕ) → get_or m i 0 ≡ 0
+zero-filled n e i = rw e (replicate-zero n i)
 
 -- the links of the seats below s are none, and every other byte is 0
 pub record NoLinks (s : ℕ) (l : List ℕ) : Type 0 where
@@ -54,21 +50,25 @@ pub record NoLinks (s : ℕ) (l : List ℕ) : Type 0 where
 pub links-none : {l : List ℕ} → length l ≡ size → ((i : ℕ) → get_or l i 0 ≡ 0) → NoLinks 0 l
 links-none e z = record { sized = e; links = λ x j h g. absurd (omega arith); others = λ i h. z i }
 
-pub links-more : {l m : List ℕ} (s : ℕ) → NoLinks s l → Filled l (links_from s) (links_size) no_link m → NoLinks (s + 1) m
-links-more {l} {m} s b f = record {
-  sized = f.sized ∙ b.sized;
-  links = λ x j h g. ⊎_elim
-      (λ p. f.beside (links_from x + j) (inl (omega arith)) ∙ b.links x j p g)
-      (λ p. let e : x ≡ s = omega arith in ap (λ (y : ℕ). get_or m (links_from y + j) 0) e ∙ f.within j g)
-      (lt-or-ge x s);
-  others = λ i h. ⊎_elim
-      (λ p. f.beside i (inl p) ∙ b.others i (λ x j q g e. h x j (omega arith) g e))
-      (λ p. ⊎_elim
-      (λ q. absurd (h s (i - (links_from s)) (omega arith) (omega arith) (omega arith)))
-      (λ q. f.beside i (inr q) ∙ b.others i (λ x j r g e. h x j (omega arith) g e))
-      (lt-or-ge i (links_from s + links_size)))
-      (lt-or-ge i (links_from s));
-}
+-- and with the k bytes ys of the links of seat s, filled by `fill`
+pub links-more : {l : List ℕ} (s : ℕ) {k : ℕ} {ys : List ℕ} → s < seats → NoLinks s l → k ≡ links_size
+    → ys ≡ replicate (length (mid_of (links_from s) k l)) no_link → NoLinks (s + 1) (put_mid (links_from s) k l ys)
+links-more {l} s {k} {ys} h b e y =
+    let f = filled l (links_from s) k links_size no_link ys e (omega (arith, b.sized)) y in
+    record {
+      sized = f.sized ∙ b.sized;
+      links = λ x j q g. ⊎_elim
+          (λ p. f.beside (links_from x + j) (inl (omega arith)) ∙ b.links x j p g)
+          (λ p. let i : x ≡ s = omega arith in rw i (f.within j g))
+          (lt-or-ge x s);
+      others = λ i q. ⊎_elim
+          (λ p. f.beside i (inl p) ∙ b.others i (λ x j r g t. q x j (omega arith) g t))
+          (λ p. ⊎_elim
+          (λ r. absurd (q s (i - (links_from s)) (omega arith) (omega arith) (omega arith)))
+          (λ r. f.beside i (inr r) ∙ b.others i (λ x j n g t. q x j (omega arith) g t))
+          (lt-or-ge i (links_from s + links_size)))
+          (lt-or-ge i (links_from s));
+    }
 
 -- a byte of another cell is no link
 not-link : (c : Cell) (j : ℕ) → InRecord c → j < cell_size c → ((x k : ℕ) (d : Side) → c ≢ link_cell x k d) → (x i : ℕ) → x < seats

@@ -1,3 +1,2 @@
--- The answers of the readings, and what the inner functions promise.
+-- The answers of the readings.
 pub mod Answer
-pub mod inner

@@ -1,153 +1,149 @@
 // Opening a record, and reading its lots, links, messages and counts (document 01, "Calls"). Any bytes and any numbers are taken. A refused
-// call gives the number of the first row of the table that applies; readings change no byte.
+// call gives the first row of the table that applies; readings change no byte.
 #![tactic(auto)]
 
-ghost use Rattle.std.specs.Prelude.{◌≡◌};
-ghost use Rattle.protocol.specs.Message.{name};
-ghost use Rattle.record.specs.Answer.{number_of, Numbered};
+ghost use Rattle.std.specs.Prelude.{◌≡◌, [], ◌∷◌, IfOk};
+ghost use Rattle.protocol.specs.Refusals.{first};
+ghost use Rattle.base.specs.Loops.{count};
+ghost use Rattle.protocol.specs.State.{seated};
+ghost use Rattle.record.specs.Layout.{seats};
+ghost use Rattle.record.specs.Meaning.{seats_in};
+ghost use Rattle.record.specs.Answer.{number_of};
+ghost use Rattle.record.specs.Reading.{size_row, sound_row, seat_row};
 ghost use Rattle.record.specs.Reading.{lot_refusal, link_refusal, open_refusal, open_bytes, read_lot, read_link, read_message, read_counts};
-ghost use Rattle.reading.specs.Answer.{lot_numbers, LotNumbered, link_numbers, LinkNumbered};
-ghost use Rattle.reading.specs.Answer.{message_numbers, MessageNumbered, count_numbers, CountsNumbered};
+ghost use Rattle.messages.specs.inner.Numbers.{numbers};
+ghost use Rattle.reading.specs.Answer.{lot_numbers, link_numbers, LinkNumbered, message_numbers, count_numbers};
 
-mod counts;
 pub mod next;
 mod opening;
-mod rows;
 
-use counts::seated_lots;
-use messages::place_of;
-use opening::{fill, no_links};
-use record::refusals::WRONG_SIZE;
-use record::{Answer, MESSAGES, PENDING, SIZE};
-use rows::{empty_refusal, free_refusal, level_refusal, seat_refusal};
-use soundness::{record_refusal, sized_refusal};
+use graph::Side;
+use messages::{Message, place_of};
+use opening::no_links;
+use record::lots::{is_seated, is_taken, link};
+use record::refusals::Refusal;
+use record::states::{Phase, State};
+use record::{LEVELS, MESSAGES, PENDING, Record, SEATS};
+use soundness::{sized_refusal, sound_record};
 
-// State, number and vector of a taken seat: a lot, or a reservation.
-#[derive(Drop)]
-pub enum LotRead {
-    Refused(u8),
-    Taken(u8, u64, u8),
-}
-
-// The seat that a link names, or 255.
-#[derive(Drop)]
-pub enum LinkRead {
-    Refused(u8),
-    Link(u8),
-}
-
-// Whether the message is pending.
-#[derive(Drop)]
-pub enum MessageRead {
-    Refused(u8),
-    Pending(bool),
+// What a taken seat holds: a lot, or a reservation.
+#[derive(Clone, Copy, Debug, PartialEq, Eq)]
+pub struct Lot {
+    pub state: State,
+    pub number: u64,
+    pub vector: u8,
 }
 
 // Seated lots, phase and pending messages.
-#[derive(Drop)]
-pub enum CountsRead {
-    Refused(u8),
-    Counted(u8, u8, u32),
+#[derive(Clone, Copy, Debug, PartialEq, Eq)]
+pub struct Counts {
+    pub lots: u8,
+    pub phase: Phase,
+    pub pending: u32,
 }
 
-// The lot or the reservation on a seat of a lent record: 1, 2, 3, 8, or 0.
-pub fn lot_refusal(rec: &[u8], seat: u8) -> u8
-    ensures { result ≡ lot_refusal rec.now seat }
+// The record, if it has the seat. Refused: 1, 2, 3.
+fn seat_record(rec: &[u8], seat: u8) -> Result<&Record, Refusal>
+    ensures refused { number_of result ≡ first (size_row rec.now ∷ sound_row rec.now ∷ seat_row seat ∷ []) }
+    ensures same { IfOk result (λ r. r.now ≡ rec.now) }
 {
-    let n = seat_refusal(rec, seat);
-    if n != 0 {
-        return n;
+    let rec = sound_record(rec)?;
+    if (seat as usize) < SEATS {
+        Ok(rec)
+    } else {
+        Err(Refusal::NoSuchSeat)
     }
-    free_refusal(rec, seat as usize)
 }
 
-// A link of a lot: 1, 2, 3, 12, 8, or 0.
-pub fn link_refusal(rec: &[u8], seat: u8, level: u8, side: u8) -> u8
-    ensures { result ≡ link_refusal rec.now seat level side }
+// The record, if a lot or a reservation is on a seat of it. Refused: 1, 2, 3, 8.
+pub fn lot_record(rec: &[u8], seat: u8) -> Result<&Record, Refusal>
+    ensures refused { number_of result ≡ lot_refusal rec.now seat }
+    ensures same { IfOk result (λ r. r.now ≡ rec.now) }
 {
-    let n = seat_refusal(rec, seat);
-    if n != 0 {
-        return n;
+    let rec = seat_record(rec, seat)?;
+    if !is_taken(rec, seat as usize) {
+        return Err(Refusal::EmptySeat);
     }
-    let no_level = level_refusal(level as usize, side as usize);
-    let no_lot = empty_refusal(rec, seat as usize);
-    if no_level != 0 {
-        return no_level;
+    Ok(rec)
+}
+
+// The record, if it has a link of a lot. Refused: 1, 2, 3, 12, 8.
+pub fn link_record(rec: &[u8], seat: u8, level: u8, side: u8) -> Result<&Record, Refusal>
+    ensures refused { number_of result ≡ link_refusal rec.now seat level side }
+    ensures same { IfOk result (λ r. r.now ≡ rec.now) }
+{
+    let rec = seat_record(rec, seat)?;
+    if level as usize >= LEVELS || side >= 2 {
+        return Err(Refusal::NoSuchLevel);
     }
-    no_lot
+    if is_seated(rec, seat as usize) {
+        Ok(rec)
+    } else {
+        Err(Refusal::EmptySeat)
+    }
 }
 
 // Writes the empty record in phase open. Refused: 1.
-pub fn open(rec: &mut [u8]) -> Answer
-    ensures { (number_of result ≡ open_refusal rec.old) × (rec.new ≡ open_bytes rec.old) × Numbered result }
+pub fn open(rec: &mut [u8]) -> Result<(), Refusal>
+    ensures { (number_of result ≡ open_refusal rec.old) × (rec.new ≡ open_bytes rec.old) }
 {
-    if rec.len() != SIZE {
-        return Answer::Refused(WRONG_SIZE);
-    }
-    fill(rec, 0, SIZE, 0);
+    let Some(rec) = rec.as_mut_array() else {
+        return Err(Refusal::WrongSize);
+    };
+    rec.fill(0);
     no_links(rec);
-    Answer::Done
+    Ok(())
 }
 
 // The lot on a seat, or its reservation. Refused: 1, 2, 3, 8.
-pub fn read_lot(rec: &[u8], seat: u8) -> LotRead
-    ensures { (lot_numbers result ≡ read_lot rec.now seat) × LotNumbered result }
+pub fn read_lot(rec: &[u8], seat: u8) -> Result<Lot, Refusal>
+    ensures { lot_numbers result ≡ read_lot rec.now seat }
 {
-    let n = lot_refusal(rec, seat);
-    if n != 0 {
-        return LotRead::Refused(n);
-    }
+    let rec = lot_record(rec, seat)?;
     let s = seat as usize;
-    LotRead::Taken(
-        record::state(rec, s),
-        record::number(rec, s),
-        record::vector(rec, s),
-    )
+    Ok(Lot {
+        state: record::state(rec, s),
+        number: record::number(rec, s),
+        vector: record::vector(rec, s),
+    })
 }
 
-// The link of a lot at a level, on side 0 left or 1 right. Refused: 1, 2, 3, 12, 8.
-pub fn read_link(rec: &[u8], seat: u8, level: u8, side: u8) -> LinkRead
+// The seat that a link of a lot names, if it names one: at a level, on side 0 left or 1 right. Refused: 1, 2, 3, 12, 8.
+pub fn read_link(rec: &[u8], seat: u8, level: u8, side: u8) -> Result<Option<u8>, Refusal>
     ensures { (link_numbers result ≡ read_link rec.now seat level side) × LinkNumbered result }
 {
-    let n = link_refusal(rec, seat, level, side);
-    if n != 0 {
-        return LinkRead::Refused(n);
-    }
-    LinkRead::Link(record::link(rec, seat as usize, level as usize, side as usize))
+    let rec = link_record(rec, seat, level, side)?;
+    let d = Side::of_number(side as usize);
+    Ok(link(rec, seat as usize, level as usize, d).map(|s| s as u8))
 }
 
 // Whether five numbers are a pending message. Refused: 1, 2.
-pub fn read_message(rec: &[u8], kind: u8, to: u8, about: u8, level: u8, side: u8) -> MessageRead
-    ensures { (message_numbers result ≡ read_message rec.now (name kind to about level side)) × MessageNumbered result }
+pub fn read_message(rec: &[u8], message: Message) -> Result<bool, Refusal>
+    ensures { message_numbers result ≡ read_message rec.now (numbers message) }
 {
-    let n = record_refusal(rec);
-    if n != 0 {
-        return MessageRead::Refused(n);
-    }
-    let i = place_of(
-        kind,
-        to as usize,
-        about as usize,
-        level as usize,
-        side as usize,
-    );
-    if i == MESSAGES {
-        return MessageRead::Pending(false);
-    }
-    MessageRead::Pending(record::is_pending(rec, i))
+    let rec = sound_record(rec)?;
+    Ok(place_of(message).is_some_and(|i| record::is_pending(rec, i)))
+}
+
+// How many lots are seated.
+fn seated_lots(rec: &Record) -> u8
+    ensures { result ≡ count seats (seated (seats_in rec.now)) }
+{
+    (0..SEATS).filter(|s| is_seated(rec, *s)).count() as u8
 }
 
 // Seated lots, phase and pending messages. Refused: 1, 2.
-pub fn read_counts(rec: &[u8]) -> CountsRead
-    ensures { (count_numbers result ≡ read_counts rec.now) × CountsNumbered result }
+pub fn read_counts(rec: &[u8]) -> Result<Counts, Refusal>
+    ensures { count_numbers result ≡ read_counts rec.now }
 {
-    if rec.len() != SIZE {
-        return CountsRead::Refused(WRONG_SIZE);
-    }
+    let Some(rec) = rec.as_array() else {
+        return Err(Refusal::WrongSize);
+    };
     let pending = memory::count_bits(rec, PENDING, MESSAGES);
-    let n = sized_refusal(rec, if pending == 0 { MESSAGES } else { 0 });
-    if n != 0 {
-        return CountsRead::Refused(n);
-    }
-    CountsRead::Counted(seated_lots(rec), record::phase(rec), pending as u32)
+    sized_refusal(rec, if pending == 0 { MESSAGES } else { 0 })?;
+    Ok(Counts {
+        lots: seated_lots(rec),
+        phase: record::phase(rec),
+        pending: pending as u32,
+    })
 }

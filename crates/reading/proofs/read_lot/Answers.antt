@@ -1,25 +1,31 @@
 -- `reading::read_lot` meets its contract. Assumes nothing.
-use native.Mathlib.Omega.{arith}
-use Rattle.reading.proofs.Refusals.{Held, lot-passed}
+use Rattle.record.specs.Answer.{number_of}
+use Rattle.reading.proofs.Refusals.{There, lot-there}
 use Rattle.reading.proofs.Values.{lot-refused, lot-values}
 use Rattle.reading.proofs.read_lot.Goals as goal
-use Rattle.reading.proofs.read_lot.Goals.{Else-n-ne0}
+use Rattle.reading.proofs.read_lot.Goals.{In_ok-rec}
 
 -- no row applies
-passed : (c : Else-n-ne0) → Held c.args.rec.now c.args.seat
-passed c = lot-passed _ _ c.lot_refusal-n.ensures c.if-n-ne0.false
+passed : (c : In_ok-rec) → There c.args.rec.now c.args.seat
+unfolding number_of
+passed c = lot-there _ _ c.in_ok-rec.ensures.refused
 
-pub returns-then-n-ne0 : goal.returns-then-n-ne0
-returns-then-n-ne0 c = (lot-refused _ _ c.lot_refusal-n.ensures c.if-n-ne0.true, omega (arith, c.if-n-ne0.true))
+pub returns-in_err-rec : goal.returns-in_err-rec
+unfolding number_of
+returns-in_err-rec c = lot-refused _ _ c.from_residual.result _ c.from_residual.ensures.1 c.in_err-rec.ensures.refused
 
 pub state-requires : goal.state-requires
-state-requires c = let p = passed (goal.at.state-requires c).Else-n-ne0 in (p.accepted.sized, p.seat)
+state-requires c = (passed (goal.at.state-requires c).In_ok-rec).seat
 
 pub number-requires : goal.number-requires
-number-requires c = let p = passed (goal.at.number-requires c).Else-n-ne0 in (p.accepted.sized, p.seat)
+number-requires c = (passed (goal.at.number-requires c).In_ok-rec).seat
 
 pub vector-requires : goal.vector-requires
-vector-requires c = let p = passed (goal.at.vector-requires c).Else-n-ne0 in (p.accepted.sized, p.seat)
+vector-requires c = (passed (goal.at.vector-requires c).In_ok-rec).seat
 
 pub returns : goal.returns
-returns c = (rw (c.state.ensures, c.number.ensures, c.vector.ensures) (lot-values _ _ (passed (goal.at.returns c).Else-n-ne0)), tt)
+unfolding number_of
+returns c =
+    let same = c.in_ok-rec.ensures.same in
+    lot-values _ _ _ c.in_ok-rec.ensures.refused (passed (goal.at.returns c).In_ok-rec).seat
+    (rw same at c.state.ensures) (rw same at c.number.ensures) (rw same at c.vector.ensures)

@@ -1,28 +1,18 @@
 -- `reading::read_message` meets its contract. Assumes nothing.
-use mathlib.Core.Path.{sym, ◌∙◌}
-use native.Mathlib.Omega.{arith}
-use Rattle.reading.proofs.Placed.{place-below, no_place, pending-at}
-use Rattle.record.proofs.Refused.{Passed, record-passed}
+use borrow.Author.Rules.{rules}
+use borrow.Author.Tests.{tests}
+use Rattle.record.specs.Answer.{number_of}
+use Rattle.reading.proofs.Placed.{pending-found}
 use Rattle.reading.proofs.Values.{message-refused, message-value}
 use Rattle.reading.proofs.read_message.Goals as goal
-use Rattle.reading.proofs.read_message.Goals.{Else-n-ne0}
 
--- no row applies
-passed : (c : Else-n-ne0) → Passed c.args.rec.now
-passed c = record-passed _ c.record_refusal-n.ensures c.if-n-ne0.false
-
-pub returns-then-n-ne0 : goal.returns-then-n-ne0
-returns-then-n-ne0 c = (message-refused _ _ c.record_refusal-n.ensures c.if-n-ne0.true, omega (arith, c.if-n-ne0.true))
-
-pub returns-then-i-eq-MESSAGES : goal.returns-then-i-eq-MESSAGES
-returns-then-i-eq-MESSAGES c =
-    let p = passed (goal.at.returns-then-i-eq-MESSAGES c).Else-n-ne0 in
-    (message-value _ _ (sym (no_place _ _ c.place_of-i.ensures c.if-i-eq-MESSAGES.true)) p, tt)
-
-pub is_pending-requires : goal.is_pending-requires
-is_pending-requires c = ((passed (goal.at.is_pending-requires c).Else-n-ne0).sized, place-below _ c.place_of-i.ensures c.if-i-eq-MESSAGES.false)
+pub returns-in_err-rec : goal.returns-in_err-rec
+unfolding number_of
+returns-in_err-rec c = message-refused _ _ c.from_residual.result _ c.from_residual.ensures.1 c.in_err-rec.ensures.refused
 
 pub returns : goal.returns
+unfolding number_of
 returns c =
-    let p = passed (goal.at.returns c).Else-n-ne0 in
-    (message-value _ _ (c.is_pending.ensures ∙ sym (pending-at _ _ c.place_of-i.ensures c.if-i-eq-MESSAGES.false)) p, tt)
+    let l = c.args.rec.now in
+    message-value _ _ _ c.in_ok-rec.ensures.refused
+    (pending-found l _ c.place_of.result c.is_some_and.result _ c.place_of.ensures c.is_some_and.ensures (λ i q. search (rules, tests)))
