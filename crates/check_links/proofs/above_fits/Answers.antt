@@ -1,24 +1,22 @@
 -- `check_links::above_fits` meets its contract. Assumes nothing.
-use native.Mathlib.Omega.{arith}
-use Rattle.check_links.proofs.Runs.{above-none, above-some}
-use Rattle.check_links.proofs.Whole.{above-near}
+use mathlib.Core.Path.{sym, ◌∙◌}
 use borrow.Author.Rules.{rules}
+use native.Mathlib.Numerals.{add-one}
+use Rattle.base.proofs.Tests.{true-T}
+use Rattle.search.specs.inner.LinkCheck.{above_ok}
+use Rattle.search.proofs.Check.{link-eq}
+use Rattle.check_links.proofs.Parts.{links-same}
+use Rattle.check_links.proofs.Whole.{above-near}
 use Rattle.check_links.proofs.above_fits.Goals as goal
 
-pub returns-then-link-y : goal.returns-then-link-y
-returns-then-link-y c =
-    let s = c.args in
-    above-near s.rec.now (search rules) (λ j. omega (arith, c.type_inv.rec j)) (search rules)
-    s.x s.k c.link-y.result c.link.result (search rules) (search rules) c.link-y.ensures c.link.ensures c.if-link-y.true
+pub returns-then-eq : goal.returns-then-eq
+returns-then-eq c =
+    let up = rw add-one at c.link-above.ensures.link in
+    let same = link-eq _ _ (true-T (sym (c.eq.ensures ∙ links-same c.link-above.result c.link.result) ∙ c.if-eq.true)) in
+    c.if-eq.true ∙ sym (above-near _ (search rules) (λ j. search rules) c.requires.0 _ _ _ up (same ∙ c.link.ensures.link))
 
-pub returns-then-z-ge-SEATS : goal.returns-then-z-ge-SEATS
-returns-then-z-ge-SEATS c =
-    let s = c.args in
-    above-none s.rec.now s.x s.k c.link-y.result c.ahead-z.result (search rules) (search rules)
-    c.link-y.ensures c.ahead-z.ensures c.if-z-ge-SEATS.true
-
-pub returns : goal.returns
-returns c =
-    let s = c.args in
-    above-some s.rec.now s.x s.k c.link-y.result c.ahead-z.result (search rules) (search rules)
-    c.link-y.ensures c.ahead-z.ensures c.if-z-ge-SEATS.false
+pub returns-else-eq : goal.returns-else-eq
+unfolding above_ok
+returns-else-eq c =
+    let up = rw add-one at c.link-above.ensures.link in
+    c.eq-else-eq.ensures ∙ links-same c.link-above.result c.ahead.result ∙ rw (up, c.ahead.ensures)
