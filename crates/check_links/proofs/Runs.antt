@@ -1,17 +1,23 @@
 -- The run to the right of a lot, step by step by the links that the code reads. Assumes nothing.
-use Prim.Native.Nat.{ℕ, zero, suc}
+use Prim.Native.Nat.{ℕ, zero, suc, ◌+◌, ◌<◌}
 use mathlib.Core.Path.{◌≡◌, refl}
 use mathlib.Core.Logic.{◌≢◌}
 use mathlib.Core.Option.{Option, none, some}
 use mathlib.Core.Bool.{Bool, true, false}
 use mathlib.Core.List.{List}
 use native.Mathlib.Omega.{arith}
+use native.Mathlib.Numerals.{add-one}
+use lib.Dec.{eqb, leb}
+use lib.ListN.{get_or}
 use Rattle.base.specs.Loops.{one_if}
 use Rattle.graph.specs.Side.{right}
 use Rattle.graph.specs.Vector.{width, same_bit, bit}
-use Rattle.record.specs.Meaning.{seats_in, meaning}
-use Rattle.search.specs.inner.LinkCheck.{ahead}
+use Rattle.record.specs.Layout.{seats, link_at}
+use Rattle.record.specs.Meaning.{link_of, seats_in, meaning}
+use Rattle.record.proofs.Links.{link-read}
+use Rattle.search.specs.inner.LinkCheck.{ahead, ahead_of, above_ok}
 use Rattle.check_links.specs.Check.{members_in}
+use Rattle.check_links.proofs.Parts.{same-seat, same_none}
 
 -- two bits, as numbers
 bits-same : (a b : Bool) → one_if b ≡ one_if a → same_bit a b ≡ true
@@ -50,3 +56,17 @@ module _ (l : List ℕ) (k : ℕ) (b : Bool) where
   pub run_end : (o : Option ℕ) → o ≡ run_of 0 o
   unfolding ahead
   run_end o = refl
+
+-- the right link that is compared with what the run has found: y is its byte
+module _ (l : List ℕ) (x k y : ℕ) (h : x < seats) (g : k < width) (e : y ≡ get_or l (link_at x (k + 1) right) 0) where
+  pub above-byte : (meaning l).link x (suc k) right ≡ link_of y
+  above-byte = rw (← add-one k) (link-read l x (k + 1) right y h (omega arith) e)
+
+  pub above-none : none ≡ ahead_of seats width (members_in l) (meaning l).link x k → leb seats y ≡ above_ok seats width (members_in l) (meaning l).link x k
+  unfolding above_ok
+  above-none f = rw (above-byte, ← f, same_none y)
+
+  pub above-some : (z : ℕ) → z < seats → some z ≡ ahead_of seats width (members_in l) (meaning l).link x k
+      → eqb y z ≡ above_ok seats width (members_in l) (meaning l).link x k
+  unfolding above_ok
+  above-some z q f = rw (above-byte, ← f, same-seat y z q)

@@ -60,11 +60,11 @@ module _ (l : List ℕ) (e : length l ≡ size) (b : AreBytes l) (s : sound l �
   link-seated x k d y f = (link-linked bytes-sound {x = x} {k = k} {d = d} (sym f)).0.two
 
   -- the right link o of x one level above k is the next lot at level k: the run ends there
-  module _ (x k : ℕ) (o : Option ℕ) (up : o ≡ (meaning l).link x (suc k) right) (near : o ≡ (meaning l).link x k right) where
+  module _ (x k : ℕ) (o : Option ℕ) (up : (meaning l).link x (suc k) right ≡ o) (near : (meaning l).link x k right ≡ o) where
     same_bits : (y : ℕ) → some y ≡ o → bit width k ((seats_in l).vector x) ≡ bit width k ((seats_in l).vector y)
     unfolding meaning
     same_bits y q = shared-bit width k ((seats_in l).vector x) ((seats_in l).vector y)
-        (link-linked bytes-sound {x = x} {k = suc k} {d = right} (sym (q ∙ up))).0.bits
+        (link-linked bytes-sound {x = x} {k = suc k} {d = right} (up ∙ sym q)).0.bits
 
     run_ends : o ≡ run_of l k (bit width k ((seats_in l).vector x)) seats o
     run_ends = by o refl
@@ -75,7 +75,7 @@ module _ (l : List ℕ) (e : length l ≡ size) (b : AreBytes l) (s : sound l �
 
     pub above-near : above_ok seats width (members_in l) (meaning l).link x k ≡ true
     unfolding above_ok
-    above-near = rw (← up, ← near) (T_true (eq-link run_ends))
+    above-near = rw (up, near) (T_true (eq-link run_ends))
 
   -- so the test of the links is the check of specs/
   links-right : constraints_ok seats width (members_in l) (meaning l).link ≡ check seats width (members_in l) (meaning l).link

@@ -5,7 +5,7 @@
 // have their links back each lot is passed by one run at most for each level, and the whole is linear.
 #![tactic(auto)]
 
-ghost use Rattle.std.specs.Prelude.{◌≡◌, true, ◌<◌, T};
+ghost use Rattle.std.specs.Prelude.{◌≡◌, true, ◌<◌, T, IfSome};
 ghost use Rattle.graph.specs.inner.Code.{as_side};
 ghost use Rattle.graph.specs.Vector.{width, bit};
 ghost use Rattle.protocol.specs.State.{seated, member};
@@ -38,7 +38,8 @@ fn back_fits(rec: &Record, x: usize, k: usize, d: Side) -> bool
     ensures { let l = rec.now in result ≡ back_of (members_in l) (meaning l).link x k (as_side d) ((meaning l).link x k (as_side d)) }
 {
     match link(rec, x, k, d) {
-        Some(y) => seated_is_member(rec, y) && link(rec, y, k, d.opposite()) == Some(x),
+        // by the byte: an option compared makes a fifth more instructions of the whole check
+        Some(y) => seated_is_member(rec, y) && record::link(rec, y, k, d.opposite()) as usize == x,
         None => true,
     }
 }
@@ -77,20 +78,18 @@ fn bit_of(rec: &Record, s: usize, k: usize) -> usize
 // The first lot to the right of x at level k that has bit k as x, if there is one.
 fn ahead(rec: &Record, x: usize, k: usize) -> Option<usize>
     requires { (x < seats) × (k < width) }
-    ensures { let l = rec.now in as_link result ≡ ahead_of seats width (members_in l) (meaning l).link x k }
+    ensures lot { let l = rec.now in as_link result ≡ ahead_of seats width (members_in l) (meaning l).link x k }
+    ensures seat { IfSome result (λ y. y < seats) }
 {
     let b = bit_of(rec, x, k);
-    let mut next = link(rec, x, k, Side::Right);
+    let mut y = link(rec, x, k, Side::Right)?;
     for _ in 0..SEATS {
-        let Some(y) = next else {
-            return None;
-        };
         if bit_of(rec, y, k) == b {
-            return next;
+            break;
         }
-        next = link(rec, y, k, Side::Right);
+        y = link(rec, y, k, Side::Right)?;
     }
-    next
+    Some(y)
 }
 
 // Whether the right link of x one level above k is that lot. Where it is the next lot at level k it has the bit, since the record is sound.
@@ -98,8 +97,15 @@ fn above_fits(rec: &Record, x: usize, k: usize) -> bool
     requires { (sound rec.now ≡ true) × (x < seats) × (k < width) }
     ensures { let l = rec.now in result ≡ above_ok seats width (members_in l) (meaning l).link x k }
 {
-    let above = link(rec, x, k + 1, Side::Right);
-    above == link(rec, x, k, Side::Right) || above == ahead(rec, x, k)
+    // by the bytes: options compared make a fifth more instructions of the whole check
+    let y = record::link(rec, x, k + 1, Side::Right) as usize;
+    if record::link(rec, x, k, Side::Right) as usize == y {
+        return true;
+    }
+    match ahead(rec, x, k) {
+        Some(z) => y == z,
+        None => y >= SEATS,
+    }
 }
 
 // The right links of x above level 0, if it is a member.

@@ -1,22 +1,23 @@
 -- `check_links::above_fits` meets its contract. Assumes nothing.
-use mathlib.Core.Path.{sym, ◌∙◌}
+use mathlib.Core.Path.{sym, ap, ◌∙◌}
 use borrow.Author.Rules.{rules}
-use native.Mathlib.Numerals.{add-one}
-use Rattle.base.proofs.Tests.{true-T}
-use Rattle.search.specs.inner.LinkCheck.{above_ok}
-use Rattle.search.proofs.Check.{link-eq}
-use Rattle.check_links.proofs.Parts.{links-same}
+use Rattle.graph.specs.Side.{right}
+use Rattle.record.specs.Meaning.{link_of}
+use Rattle.record.proofs.Links.{link-read}
+use Rattle.check_links.proofs.Runs.{above-byte, above-none, above-some}
 use Rattle.check_links.proofs.Whole.{above-near}
 use Rattle.check_links.proofs.above_fits.Goals as goal
 
-pub returns-then-eq : goal.returns-then-eq
-returns-then-eq c =
-    let up = rw add-one at c.link-above.ensures.link in
-    let same = link-eq _ _ (true-T (sym (c.eq.ensures ∙ links-same c.link-above.result c.link.result) ∙ c.if-eq.true)) in
-    c.if-eq.true ∙ sym (above-near _ (search rules) (λ j. search rules) c.requires.0 _ _ _ up (same ∙ c.link.ensures.link))
+pub returns-then-link-y : goal.returns-then-link-y
+returns-then-link-y c =
+    let a = c.args in
+    let up = above-byte a.rec.now a.x a.k c.link-y.result c.requires.1 c.requires.2 c.link-y.ensures in
+    let near = link-read a.rec.now a.x a.k right c.link.result c.requires.1 (search rules) c.link.ensures ∙ ap link_of c.if-link-y.true in
+    sym (above-near a.rec.now (search rules) (λ j. search rules) c.requires.0 a.x a.k _ up near)
 
-pub returns-else-eq : goal.returns-else-eq
-unfolding above_ok
-returns-else-eq c =
-    let up = rw add-one at c.link-above.ensures.link in
-    c.eq-else-eq.ensures ∙ links-same c.link-above.result c.ahead.result ∙ rw (up, c.ahead.ensures)
+pub returns-in-Some : goal.returns-in-Some
+returns-in-Some c =
+    above-some _ c.args.x c.args.k c.link-y.result c.requires.1 c.requires.2 c.link-y.ensures c.in-Some.z c.in-Some.ensures.seat c.in-Some.ensures.lot
+
+pub returns-in-None : goal.returns-in-None
+returns-in-None c = above-none _ c.args.x c.args.k c.link-y.result c.requires.1 c.requires.2 c.link-y.ensures c.in-None.ensures.lot

@@ -13,7 +13,7 @@ seated_is_member-requires c =
 pub returns-then-seated_is_member : goal.returns-then-seated_is_member
 returns-then-seated_is_member c =
     and-go c.seated_is_member.ensures c.if-seated_is_member.true
-    (c.eq.ensures ∙ back_same _ _ _ _ c.in-Some.y _ c.opposite.ensures c.link-then-seated_is_member.ensures.link)
+    (back_same _ _ _ _ c.in-Some.y c.link-then-seated_is_member.result c.requires.1 c.in-Some.ensures.seat c.requires.2 c.opposite.ensures c.link-then-seated_is_member.ensures)
     ∙ sym (back_some _ _ _ _ c.in-Some.y c.in-Some.ensures.link)
 
 pub returns-else-seated_is_member : goal.returns-else-seated_is_member
