@@ -1,31 +1,30 @@
--- The parts of the check of the links (search's LinkCheck), by the bytes that the code reads. Assumes nothing.
-use Prim.Native.Nat.{ℕ, ◌-◌, ◌≤◌, ◌<◌}
-use mathlib.Core.Path.{◌≡◌, refl}
+-- The parts of the check of the links (search's LinkCheck), by the links that the code reads. Assumes nothing.
+use Prim.Native.Nat.{ℕ, ◌<◌}
+use mathlib.Core.Path.{◌≡◌, sym, ap, ◌∙◌}
 use mathlib.Core.Logic.{⊎_elim}
 use mathlib.Core.Option.{none, some}
-use mathlib.Core.Bool.{Bool, true, false, not, cond, ◌&&◌, ◌||◌}
+use mathlib.Core.Bool.{Bool, true, false, not, ◌&&◌, ◌||◌}
 use mathlib.Core.List.{List}
 use native.Mathlib.Omega.{arith}
 use lib.Dec.{T, eqb, leb}
 use lib.ListN.{get_or}
 use borrow.Author.Tests.{ne_eqb, lt-leb, le-leb}
 use Rattle.base.proofs.Cases.{lt-or-ge}
-use Rattle.graph.specs.Side.{side_of_number}
 use Rattle.base.proofs.Tests.{T_true}
-use Rattle.protocol.specs.State.{seated, member}
-use Rattle.record.specs.Layout.{seats, levels, phase_at, state_at, link_at}
+use Rattle.graph.specs.Side.{Side, opp}
+use Rattle.protocol.specs.State.{seated, stays, member, is_clearing}
+use Rattle.record.specs.Layout.{seats, levels, link_at}
 use Rattle.record.specs.Meaning.{link_of, seats_in, meaning}
+use Rattle.record.proofs.Links.{link_of-some, link_of-none, link-read}
 use Rattle.search.specs.Check.{same_link}
 use Rattle.search.specs.inner.LinkCheck.{back_of}
-use Rattle.record.proofs.SeatBytes.{clearing-byte, stays-byte}
-use Rattle.record.proofs.Links.{link_of-some, link_of-none, side-opp, link-read}
 use Rattle.check_links.specs.Check.{members_in}
 
 -- a test of those that m picks, which r says: one that it does not pick, and one that it does
-pub when-out : {r m : Bool} (b : Bool) → r ≡ m → not r ≡ true → true ≡ not m || b
+pub when-out : {r m : Bool} (b : Bool) → r ≡ m → r ≡ false → not r ≡ not m || b
 when-out b e f = rw (← e, f)
 
-pub when-in : {r m b s : Bool} → r ≡ m → not r ≡ false → s ≡ b → s ≡ not m || b
+pub when-in : {r m b s : Bool} → r ≡ m → r ≡ true → s ≡ b → s ≡ not m || b
 when-in e t h = rw (← e, t) h
 
 -- two links by their bytes
@@ -41,26 +40,27 @@ unfolding same_link
 same_none y = ⊎_elim (λ q. rw (link_of-some y q, lt-leb seats y q)) (λ q. rw (link_of-none y q, le-leb seats y q)) (lt-or-ge y seats)
 
 module _ (l : List ℕ) where
-  -- whether a seated lot is a member, by the bytes of phase and state
-  pub seated-member : (s : ℕ) → s < seats → T (seated (seats_in l) s)
-      → member (seats_in l) s ≡ eqb (get_or l phase_at 0) 0 || eqb (get_or l (state_at s) 0) 1
+  -- whether a seated lot is a member: c says whether the phase is clearing
+  pub open-member : (s : ℕ) {c : Bool} → T (seated (seats_in l) s) → c ≡ is_clearing (seats_in l).phase → c ≡ false → not c ≡ member (seats_in l) s
   unfolding member
-  seated-member s h t = rw (clearing-byte l, stays-byte l s h) (by (eqb (get_or l phase_at 0) 0))
-    where
-      by : (p : Bool) → cond (not p) (eqb (get_or l (state_at s) 0) 1) (seated (seats_in l) s) ≡ p || eqb (get_or l (state_at s) 0) 1
-      by true = T_true t
-      by false = refl
+  open-member s t e f = rw (← e, f, T_true t)
+
+  pub clearing-member : (s : ℕ) {c r : Bool} → c ≡ is_clearing (seats_in l).phase → c ≡ true → r ≡ stays (seats_in l) s → r ≡ member (seats_in l) s
+  unfolding member
+  clearing-member s e f h = rw (← e, f) h
 
   -- a link with its link back
-  module _ (x k d y : ℕ) (h : x < seats) (g : k < levels) (a : d < 2) (e : y ≡ get_or l (link_at x k (side_of_number d)) 0) where
-    pub back_none : seats ≤ y
-        → true ≡ back_of (members_in l) (meaning l).link x k (side_of_number d) ((meaning l).link x k (side_of_number d))
+  module _ (x k : ℕ) (d : Side) where
+    pub back_none : none ≡ (meaning l).link x k d → true ≡ back_of (members_in l) (meaning l).link x k d ((meaning l).link x k d)
     unfolding back_of
-    back_none q = rw (link-read l x k (side_of_number d) y h g e, link_of-none y q)
+    back_none e = rw (← e)
 
-    pub back_some : y < seats → back_of (members_in l) (meaning l).link x k (side_of_number d) ((meaning l).link x k (side_of_number d))
-        ≡ member (seats_in l) y && eqb (get_or l (link_at y k (side_of_number (1 - d))) 0) x
+    pub back_some : (y : ℕ) → some y ≡ (meaning l).link x k d → back_of (members_in l) (meaning l).link x k d ((meaning l).link x k d)
+        ≡ member (seats_in l) y && same_link ((meaning l).link y k (opp d)) (some x)
     unfolding back_of
-    back_some q =
-        let other = link-read l y k (side_of_number (1 - d)) (get_or l (link_at y k (side_of_number (1 - d))) 0) q g refl in
-        rw (link-read l x k (side_of_number d) y h g e, link_of-some y q, ← side-opp d a, other, same-seat _ x h)
+    back_some y e = rw (← e)
+
+    -- b is the byte of the link of y on the other side
+    pub back_same : (y b : ℕ) {away : Side} → x < seats → y < seats → k < levels → away ≡ opp d → b ≡ get_or l (link_at y k away) 0
+        → eqb b x ≡ same_link ((meaning l).link y k (opp d)) (some x)
+    back_same y b {away} h q g s e = sym (ap (λ o. same_link o (some x)) (rw s at (link-read l y k away b q g e)) ∙ same-seat b x h)

@@ -1,15 +1,9 @@
--- The answer of the check in document 01's numbers, by its cases. A refusal has a number other than 0. Assumes nothing.
-use Rattle.std.specs.Prelude.{◌<◌, true, false}
+-- The answer of the check in document 01's numbers, by its cases. Assumes nothing.
+use Rattle.std.specs.Prelude.{Bool, false, Result, Ok, Err}
+use Rattle.record.specs.Answer.{refusal_number}
+use Rattle.record.specs.declared.refusals.Refusal.{Refusal}
 use Rattle.check_links.specs.Check.{CheckAnswer}
-use Rattle.check_links.specs.declared.Verdict.{Verdict}
-use Rattle.check_links.specs.declared.Verdict.TheVariants.{Refused, Yes, No}
 
-abbrev pub verdict_numbers : Verdict → CheckAnswer
-verdict_numbers (Refused n) = record { refused = n; yes = false }
-verdict_numbers Yes = record { refused = 0; yes = true }
-verdict_numbers No = record { refused = 0; yes = false }
-
-abbrev pub VerdictNumbered : Verdict → Type 0
-VerdictNumbered (Refused n) = 0 < n
-VerdictNumbered Yes = Unit {0}
-VerdictNumbered No = Unit {0}
+abbrev pub verdict_numbers : Result Bool Refusal → CheckAnswer
+verdict_numbers (Err r) = record { refused = refusal_number r; yes = false }
+verdict_numbers (Ok y) = record { refused = 0; yes = y }

@@ -5,178 +5,138 @@
 // have their links back each lot is passed by one run at most for each level, and the whole is linear.
 #![tactic(auto)]
 
-ghost use Rattle.std.specs.Prelude.{◌≡◌, true, ◌<◌, T, length};
-ghost use Rattle.graph.specs.Side.{side_of_number};
+ghost use Rattle.std.specs.Prelude.{◌≡◌, true, ◌<◌, T, IfSome};
+ghost use Rattle.graph.specs.inner.Code.{as_side};
 ghost use Rattle.graph.specs.Vector.{width, bit};
 ghost use Rattle.protocol.specs.State.{seated, member};
-ghost use Rattle.record.specs.Layout.{seats, levels, size};
-ghost use Rattle.record.specs.Meaning.{link_of, seats_in, meaning};
+ghost use Rattle.record.specs.Layout.{seats, levels};
+ghost use Rattle.record.specs.Meaning.{seats_in, meaning};
 ghost use Rattle.record.specs.Sound.{sound};
+ghost use Rattle.record.specs.inner.Code.{as_link};
 ghost use Rattle.base.specs.Loops.{one_if, all};
 ghost use Rattle.search.specs.inner.LinkCheck.{back_of, backs_ok, ahead_of, above_ok, lot_backs, lot_aboves};
 ghost use Rattle.check_links.specs.Check.{members_in, check_in};
-ghost use Rattle.check_links.specs.Answer.{verdict_numbers, VerdictNumbered};
+ghost use Rattle.check_links.specs.Answer.{verdict_numbers};
 
-use graph::{LEFT, RIGHT};
-use record::lots::is_member;
-use record::{LEVELS, SEATS, WIDTH};
-
-// What the check answers: a refusal's number, or whether the links are right.
-#[derive(Drop)]
-pub enum Verdict {
-    Refused(u8),
-    Yes,
-    No,
-}
+use graph::Side;
+use record::lots::{is_clearing, is_member, is_staying, link};
+use record::refusals::Refusal;
+use record::{LEVELS, Record, SEATS, WIDTH};
+use soundness::sound_record;
 
 // Whether a seated lot is a member: in phase open it need not be looked at.
-fn seated_is_member(rec: &[u8], s: usize) -> bool
-    requires { (length rec.now ≡ size) × (s < seats) × T (seated (seats_in rec.now) s) }
+fn seated_is_member(rec: &Record, s: usize) -> bool
+    requires { (s < seats) × T (seated (seats_in rec.now) s) }
     ensures { result ≡ member (seats_in rec.now) s }
 {
-    record::phase(rec) == record::OPEN || record::state(rec, s) == record::STAYING
+    !is_clearing(rec) || is_staying(rec, s)
 }
 
 // Whether the link of x at level k on side d is none, or a member whose link back is x. On a sound record it names a seated lot.
-fn back_fits(rec: &[u8], x: usize, k: usize, d: usize) -> bool
-    requires { (length rec.now ≡ size) × (sound rec.now ≡ true) × (x < seats) × (k < levels) × (d < 2) }
-    ensures { let l = rec.now in
-        result ≡ back_of (members_in l) (meaning l).link x k (side_of_number d) ((meaning l).link x k (side_of_number d)) }
+fn back_fits(rec: &Record, x: usize, k: usize, d: Side) -> bool
+    requires { (sound rec.now ≡ true) × (x < seats) × (k < levels) }
+    ensures { let l = rec.now in result ≡ back_of (members_in l) (meaning l).link x k (as_side d) ((meaning l).link x k (as_side d)) }
 {
-    let y = record::link(rec, x, k, d) as usize;
-    if y >= SEATS {
-        return true;
+    match link(rec, x, k, d) {
+        // by the byte: an option compared makes a fifth more instructions of the whole check
+        Some(y) => seated_is_member(rec, y) && record::link(rec, y, k, d.opposite()) as usize == x,
+        None => true,
     }
-    seated_is_member(rec, y) && record::link(rec, y, k, 1 - d) as usize == x
 }
 
 // Both links of x at level k.
-fn backs_fit(rec: &[u8], x: usize, k: usize) -> bool
-    requires { (length rec.now ≡ size) × (sound rec.now ≡ true) × (x < seats) × (k < levels) }
+fn backs_fit(rec: &Record, x: usize, k: usize) -> bool
+    requires { (sound rec.now ≡ true) × (x < seats) × (k < levels) }
     ensures { let l = rec.now in result ≡ backs_ok (members_in l) (meaning l).link x k }
 {
-    back_fits(rec, x, k, LEFT) && back_fits(rec, x, k, RIGHT)
+    back_fits(rec, x, k, Side::Left) && back_fits(rec, x, k, Side::Right)
 }
 
 // All links of x, if it is a member.
-fn lot_backs_fit(rec: &[u8], x: usize) -> bool
-    requires { (length rec.now ≡ size) × (sound rec.now ≡ true) × (x < seats) }
+fn lot_backs_fit(rec: &Record, x: usize) -> bool
+    requires { (sound rec.now ≡ true) × (x < seats) }
     ensures { let l = rec.now in result ≡ lot_backs width (members_in l) (meaning l).link x }
 {
-    if !is_member(rec, x) {
-        return true;
-    }
-    for k in 0..LEVELS {
-        if !backs_fit(rec, x, k) {
-            return false;
-        }
-    }
-    true
+    !is_member(rec, x) || (0..LEVELS).all(|k| backs_fit(rec, x, k))
 }
 
-fn all_backs_fit(rec: &[u8]) -> bool
-    requires { (length rec.now ≡ size) × (sound rec.now ≡ true) }
+fn all_backs_fit(rec: &Record) -> bool
+    requires { sound rec.now ≡ true }
     ensures { let l = rec.now in result ≡ all seats (lot_backs width (members_in l) (meaning l).link) }
 {
-    for x in 0..SEATS {
-        if !lot_backs_fit(rec, x) {
-            return false;
-        }
-    }
-    true
+    (0..SEATS).all(|x| lot_backs_fit(rec, x))
 }
 
 // Bit k of the vector of the lot on seat s.
-fn bit_of(rec: &[u8], s: usize, k: usize) -> usize
-    requires { (length rec.now ≡ size) × (s < seats) × (k < width) }
+fn bit_of(rec: &Record, s: usize, k: usize) -> usize
+    requires { (s < seats) × (k < width) }
     ensures { result ≡ one_if (bit width k ((seats_in rec.now).vector s)) }
 {
     graph::bit(record::vector(rec, s), k)
 }
 
-// The first lot to the right of x at level k that has bit k as x; SEATS or more if there is none.
-fn ahead(rec: &[u8], x: usize, k: usize) -> usize
-    requires { (length rec.now ≡ size) × (x < seats) × (k < width) }
-    ensures { let l = rec.now in link_of result ≡ ahead_of seats width (members_in l) (meaning l).link x k }
+// The first lot to the right of x at level k that has bit k as x, if there is one.
+fn ahead(rec: &Record, x: usize, k: usize) -> Option<usize>
+    requires { (x < seats) × (k < width) }
+    ensures lot { let l = rec.now in as_link result ≡ ahead_of seats width (members_in l) (meaning l).link x k }
+    ensures seat { IfSome result (λ y. y < seats) }
 {
     let b = bit_of(rec, x, k);
-    let mut y = record::link(rec, x, k, RIGHT) as usize;
+    let mut y = link(rec, x, k, Side::Right)?;
     for _ in 0..SEATS {
-        if y >= SEATS {
-            return y;
-        }
         if bit_of(rec, y, k) == b {
-            return y;
+            break;
         }
-        y = record::link(rec, y, k, RIGHT) as usize;
+        y = link(rec, y, k, Side::Right)?;
     }
-    y
+    Some(y)
 }
 
 // Whether the right link of x one level above k is that lot. Where it is the next lot at level k it has the bit, since the record is sound.
-fn above_fits(rec: &[u8], x: usize, k: usize) -> bool
-    requires { (length rec.now ≡ size) × (sound rec.now ≡ true) × (x < seats) × (k < width) }
+fn above_fits(rec: &Record, x: usize, k: usize) -> bool
+    requires { (sound rec.now ≡ true) × (x < seats) × (k < width) }
     ensures { let l = rec.now in result ≡ above_ok seats width (members_in l) (meaning l).link x k }
 {
-    let y = record::link(rec, x, k + 1, RIGHT) as usize;
-    if record::link(rec, x, k, RIGHT) as usize == y {
+    // by the bytes: options compared make a fifth more instructions of the whole check
+    let y = record::link(rec, x, k + 1, Side::Right) as usize;
+    if record::link(rec, x, k, Side::Right) as usize == y {
         return true;
     }
-    let z = ahead(rec, x, k);
-    if z >= SEATS {
-        return y >= SEATS;
+    match ahead(rec, x, k) {
+        Some(z) => y == z,
+        None => y >= SEATS,
     }
-    y == z
 }
 
 // The right links of x above level 0, if it is a member.
-fn lot_aboves_fit(rec: &[u8], x: usize) -> bool
-    requires { (length rec.now ≡ size) × (sound rec.now ≡ true) × (x < seats) }
+fn lot_aboves_fit(rec: &Record, x: usize) -> bool
+    requires { (sound rec.now ≡ true) × (x < seats) }
     ensures { let l = rec.now in result ≡ lot_aboves seats width (members_in l) (meaning l).link x }
 {
-    if !is_member(rec, x) {
-        return true;
-    }
-    for k in 0..WIDTH {
-        if !above_fits(rec, x, k) {
-            return false;
-        }
-    }
-    true
+    !is_member(rec, x) || (0..WIDTH).all(|k| above_fits(rec, x, k))
 }
 
-fn all_aboves_fit(rec: &[u8]) -> bool
-    requires { (length rec.now ≡ size) × (sound rec.now ≡ true) }
+fn all_aboves_fit(rec: &Record) -> bool
+    requires { sound rec.now ≡ true }
     ensures { let l = rec.now in result ≡ all seats (lot_aboves seats width (members_in l) (meaning l).link) }
 {
-    for x in 0..SEATS {
-        if !lot_aboves_fit(rec, x) {
-            return false;
-        }
-    }
-    true
+    (0..SEATS).all(|x| lot_aboves_fit(rec, x))
 }
 
 // The whole test of the links of a record that is known to be sound: whether the check says yes. The links back come first, so that the runs of all
 // lots together are linear.
-pub fn links_fit(rec: &[u8]) -> bool
-    requires { (length rec.now ≡ size) × (sound rec.now ≡ true) }
+pub fn links_fit(rec: &Record) -> bool
+    requires { sound rec.now ≡ true }
     ensures { result ≡ (check_in rec.now).yes }
 {
     all_backs_fit(rec) && all_aboves_fit(rec)
 }
 
 // Whether every component of the members is the skip graph of its own lots: yes exactly if Constraints 1 to 6 hold for all members. Refused: 1 wrong
-// size, 2 unsound. A record that open has just written gives Yes.
-pub fn check(rec: &[u8]) -> Verdict
-    ensures { (verdict_numbers result ≡ check_in rec.now) × VerdictNumbered result }
+// size, 2 unsound. Of a record that open has just written the answer is yes.
+pub fn check(rec: &[u8]) -> Result<bool, Refusal>
+    ensures { verdict_numbers result ≡ check_in rec.now }
 {
-    let n = soundness::record_refusal(rec);
-    if n != 0 {
-        return Verdict::Refused(n);
-    }
-    if links_fit(rec) {
-        return Verdict::Yes;
-    }
-    Verdict::No
+    let rec = sound_record(rec)?;
+    Ok(links_fit(rec))
 }

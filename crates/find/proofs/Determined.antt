@@ -1,21 +1,26 @@
 -- The answer of find is determined by its numbers. Assumes nothing.
-use mathlib.Core.Path.{◌≡◌, ap}
+use Prim.Native.Nat.{ℕ}
+use mathlib.Core.Path.{◌≡◌, refl, ap}
 use native.Mathlib.Omega.{arith}
+use Rattle.std.specs.Prelude as code
+use Rattle.std.specs.Prelude.{Result, Ok, Err, None, Some}
+use Rattle.record.specs.declared.refusals.Refusal.{Refusal}
+use Rattle.record.proofs.Determined.{refusal_number-positive, refusal-determined}
 use Rattle.find.specs.Find.{FindAnswer}
-use Rattle.find.specs.Answer.{found_numbers, FoundNumbered}
+use Rattle.find.specs.Answer.{holder_of, found_numbers}
 use Rattle.find.specs.declared.Found.{Found}
-use Rattle.find.specs.declared.Found.TheVariants.{Refused, Holder, Nobody}
 
-pub found-determined : (a b : Found) → FoundNumbered a → FoundNumbered b → found_numbers a ≡ found_numbers b → a ≡ b
-found-determined (Refused n) (Refused m) p q e = ap (λ (x : FindAnswer). Refused x.refused) e
-found-determined (Refused n) (Holder s h) p q e = absurd (omega (arith, p, ap (λ (x : FindAnswer). x.refused) e))
-found-determined (Refused n) (Nobody h) p q e = absurd (omega (arith, p, ap (λ (x : FindAnswer). x.refused) e))
-found-determined (Holder s h) (Refused n) p q e = absurd (omega (arith, q, ap (λ (x : FindAnswer). x.refused) e))
-found-determined (Holder s h) (Holder t i) p q e =
-    let o = ap (λ (x : FindAnswer). x.holder) e in
+holder-determined : (a b : code.Option ℕ) → holder_of a ≡ holder_of b → a ≡ b
+holder-determined None None e = refl
+holder-determined None (Some t) e = cc
+holder-determined (Some s) None e = cc
+holder-determined (Some s) (Some t) e = cc
+
+pub found-determined : (a b : Result Found Refusal) → found_numbers a ≡ found_numbers b → a ≡ b
+found-determined (Ok f) (Ok g) e =
+    let o = holder-determined f.holder g.holder (ap (λ (x : FindAnswer). x.holder) e) in
     let c = ap (λ (x : FindAnswer). x.hops) e in
-    cc
-found-determined (Holder s h) (Nobody i) p q e = let o = ap (λ (x : FindAnswer). x.holder) e in cc
-found-determined (Nobody h) (Refused n) p q e = absurd (omega (arith, q, ap (λ (x : FindAnswer). x.refused) e))
-found-determined (Nobody h) (Holder t i) p q e = let o = ap (λ (x : FindAnswer). x.holder) e in cc
-found-determined (Nobody h) (Nobody i) p q e = ap (λ (x : FindAnswer). Nobody x.hops) e
+    rw (o, c)
+found-determined (Ok f) (Err r) e = absurd (omega (arith, refusal_number-positive r, ap (λ (x : FindAnswer). x.refused) e))
+found-determined (Err r) (Ok g) e = absurd (omega (arith, refusal_number-positive r, ap (λ (x : FindAnswer). x.refused) e))
+found-determined (Err r) (Err q) e = ap Err (refusal-determined r q (ap (λ (x : FindAnswer). x.refused) e))

@@ -26,7 +26,4 @@ sound-ordered h = record {
 }
 
 pub sound-fit : (l : List ℕ) → length l ≡ size → AreBytes l → sound l ≡ true → Fit l
-sound-fit l z b s = record {
-  sized = z;
-  ordered = subst (λ (r : Seats). Ordered seats width (seated r) r.number (meaning l).link) (meaning-seats l) (sound-ordered ((sound-is l z b).0 s).1);
-}
+sound-fit l z b s = subst (λ (r : Seats). Ordered seats width (seated r) r.number (meaning l).link) (meaning-seats l) (sound-ordered ((sound-is l z b).0 s).1)

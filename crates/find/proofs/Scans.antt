@@ -90,7 +90,7 @@ module _ (l : List ℕ) (b : AreBytes l) (s x : ℕ) (e : (find_in l s x).refuse
   A = accepted l s no_row
 
   o : Ordered seats width (seated (seats_in l)) (seats_in l).number (meaning l).link
-  o = (sound-fit l A.passed.sized b A.passed.fine).ordered
+  o = sound-fit l A.passed.sized b A.passed.fine
 
   -- the holder is of the staying lots of the start's component the one with the largest number that is not above the scanned one
   pub accepted-holder : RightHolder (sought_from l s) (seats_in l).number x (find_in l s x).holder

@@ -7,17 +7,16 @@ use mathlib.Core.List.{List, [], ◌∷◌}
 use native.Mathlib.Omega.{arith}
 use lib.Dec.{T}
 use lib.ListN.{length}
-use borrow.Author.Tests.{lt-ltb, le-ltb, eq-eqb, ne_eqb}
+use borrow.Author.Tests.{lt-ltb, eq-eqb, ne_eqb}
 use Rattle.memory.specs.Bytes.{AreBytes}
 use Rattle.memory.proofs.Bytes.{number_at-lt}
-use Rattle.graph.specs.Side.{Side, left, on_side, side_of, side_number, side_of_number}
+use Rattle.graph.specs.Side.{Side, left, on_side, side_of}
 use Rattle.graph.specs.Graph.{Links}
 use Rattle.graph.specs.Vector.{width}
 use Rattle.protocol.specs.State.{seated, stays}
 use Rattle.record.specs.Layout.{seats, number_size, number_from}
 use Rattle.record.specs.Meaning.{seats_in, meaning}
-use Rattle.record.proofs.Places.{side-side_number}
-use Rattle.search.specs.Walk.{stop, move, drop, along, step_at}
+use Rattle.search.specs.Walk.{Step, stop, move, drop, along, step_at}
 use Rattle.base.proofs.Count.{count-le}
 use Rattle.search.specs.inner.Search.{Search, found, moves, drops, ends, gap}
 use Rattle.search.proofs.Ordered.{rank-bound}
@@ -27,21 +26,21 @@ use Rattle.search.proofs.Left.{find-by}
 use Rattle.find.specs.declared.Walk.{Walk}
 use Rattle.find.specs.Find.{scan_of}
 use Rattle.find.specs.Way.{left_from}
-use Rattle.find.specs.inner.Steps.{as_step, Fit, remains, Ready, Went, Walked, ReadyLeft, prints}
+use Rattle.find.specs.inner.Steps.{Fit, remains, Ready, Went, Walked, ReadyLeft, prints}
 
 -- along a link y that does not lie beyond x, one that does, and none
-module _ (number : ℕ → ℕ) (L : Links) (x y : ℕ) (d : Side) {o : Option ℕ} where
-  pub along-moves : y < seats → o ≡ some y → on_side d x (number y) ≡ false → along number L x d o ≡ as_step y
+module _ (number : ℕ → ℕ) (L : Links) (x : ℕ) (d : Side) {o : Option ℕ} where
+  pub along-moves : (y : ℕ) → some y ≡ o → on_side d x (number y) ≡ false → along number L x d o ≡ move y
   unfolding along
-  along-moves h e f = rw (e, f, lt-ltb y seats h)
+  along-moves y e f = rw (← e, f)
 
-  pub along-past : o ≡ some y → on_side d x (number y) ≡ true → along number L x d o ≡ as_step seats
+  pub along-past : (y : ℕ) → some y ≡ o → on_side d x (number y) ≡ true → along number L x d o ≡ drop
   unfolding along
-  along-past e f = rw (e, f)
+  along-past y e f = rw (← e, f)
 
-  pub along-none : o ≡ none → along number L x d o ≡ as_step seats
+  pub along-none : none ≡ o → along number L x d o ≡ drop
   unfolding along
-  along-none e = rw e
+  along-none e = rw (← e)
 
 -- no step, and a step onto seat y before a path
 pub here : {w : Walk} → Went [] w w
@@ -51,12 +50,10 @@ pub onto : {y k : ℕ} {p : List ℕ} {w r : Walk} → Went p (record { seat = y
 onto v = record { seat = v.seat; hops = omega (arith, v.hops) }
 
 -- a number that is not x: the step goes along the side of x
-pub step-side : (number : ℕ → ℕ) (L : Links) (x s k d r : ℕ) → (number s ≡ x → ⊥) → d ≡ side_number (side_of (number s) x)
-    → along number L x (side_of_number d) (L s k (side_of_number d)) ≡ as_step r → step_at number L x s k ≡ as_step r
+pub step-side : (number : ℕ → ℕ) (L : Links) (x s k : ℕ) (d : Side) {r : Step} → (number s ≡ x → ⊥) → d ≡ side_of (number s) x
+    → along number L x d (L s k d) ≡ r → step_at number L x s k ≡ r
 unfolding step_at
-step-side number L x s k d r n e a =
-    let f : side_of_number d ≡ side_of (number s) x = ap side_of_number e ∙ side-side_number (side_of (number s) x) in
-    rw (ne_eqb (number s) x n) (subst (λ (q : Side). along number L x q (L s k q) ≡ as_step r) f a)
+step-side number L x s k d {r} n e a = rw (ne_eqb (number s) x n) (subst (λ (q : Side). along number L x q (L s k q) ≡ r) e a)
 
 module _ (l : List ℕ) (x : ℕ) (w : Walk) (h : Ready l x w) where
   abbrev number : ℕ → ℕ
@@ -66,7 +63,7 @@ module _ (l : List ℕ) (x : ℕ) (w : Walk) (h : Ready l x w) where
   L = (meaning l).link
 
   pub lot-seat : w.seat < seats
-  lot-seat = h.fit.ordered.seat w.seat h.lot
+  lot-seat = h.fit.seat w.seat h.lot
 
   pub stop-walked : number w.seat ≡ x → Walked l x w w
   unfolding step_at
@@ -75,15 +72,12 @@ module _ (l : List ℕ) (x : ℕ) (w : Walk) (h : Ready l x w) where
       record { path = []; search = found t; went = here }
 
   -- a move to seat y
-  module _ (y : ℕ) (p : y < seats) (t : step_at number L x w.seat w.level ≡ as_step y) where
+  module _ (y : ℕ) (t : step_at number L x w.seat w.level ≡ move y) where
     abbrev moved : Walk
     moved = record { seat = y; level = w.level; hops = w.hops + 1 }
 
-    to-move : step_at number L x w.seat w.level ≡ move y
-    to-move = rw (lt-ltb y seats p) at t
-
     nearer : T (seated (seats_in l) y) × (gap (number y) x < gap (number w.seat) x)
-    nearer = let k : w.level ≤ width = omega (arith, h.level) in move-nearer h.fit.ordered x w.seat h.lot k to-move
+    nearer = let k : w.level ≤ width = omega (arith, h.level) in move-nearer h.fit x w.seat h.lot k t
 
     -- a move is ready to go on with any hops that count no more than it
     pub move-ready : (n : ℕ) → n ≤ w.hops + 1 → Ready l x (record { seat = y; level = w.level; hops = n })
@@ -96,12 +90,9 @@ module _ (l : List ℕ) (x : ℕ) (w : Walk) (h : Ready l x w) where
     move-fits = omega (arith, nearer.1, h.room)
 
     pub move-walked : (r : Walk) → Walked l x moved r → Walked l x w r
-    move-walked r v = record { path = y ∷ v.path; search = moves to-move v.search; went = onto v.went }
+    move-walked r v = record { path = y ∷ v.path; search = moves t v.search; went = onto v.went }
 
   -- no move: a level down, or the end
-  pub to_drop : (y : ℕ) → seats ≤ y → step_at number L x w.seat w.level ≡ as_step y → step_at number L x w.seat w.level ≡ drop
-  to_drop y p t = rw (le-ltb y seats p) at t
-
   module _ (t : step_at number L x w.seat w.level ≡ drop) where
     pub end-walked : w.level ≡ 0 → Walked l x w w
     end-walked e = record { path = []; search = rw e (ends (rw e at t)); went = here }
@@ -130,7 +121,7 @@ start-room l x s b h p = rw (lt-ltb s seats h) (omega (arith, number_at-lt l (nu
 -- the walk from the top level at seat s, and what it leads to
 module _ (l : List ℕ) (x s : ℕ) (f : Fit l) (m : T (seated (seats_in l) s)) where
   pub start-seat : s < seats
-  start-seat = f.ordered.seat s m
+  start-seat = f.seat s m
 
   module _ (k : ℕ) (low : k ≤ width) where
     abbrev pub start : Walk
@@ -144,11 +135,11 @@ module _ (l : List ℕ) (x s : ℕ) (f : Fit l) (m : T (seated (seats_in l) s)) 
       pub end-ready : ReadyLeft l e
       end-ready = record {
         fit = f;
-        lot = rw v.went.seat (search-seated f.ordered m low v.search);
+        lot = rw v.went.seat (search-seated f m low v.search);
         room = omega (
           arith,
           v.went.hops,
-          search-hops f.ordered m low v.search,
+          search-hops f m low v.search,
           count-le seats (seated (seats_in l)),
           rank-bound seats (seated (seats_in l)) (seats_in l).number left e.seat,
         );
@@ -158,7 +149,7 @@ module _ (l : List ℕ) (x s : ℕ) (f : Fit l) (m : T (seated (seats_in l) s)) 
   pub end-found : (e r : Walk) → Walked l x (record { seat = s; level = width; hops = 0 }) e → Went (left_from l x e.seat) e r
       → scan_of l s x ≡ record { holder = cond (prints l x r.seat) (some r.seat) none; hops = r.hops }
   end-found e r v u =
-      find-by (stays (seats_in l)) (seats_in l).number (meaning l).link x seats width s (search-path f.ordered m v.search)
+      find-by (stays (seats_in l)) (seats_in l).number (meaning l).link x seats width s (search-path f m v.search)
       (ap (left_from l x) (sym v.went.seat))
       ∙ rw (← v.went.seat, ← u.seat, hops)
     where

@@ -1,16 +1,17 @@
--- The answer of find in document 01's numbers, by its cases. A refusal has a number other than 0. Assumes nothing.
-use Rattle.std.specs.Prelude.{◌<◌}
-use Rattle.std.proofs.Math.Option.{none, some}
+-- The answer of find in document 01's numbers, by its cases. Assumes nothing.
+use Rattle.std.specs.Prelude as code
+use Rattle.std.specs.Prelude.{ℕ, Result, Ok, Err, None, Some}
+use Rattle.std.proofs.Math.Option.{Option, none, some}
+use Rattle.record.specs.Answer.{refusal_number}
+use Rattle.record.specs.declared.refusals.Refusal.{Refusal}
 use Rattle.find.specs.Find.{FindAnswer}
 use Rattle.find.specs.declared.Found.{Found}
-use Rattle.find.specs.declared.Found.TheVariants.{Refused, Holder, Nobody}
 
-abbrev pub found_numbers : Found → FindAnswer
-found_numbers (Refused n) = record { refused = n; holder = none; hops = 0 }
-found_numbers (Holder s h) = record { refused = 0; holder = some s; hops = h }
-found_numbers (Nobody h) = record { refused = 0; holder = none; hops = h }
+-- a holder's seat, or none
+abbrev pub holder_of : code.Option ℕ → Option ℕ
+holder_of None = none
+holder_of (Some s) = some s
 
-abbrev pub FoundNumbered : Found → Type 0
-FoundNumbered (Refused n) = 0 < n
-FoundNumbered (Holder s h) = Unit {0}
-FoundNumbered (Nobody h) = Unit {0}
+abbrev pub found_numbers : Result Found Refusal → FindAnswer
+found_numbers (Err r) = record { refused = refusal_number r; holder = none; hops = 0 }
+found_numbers (Ok f) = record { refused = 0; holder = holder_of f.holder; hops = f.hops }

@@ -3,61 +3,59 @@
 // Links stay within a component, so it finds lots of its start's component alone.
 #![tactic(auto)]
 
-ghost use Rattle.std.specs.Prelude.{◌≡◌, true, ◌<◌, T, length};
+ghost use Rattle.std.specs.Prelude.{◌≡◌, true, ◌<◌, T, Ok};
 ghost use Rattle.protocol.specs.State.{seated};
-ghost use Rattle.record.specs.Layout.{seats, levels, size};
+ghost use Rattle.record.specs.Answer.{number_of};
+ghost use Rattle.record.specs.Layout.{seats, levels};
 ghost use Rattle.record.specs.Sound.{sound};
 ghost use Rattle.record.specs.Meaning.{seats_in, meaning};
-ghost use Rattle.graph.specs.Side.{side_of_number};
-ghost use Rattle.search.specs.Walk.{along as alongOf, step_at, drop};
+ghost use Rattle.graph.specs.inner.Code.{as_side};
+ghost use Rattle.search.specs.Walk.{along as along_of, step_at, drop};
 ghost use Rattle.messages.specs.inner.Numbers.{first_pending};
+ghost use Rattle.messages.specs.inner.Places.{IsPlace};
 ghost use Rattle.check_links.specs.Settled.{settled};
 ghost use Rattle.find.specs.Find.{searched, scan_of, find_refusal, find_in};
-ghost use Rattle.find.specs.Answer.{found_numbers, FoundNumbered};
+ghost use Rattle.find.specs.Answer.{found_numbers};
 ghost use Rattle.find.specs.Way.{left_from};
 ghost use Rattle.find.specs.inner.Steps.{as_step, Fit, Ready, Walked, Went, ReadyLeft, WentLeft, prints};
 
 use check_links::links_fit;
-use graph::{LEFT, on_side, side_of};
-use record::lots::{is_clearing, is_seated, is_staying};
-use record::refusals::{EMPTY_SEAT, NO_SUCH_SEAT, UNSETTLED};
-use record::{MESSAGES, SEATS};
+use graph::{Side, on_side, side_of};
+use record::lots::{is_clearing, is_seated, is_staying, link};
+use record::refusals::Refusal;
+use record::{Record, SEATS};
 use soundness::look;
 
-#[derive(Drop)]
-pub enum Found {
-    Refused(u8),
-    Holder(u8, u64),
-    Nobody(u64),
+// What a scan finds: the seat of the holder, if there is one, and the hops to where the search ended.
+#[derive(Clone, Copy, Debug, PartialEq, Eq)]
+pub struct Found {
+    pub holder: Option<u8>,
+    pub hops: u64,
 }
 
 // Where a walk stands, and its moves so far.
-#[derive(Drop)]
+#[derive(Clone, Copy)]
 pub struct Walk {
     pub seat: usize,
     pub level: usize,
     pub hops: u64,
 }
 
-// The link of seat s at level k on side d, or SEATS if there is none or it lies beyond x.
-fn along(rec: &[u8], s: usize, k: usize, d: usize, x: u64) -> usize
-    requires { (length rec.now ≡ size) × (s < seats) × (k < levels) × (d < 2) }
-    ensures { alongOf (seats_in rec.now).number (meaning rec.now).link x (side_of_number d)
-        ((meaning rec.now).link s k (side_of_number d)) ≡ as_step result }
+// The link of seat s at level k on side d, unless it lies beyond x.
+fn along(rec: &Record, s: usize, k: usize, d: Side, x: u64) -> Option<usize>
+    requires { (s < seats) × (k < levels) }
+    ensures { along_of (seats_in rec.now).number (meaning rec.now).link x (as_side d) ((meaning rec.now).link s k (as_side d)) ≡ as_step result }
 {
-    let y = record::link(rec, s, k, d) as usize;
-    if y >= SEATS {
-        return SEATS;
-    }
+    let y = link(rec, s, k, d)?;
     if on_side(d, x, record::number(rec, y)) {
-        return SEATS;
+        return None;
     }
-    y
+    Some(y)
 }
 
 // Where the walk goes from seat s at level k, if the number there is not x.
-fn step(rec: &[u8], s: usize, k: usize, x: u64) -> usize
-    requires { (length rec.now ≡ size) × (s < seats) × (k < levels) × ((seats_in rec.now).number s ≡ x → ⊥) }
+fn step(rec: &Record, s: usize, k: usize, x: u64) -> Option<usize>
+    requires { (s < seats) × (k < levels) × ((seats_in rec.now).number s ≡ x → ⊥) }
     ensures { step_at (seats_in rec.now).number (meaning rec.now).link x s k ≡ as_step result }
 {
     let d = side_of(record::number(rec, s), x);
@@ -65,8 +63,8 @@ fn step(rec: &[u8], s: usize, k: usize, x: u64) -> usize
 }
 
 // Whether the lot on seat s may be printed on a label for x: it stays, and its number is not above x.
-fn is_printable(rec: &[u8], s: usize, x: u64) -> bool
-    requires { (length rec.now ≡ size) × (s < seats) }
+fn is_printable(rec: &Record, s: usize, x: u64) -> bool
+    requires { s < seats }
     ensures { result ≡ prints rec.now x s }
 {
     is_staying(rec, s) && record::number(rec, s) <= x
@@ -75,78 +73,60 @@ fn is_printable(rec: &[u8], s: usize, x: u64) -> bool
 impl Walk {
     // On along the level, until the number is x or the way is barred.
     #[cycle(advance_descend)]
-    fn advance(self, rec: &[u8], x: u64) -> Walk
+    fn advance(self, rec: &Record, x: u64) -> Walk
         requires { Ready rec.now x self }
         ensures { Walked rec.now x self result }
     {
-        let s = self.seat;
-        let k = self.level;
-        let h = self.hops;
-        if record::number(rec, s) == x {
+        if record::number(rec, self.seat) == x {
             return self;
         }
-        let y = step(rec, s, k, x);
-        if y < SEATS {
-            let w = Walk {
-                seat: y,
-                level: k,
-                hops: h + 1,
-            };
-            w.advance(rec, x)
-        } else {
-            self.descend(rec, x)
+        match step(rec, self.seat, self.level, x) {
+            Some(y) => {
+                let w = Walk {
+                    seat: y,
+                    level: self.level,
+                    hops: self.hops + 1,
+                };
+                w.advance(rec, x)
+            }
+            None => self.descend(rec, x),
         }
     }
 
     // A level down, or at level 0 the end.
     #[cycle(advance_descend)]
-    fn descend(self, rec: &[u8], x: u64) -> Walk
+    fn descend(self, rec: &Record, x: u64) -> Walk
         requires { Ready rec.now x self × (step_at (seats_in rec.now).number (meaning rec.now).link x self.seat self.level ≡ drop) }
         ensures { Walked rec.now x self result }
     {
-        let s = self.seat;
-        let k = self.level;
-        let h = self.hops;
-        if k == 0 {
+        if self.level == 0 {
             return self;
         }
         let w = Walk {
-            seat: s,
-            level: k - 1,
-            hops: h,
+            seat: self.seat,
+            level: self.level - 1,
+            hops: self.hops,
         };
         w.advance(rec, x)
     }
 
     // Onto the level-0 left link and on along these, to the first staying lot or as far as they lead.
-    fn leftward(self, rec: &[u8]) -> Walk
+    fn leftward(mut self, rec: &Record) -> Walk
         requires { ReadyLeft rec.now self }
         ensures { WentLeft rec.now self result }
     {
-        let mut s = self.seat;
-        let mut h = self.hops;
-        let mut y = record::link(rec, s, 0, LEFT) as usize;
-        while y < SEATS {
-            s = y;
-            h = h + 1;
-            if is_staying(rec, s) {
-                return Walk {
-                    seat: s,
-                    level: 0,
-                    hops: h,
-                };
+        while let Some(y) = link(rec, self.seat, 0, Side::Left) {
+            self.seat = y;
+            self.hops += 1;
+            if is_staying(rec, y) {
+                return self;
             }
-            y = record::link(rec, s, 0, LEFT) as usize;
         }
-        Walk {
-            seat: s,
-            level: 0,
-            hops: h,
-        }
+        self
     }
 
     // From the end of the walk to where the holder of x is: no step if the lot may be printed.
-    fn to_holder(self, rec: &[u8], x: u64) -> Walk
+    fn to_holder(self, rec: &Record, x: u64) -> Walk
         requires { ReadyLeft rec.now self }
         ensures { Went (left_from rec.now x self.seat) self result }
     {
@@ -158,9 +138,9 @@ impl Walk {
 }
 
 // The search from the lot on seat s.
-fn search(rec: &[u8], s: usize, x: u64) -> Found
+fn search(rec: &Record, s: usize, x: u64) -> Found
     requires { Fit rec.now × T (seated (seats_in rec.now) s) }
-    ensures { (found_numbers result ≡ searched (scan_of rec.now s x)) × FoundNumbered result }
+    ensures { found_numbers (Ok result) ≡ searched (scan_of rec.now s x) }
 {
     let w = Walk {
         seat: s,
@@ -169,50 +149,48 @@ fn search(rec: &[u8], s: usize, x: u64) -> Found
     };
     let e = w.advance(rec, x);
     let r = e.to_holder(rec, x);
-    if is_printable(rec, r.seat, x) {
-        return Found::Holder(r.seat as u8, r.hops);
+    let holder = is_printable(rec, r.seat, x).then_some(r.seat as u8);
+    Found {
+        holder,
+        hops: r.hops,
     }
-    Found::Nobody(r.hops)
 }
 
 // Whether a sound record is settled, where `first` is the place of its first pending message.
-fn is_settled(rec: &[u8], first: usize) -> bool
-    requires { (length rec.now ≡ size) × (sound rec.now ≡ true) × (first ≡ first_pending rec.now 0) }
+fn is_settled(rec: &Record, first: Option<usize>) -> bool
+    requires { (sound rec.now ≡ true) × IsPlace first (first_pending rec.now 0) }
     ensures { result ≡ settled rec.now }
 {
-    !is_clearing(rec) && (first == MESSAGES && links_fit(rec))
+    !is_clearing(rec) && (first.is_none() && links_fit(rec))
 }
 
-// The refusal of a scan from a seat: 1, 2, 3, 8, 13, or 0. The size, soundness and the pending bits are looked at once.
-fn find_refusal(rec: &[u8], seat: u8) -> u8
-    ensures { result ≡ find_refusal rec.now seat }
+// The refusal of a scan from a seat, if it is refused: 2, 3, 8, 13. Soundness and the pending bits are looked at once.
+fn find_refusal(rec: &Record, s: usize) -> Result<(), Refusal>
+    ensures { number_of result ≡ find_refusal rec.now s }
 {
-    let seen = look(rec);
-    if seen.refused != 0 {
-        return seen.refused;
-    }
-    let s = seat as usize;
+    let first = look(rec)?;
     if s >= SEATS {
-        return NO_SUCH_SEAT;
+        return Err(Refusal::NoSuchSeat);
     }
     if !is_seated(rec, s) {
-        return EMPTY_SEAT;
+        return Err(Refusal::EmptySeat);
     }
-    if !is_settled(rec, seen.first) {
-        return UNSETTLED;
+    if !is_settled(rec, first) {
+        return Err(Refusal::Unsettled);
     }
-    0
+    Ok(())
 }
 
 // The staying lot that a scanned number belongs to among those of the component of the lot on a seat, where the search starts; leaving lots are
 // passed, each step onto a lot one hop.
 // Refused: 1, 2, 3, 8, 13.
-pub fn find(rec: &[u8], seat: u8, number: u64) -> Found
-    ensures { (found_numbers result ≡ find_in rec.now seat number) × FoundNumbered result }
+pub fn find(rec: &[u8], seat: u8, number: u64) -> Result<Found, Refusal>
+    ensures { found_numbers result ≡ find_in rec.now seat number }
 {
-    let n = find_refusal(rec, seat);
-    if n != 0 {
-        return Found::Refused(n);
-    }
-    search(rec, seat as usize, number)
+    let Some(rec) = rec.as_array() else {
+        return Err(Refusal::WrongSize);
+    };
+    let s = seat as usize;
+    find_refusal(rec, s)?;
+    Ok(search(rec, s, number))
 }

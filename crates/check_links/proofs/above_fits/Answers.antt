@@ -1,24 +1,23 @@
 -- `check_links::above_fits` meets its contract. Assumes nothing.
-use native.Mathlib.Omega.{arith}
-use Rattle.check_links.proofs.Runs.{above-none, above-some}
-use Rattle.check_links.proofs.Whole.{above-near}
+use mathlib.Core.Path.{sym, ap, ◌∙◌}
 use borrow.Author.Rules.{rules}
+use Rattle.graph.specs.Side.{right}
+use Rattle.record.specs.Meaning.{link_of}
+use Rattle.record.proofs.Links.{link-read}
+use Rattle.check_links.proofs.Runs.{above-byte, above-none, above-some}
+use Rattle.check_links.proofs.Whole.{above-near}
 use Rattle.check_links.proofs.above_fits.Goals as goal
 
 pub returns-then-link-y : goal.returns-then-link-y
 returns-then-link-y c =
-    let s = c.args in
-    above-near s.rec.now (search rules) (λ j. omega (arith, c.type_inv.rec j)) (search rules)
-    s.x s.k c.link-y.result c.link.result (search rules) (search rules) c.link-y.ensures c.link.ensures c.if-link-y.true
+    let a = c.args in
+    let up = above-byte a.rec.now a.x a.k c.link-y.result c.requires.1 c.requires.2 c.link-y.ensures in
+    let near = link-read a.rec.now a.x a.k right c.link.result c.requires.1 (search rules) c.link.ensures ∙ ap link_of c.if-link-y.true in
+    sym (above-near a.rec.now (search rules) (λ j. search rules) c.requires.0 a.x a.k _ up near)
 
-pub returns-then-z-ge-SEATS : goal.returns-then-z-ge-SEATS
-returns-then-z-ge-SEATS c =
-    let s = c.args in
-    above-none s.rec.now s.x s.k c.link-y.result c.ahead-z.result (search rules) (search rules)
-    c.link-y.ensures c.ahead-z.ensures c.if-z-ge-SEATS.true
+pub returns-in-Some : goal.returns-in-Some
+returns-in-Some c =
+    above-some _ c.args.x c.args.k c.link-y.result c.requires.1 c.requires.2 c.link-y.ensures c.in-Some.z c.in-Some.ensures.seat c.in-Some.ensures.lot
 
-pub returns : goal.returns
-returns c =
-    let s = c.args in
-    above-some s.rec.now s.x s.k c.link-y.result c.ahead-z.result (search rules) (search rules)
-    c.link-y.ensures c.ahead-z.ensures c.if-z-ge-SEATS.false
+pub returns-in-None : goal.returns-in-None
+returns-in-None c = above-none _ c.args.x c.args.k c.link-y.result c.requires.1 c.requires.2 c.link-y.ensures c.in-None.ensures.lot

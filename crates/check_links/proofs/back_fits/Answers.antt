@@ -1,40 +1,24 @@
 -- `check_links::back_fits` meets its contract. Assumes nothing.
-use Prim.Native.Nat.{ℕ}
-use mathlib.Core.Path.{ap}
-use native.Mathlib.Omega.{arith}
-use lib.Dec.{eqb}
-use Rattle.base.proofs.Stops.{and-stop, and-go}
-use Rattle.graph.specs.Side.{side_of_number}
-use Rattle.check_links.proofs.Parts.{back_none, back_some}
-use Rattle.check_links.proofs.Whole.{link-seated}
+use mathlib.Core.Path.{sym, ◌∙◌}
 use borrow.Author.Rules.{rules}
+use Rattle.base.proofs.Stops.{and-stop, and-go}
+use Rattle.check_links.proofs.Parts.{back_none, back_some, back_same}
+use Rattle.check_links.proofs.Whole.{link-seated}
 use Rattle.check_links.proofs.back_fits.Goals as goal
-
-pub returns-then-y-ge-SEATS : goal.returns-then-y-ge-SEATS
-returns-then-y-ge-SEATS c = let s = c.args in
-    back_none s.rec.now s.x s.k s.d c.link-y.result (search rules) (search rules) (search rules)
-    c.link-y.ensures c.if-y-ge-SEATS.true
 
 pub seated_is_member-requires : goal.seated_is_member-requires
 seated_is_member-requires c =
-    let s = c.args in
-    let r = c.link-y in (
-      search rules,
-      search rules,
-      link-seated s.rec.now (search rules) (λ j. omega (arith, c.type_inv.rec j)) (search rules)
-          s.x s.k (side_of_number s.d) r.result (search rules) (search rules) r.ensures c.if-y-ge-SEATS.false,
-    )
+    (c.in-Some.ensures.seat, link-seated _ (search rules) (λ j. search rules) c.requires.0 _ _ _ _ c.in-Some.ensures.link)
 
 pub returns-then-seated_is_member : goal.returns-then-seated_is_member
 returns-then-seated_is_member c =
-    let s = c.args in
-    let r = c.link-y in
-    rw (back_some s.rec.now s.x s.k s.d r.result (search rules) (search rules) (search rules) r.ensures c.if-y-ge-SEATS.false)
-    (and-go c.seated_is_member.ensures c.if-seated_is_member.true (ap (λ (z : ℕ). eqb z s.x) c.link.ensures))
+    and-go c.seated_is_member.ensures c.if-seated_is_member.true
+    (back_same _ _ _ _ c.in-Some.y c.link-then-seated_is_member.result c.requires.1 c.in-Some.ensures.seat c.requires.2 c.opposite.ensures c.link-then-seated_is_member.ensures)
+    ∙ sym (back_some _ _ _ _ c.in-Some.y c.in-Some.ensures.link)
 
 pub returns-else-seated_is_member : goal.returns-else-seated_is_member
 returns-else-seated_is_member c =
-    let s = c.args in
-    let r = c.link-y in
-    rw (back_some s.rec.now s.x s.k s.d r.result (search rules) (search rules) (search rules) r.ensures c.if-y-ge-SEATS.false)
-    (and-stop _ c.seated_is_member.ensures c.if-seated_is_member.false)
+    and-stop _ c.seated_is_member.ensures c.if-seated_is_member.false ∙ sym (back_some _ _ _ _ c.in-Some.y c.in-Some.ensures.link)
+
+pub returns-in-None : goal.returns-in-None
+returns-in-None c = back_none _ _ _ _ c.in-None.ensures.link

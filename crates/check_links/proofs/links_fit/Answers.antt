@@ -1,6 +1,5 @@
 -- `check_links::links_fit` meets its contract. Assumes nothing.
 use mathlib.Core.Path.{◌∙◌}
-use native.Mathlib.Omega.{arith}
 use Rattle.base.proofs.Stops.{and-stop, and-go}
 use Rattle.search.specs.inner.LinkCheck.{constraints_ok}
 use Rattle.check_links.proofs.Whole.{links-say}
@@ -11,10 +10,10 @@ pub returns-then-all_backs_fit : goal.returns-then-all_backs_fit
 unfolding constraints_ok
 returns-then-all_backs_fit c =
     and-go c.all_backs_fit.ensures c.if-all_backs_fit.true c.all_aboves_fit.ensures
-    ∙ links-say c.args.rec.now (search rules) (λ j. omega (arith, c.type_inv.rec j)) (search rules)
+    ∙ links-say c.args.rec.now (search rules) (λ j. search rules) c.requires
 
 pub returns-else-all_backs_fit : goal.returns-else-all_backs_fit
 unfolding constraints_ok
 returns-else-all_backs_fit c =
     and-stop _ c.all_backs_fit.ensures c.if-all_backs_fit.false
-    ∙ links-say c.args.rec.now (search rules) (λ j. omega (arith, c.type_inv.rec j)) (search rules)
+    ∙ links-say c.args.rec.now (search rules) (λ j. search rules) c.requires

@@ -1,14 +1,9 @@
 -- `check_links::seated_is_member` meets its contract. Assumes nothing.
-use borrow.Author.Tests.{eq-eqb, ne_eqb}
-use Rattle.check_links.proofs.Parts.{seated-member}
-use borrow.Author.Rules.{rules}
+use Rattle.check_links.proofs.Parts.{open-member, clearing-member}
 use Rattle.check_links.proofs.seated_is_member.Goals as goal
 
-pub returns-then-phase-eq-OPEN : goal.returns-then-phase-eq-OPEN
-returns-then-phase-eq-OPEN c = let s = c.args in
-    rw (seated-member s.rec.now s.s (search rules) (search rules), ← c.phase.ensures, eq-eqb _ _ c.if-phase-eq-OPEN.true)
+pub returns-then-not-is_clearing : goal.returns-then-not-is_clearing
+returns-then-not-is_clearing c = open-member _ _ c.requires.1 c.is_clearing.ensures c.if-not-is_clearing.true
 
-pub returns-else-phase-eq-OPEN : goal.returns-else-phase-eq-OPEN
-returns-else-phase-eq-OPEN c =
-    let s = c.args in
-    rw (seated-member s.rec.now s.s (search rules) (search rules), ← c.phase.ensures, ← c.state.ensures, ne_eqb _ _ c.if-phase-eq-OPEN.false)
+pub returns-else-not-is_clearing : goal.returns-else-not-is_clearing
+returns-else-not-is_clearing c = clearing-member _ _ c.is_clearing.ensures c.if-not-is_clearing.false c.is_staying.ensures

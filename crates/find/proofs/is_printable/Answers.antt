@@ -10,7 +10,7 @@ use Rattle.find.proofs.is_printable.Goals as goal
 pub returns-then-is_staying : goal.returns-then-is_staying
 unfolding printable
 returns-then-is_staying c =
-    let n = number_read c.args.rec.now c.args.s c.number.result c.requires.1 c.number.ensures in
+    let n = number_read c.args.rec.now c.args.s c.number.result c.requires c.number.ensures in
     and-go c.is_staying.ensures c.if-is_staying.true (ap (λ (m : ℕ). leb m c.args.x) (sym n))
 
 pub returns-else-is_staying : goal.returns-else-is_staying

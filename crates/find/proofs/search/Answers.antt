@@ -1,11 +1,14 @@
 -- `find::search` meets its contract. Assumes nothing.
-use Prim.Native.Nat.{◌<◌}
-use mathlib.Core.Path.{◌≡◌, sym, ◌∙◌, ap}
+use Prim.Native.Nat.{ℕ, ◌<◌}
+use mathlib.Core.Path.{◌≡◌, refl, ◌∙◌, ap}
 use mathlib.Core.Option.{none, some}
-use mathlib.Core.Bool.{cond}
+use mathlib.Core.Bool.{Bool, true, false, cond}
 use native.Mathlib.Omega.{arith}
+use borrow.Author.Rules.{rules}
 use Rattle.record.specs.Layout.{seats}
-use Rattle.find.specs.Find.{searched, scan_of}
+use Rattle.std.specs.Bool.{then_some}
+use Rattle.find.specs.Find.{scan_of}
+use Rattle.find.specs.Answer.{holder_of}
 use Rattle.find.specs.inner.Steps.{prints}
 use Rattle.find.proofs.Steps.{start-ready, end-ready, end-found}
 use Rattle.find.proofs.Leftward.{holder-seat}
@@ -15,7 +18,7 @@ use Rattle.find.proofs.search.Goals.{After-to_holder-r}
 pub advance-e-requires : goal.advance-e-requires
 advance-e-requires c =
     start-ready c.args.rec.now c.args.x c.args.s c.requires.0 c.requires.1 _ (omega arith)
-    (λ j. omega (arith, c.type_inv.rec j)) (omega arith)
+    (λ j. search rules) (omega arith)
 
 -- the end of the walk
 pub to_holder-r-requires : goal.to_holder-r-requires
@@ -36,15 +39,17 @@ found c =
     c.advance-e.ensures c.to_holder-r.ensures
 
 pub is_printable-requires : goal.is_printable-requires
-is_printable-requires c = (c.requires.0.sized, ends (goal.at.is_printable-requires c).After-to_holder-r)
+is_printable-requires c = ends (goal.at.is_printable-requires c).After-to_holder-r
 
-pub overflow_cast-result : goal.overflow_cast-result
-overflow_cast-result c = omega (arith, ends (goal.at.overflow_cast-result c).After-to_holder-r)
+pub overflow_cast-r : goal.overflow_cast-r
+overflow_cast-r c = omega (arith, ends (goal.at.overflow_cast-r c).After-to_holder-r)
 
-pub returns-then-is_printable : goal.returns-then-is_printable
-returns-then-is_printable c = let e = sym c.is_printable.ensures ∙ c.if-is_printable.true in
-    (sym (ap searched (found (goal.at.returns-then-is_printable c).After-to_holder-r ∙ rw e)), tt)
+-- the holder's seat, or none
+holding : (b : Bool) (s : ℕ) → holder_of (then_some b s) ≡ cond b (some s) none
+holding true s = refl
+holding false s = refl
 
 pub returns : goal.returns
-returns c = let e = sym c.is_printable.ensures ∙ c.if-is_printable.false in
-    (sym (ap searched (found (goal.at.returns c).After-to_holder-r ∙ rw e)), tt)
+returns c =
+    let h = ap holder_of c.then_some-holder.ensures ∙ holding c.is_printable.result c.to_holder-r.result.seat in
+    rw (h, c.is_printable.ensures, found (goal.at.returns c).After-to_holder-r)

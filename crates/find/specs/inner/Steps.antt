@@ -1,23 +1,23 @@
 -- What the inner functions of find promise: a step of the walk, the walk from where it stands, and the left steps. Assumes nothing.
-use Rattle.std.specs.Prelude.{ℕ, ◌+◌, ◌*◌, ◌^◌, ◌<◌, ◌≡◌, Bool, cond, List, T, ltb, length}
+use Rattle.std.specs.Prelude.{ℕ, ◌+◌, ◌*◌, ◌^◌, ◌<◌, ◌≡◌, Bool, List, T, Option, None, Some, length}
 use Rattle.graph.specs.Side.{left}
 use Rattle.graph.specs.Vector.{width}
 use Rattle.protocol.specs.State.{seated, stays}
-use Rattle.record.specs.Layout.{seats, levels, size}
+use Rattle.record.specs.Layout.{seats, levels}
 use Rattle.record.specs.Meaning.{seats_in, meaning}
 use Rattle.search.specs.Walk.{Step, move, drop, last_of, printable}
 use Rattle.search.specs.inner.Ordered.{Ordered, rank}
 use Rattle.search.specs.inner.Search.{Search, gap, Leftward}
 use Rattle.find.specs.declared.Walk.{Walk}
 
--- a seat to move to, or above the last one a drop
-abbrev pub as_step : ℕ → Step
-as_step y = cond (ltb y seats) (move y) drop
+-- a seat to move to, or else a drop
+abbrev pub as_step : Option ℕ → Step
+as_step None = drop
+as_step (Some y) = move y
 
 -- bytes on which a walk ends: every sound record
-pub record Fit (l : List ℕ) : Type 0 where
-  pub sized : length l ≡ size
-  pub ordered : Ordered seats width (seated (seats_in l)) (seats_in l).number (meaning l).link
+abbrev pub Fit : List ℕ → Type 0
+Fit l = Ordered seats width (seated (seats_in l)) (seats_in l).number (meaning l).link
 
 -- how far the walk is from the scanned number x
 abbrev pub far : List ℕ → ℕ → Walk → ℕ

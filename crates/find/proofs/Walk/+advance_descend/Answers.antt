@@ -3,11 +3,11 @@ use mathlib.Core.Path.{sym, ◌∙◌}
 use native.Mathlib.Omega.{arith}
 use Rattle.find.proofs.Read.{number_read}
 use Rattle.find.proofs.Steps.{lot-seat, stop-walked, move-ready, move-less, move-fits, move-walked}
-use Rattle.find.proofs.Steps.{to_drop, end-walked, drop-ready, drop-walked}
+use Rattle.find.proofs.Steps.{end-walked, drop-ready, drop-walked}
 use Rattle.find.proofs.Walk.+advance_descend.Goals as goal
 
 pub advance-number-requires : goal.advance-number-requires
-advance-number-requires t c = let h = c.requires in (h.fit.sized, lot-seat c.args.rec.now c.args.x c.args.self h)
+advance-number-requires t c = lot-seat c.args.rec.now c.args.x c.args.self c.requires
 
 pub advance-returns-then-number-x : goal.advance-returns-then-number-x
 advance-returns-then-number-x t c =
@@ -16,17 +16,17 @@ advance-returns-then-number-x t c =
     let h = c.requires in
     stop-walked l c.args.x w h (number_read l w.seat c.number.result (lot-seat l c.args.x w h) c.number.ensures ∙ c.if-number-x.true)
 
-pub advance-step-y-requires : goal.advance-step-y-requires
-advance-step-y-requires t c =
+pub advance-step-requires : goal.advance-step-requires
+advance-step-requires t c =
     let l = c.args.rec.now in
     let w = c.args.self in
     let h = c.requires in
     let seat = lot-seat l c.args.x w h in
-    (h.fit.sized, seat, h.level, λ e. c.if-number-x.false (sym (number_read l w.seat c.number.result seat c.number.ensures) ∙ e))
+    (seat, h.level, λ e. c.if-number-x.false (sym (number_read l w.seat c.number.result seat c.number.ensures) ∙ e))
 
 pub advance-overflow_add-w : goal.advance-overflow_add-w
 advance-overflow_add-w t c =
-    let q = move-fits c.args.rec.now c.args.x c.args.self c.requires c.step-y.result c.if-y-lt-SEATS.true c.step-y.ensures in
+    let q = move-fits c.args.rec.now c.args.x c.args.self c.requires c.in-Some.y c.in-Some.ensures in
     omega arith
 
 pub advance-advance-requires : goal.advance-advance-requires
@@ -35,24 +35,21 @@ advance-advance-requires t c =
     let x = c.args.x in
     let w = c.args.self in
     let h = c.requires in
-    let y = c.step-y.result in
-    let d = move-less l x w h y c.if-y-lt-SEATS.true c.step-y.ensures in
-    (omega arith, move-ready l x w h y c.if-y-lt-SEATS.true c.step-y.ensures _ (omega arith))
+    let d = move-less l x w h c.in-Some.y c.in-Some.ensures in
+    (omega arith, move-ready l x w h c.in-Some.y c.in-Some.ensures _ (omega arith))
 
 pub advance-descend-requires : goal.advance-descend-requires
-advance-descend-requires t c =
-    let h = c.requires in
-    (omega arith, (h, to_drop c.args.rec.now c.args.x c.args.self h c.step-y.result c.if-y-lt-SEATS.false c.step-y.ensures))
+advance-descend-requires t c = (omega arith, (c.requires, c.in-None.ensures))
 
-pub advance-returns-then-y-lt-SEATS : goal.advance-returns-then-y-lt-SEATS
-advance-returns-then-y-lt-SEATS t c =
-    move-walked c.args.rec.now c.args.x c.args.self c.requires c.step-y.result c.if-y-lt-SEATS.true c.step-y.ensures c.advance.result c.advance.ensures
+pub advance-returns-in-Some : goal.advance-returns-in-Some
+advance-returns-in-Some t c =
+    move-walked c.args.rec.now c.args.x c.args.self c.requires c.in-Some.y c.in-Some.ensures c.advance.result c.advance.ensures
 
-pub advance-returns-else-y-lt-SEATS : goal.advance-returns-else-y-lt-SEATS
-advance-returns-else-y-lt-SEATS t c = c.descend.ensures
+pub advance-returns-in-None : goal.advance-returns-in-None
+advance-returns-in-None t c = c.descend.ensures
 
-pub descend-returns-then-k-eq0 : goal.descend-returns-then-k-eq0
-descend-returns-then-k-eq0 t c = let h = c.requires in end-walked c.args.rec.now c.args.x c.args.self h.0 h.1 c.if-k-eq0.true
+pub descend-returns-then-self-eq0 : goal.descend-returns-then-self-eq0
+descend-returns-then-self-eq0 t c = let h = c.requires in end-walked c.args.rec.now c.args.x c.args.self h.0 h.1 c.if-self-eq0.true
 
 pub descend-overflow_sub-w : goal.descend-overflow_sub-w
 descend-overflow_sub-w t c = omega arith
@@ -60,9 +57,9 @@ descend-overflow_sub-w t c = omega arith
 pub descend-advance-requires : goal.descend-advance-requires
 descend-advance-requires t c =
     let h = c.requires in
-    (omega (arith, c.if-k-eq0.false), drop-ready c.args.rec.now c.args.x c.args.self h.0 h.1 c.if-k-eq0.false)
+    (omega (arith, c.if-self-eq0.false), drop-ready c.args.rec.now c.args.x c.args.self h.0 h.1 c.if-self-eq0.false)
 
 pub descend-returns : goal.descend-returns
 descend-returns t c =
     let h = c.requires in
-    drop-walked c.args.rec.now c.args.x c.args.self h.0 h.1 c.if-k-eq0.false c.advance.result c.advance.ensures
+    drop-walked c.args.rec.now c.args.x c.args.self h.0 h.1 c.if-self-eq0.false c.advance.result c.advance.ensures

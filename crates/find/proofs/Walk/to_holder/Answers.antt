@@ -4,7 +4,7 @@ use Rattle.find.proofs.Leftward.{left-seat, stays-there, goes_on}
 use Rattle.find.proofs.Walk.to_holder.Goals as goal
 
 pub is_printable-requires : goal.is_printable-requires
-is_printable-requires c = (c.requires.fit.sized, left-seat c.requires)
+is_printable-requires c = left-seat c.requires
 
 pub returns-then-is_printable : goal.returns-then-is_printable
 returns-then-is_printable c =
