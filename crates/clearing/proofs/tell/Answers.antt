@@ -1,19 +1,23 @@
--- `clearing::tell` meets its contract. Assumes nothing.
-use mathlib.Core.Path.{ap, ◌∙◌}
-use native.Mathlib.Omega.{arith}
-use Rattle.memory.specs.Bits.{set_bit}
-use Rattle.record.specs.Layout.{pending_from}
-use Rattle.clearing.proofs.Telling.{tell-sent, tell_none}
+use Rattle.std.proofs.Common.{rules, ◌≡◌, ℕ, ◌<◌, ◌+◌, ◌-◌, ◌*◌, ◌≤◌, length, ◌/◌, ◌%◌, Bool, true, false, nat_eq, nat_lt, List, [], ◌∷◌, ◌++◌, slice_index_or, slice_set, bit_and, bit_or, Fits, w8, w32, w64, Bor, MutBor}
+use Rattle.graph.specs.Vector.{width}
+use Rattle.graph.specs.inner.Code.{as_side}
+use Rattle.memory.specs.Bits.{has_bit}
+use Rattle.base.specs.Loops.{any}
+use Rattle.protocol.specs.Calls.{turn as turning}
+use Rattle.protocol.specs.Calls.{accept}
+use Rattle.protocol.specs.State.{leaves}
+use Rattle.protocol.specs.pages.Turn.{farewell, farewells}
+use Rattle.record.specs.Layout.{seats, levels}
+use Rattle.record.specs.Meaning.{seats_in}
+use Rattle.record.specs.Call.{call_refusal, called}
+use Rattle.record.specs.Answer.{number_of, outcome}
+use Rattle.clearing.specs.inner.Steps.{Step, same, saying, lot_farewells, farewells_from, begun, ended}
 use Rattle.clearing.proofs.tell.Goals as goal
 
-pub returns-then-to-lt-SEATS : goal.returns-then-to-lt-SEATS
-returns-then-to-lt-SEATS c = λ M f e.
-    let s = c.args in
-    c.send.ensures
-    ∙ ap (set_bit s.rec.now pending_from) c.going_place.ensures.0
-    ∙ tell-sent M f s.y s.k s.d c.link-to.result (omega arith) (omega arith) e c.link-to.ensures (omega arith) (omega arith)
+-- src/lib.rt:43:1
+pub returns-in-Some : goal.returns-in-Some
+returns-in-Some c = ?
 
-pub returns-else-to-lt-SEATS : goal.returns-else-to-lt-SEATS
-returns-else-to-lt-SEATS c = λ M f e.
-    let s = c.args in
-    tell_none M f s.y s.k s.d c.link-to.result (omega arith) (omega arith) e c.link-to.ensures c.if-to-lt-SEATS.false
+-- src/lib.rt:43:1
+pub returns-in_default : goal.returns-in_default
+returns-in_default c = ?

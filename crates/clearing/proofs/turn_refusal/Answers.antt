@@ -1,26 +1,27 @@
--- `clearing::turn_refusal` meets its contract. Assumes nothing.
-use mathlib.Core.Path.{sym}
-use Rattle.protocol.specs.Calls.{turn}
-use Rattle.record.proofs.Refused.{Passed, record-passed}
-use Rattle.record.proofs.Accepted.{refused-early}
-use Rattle.messages.proofs.First.{quiet-pending, some-pending}
-use Rattle.clearing.proofs.Refused.{messages-left}
+use Rattle.std.proofs.Common.{rules, ◌≡◌, ℕ, ◌<◌, ◌+◌, ◌-◌, ◌*◌, ◌≤◌, length, ◌/◌, ◌%◌, Bool, true, false, nat_eq, nat_lt, List, [], ◌∷◌, ◌++◌, slice_index_or, slice_set, bit_and, bit_or, Fits, w8, w32, w64, Bor, MutBor}
+use Rattle.graph.specs.Vector.{width}
+use Rattle.graph.specs.inner.Code.{as_side}
+use Rattle.memory.specs.Bits.{has_bit}
+use Rattle.base.specs.Loops.{any}
+use Rattle.protocol.specs.Calls.{turn as turning}
+use Rattle.protocol.specs.Calls.{accept}
+use Rattle.protocol.specs.State.{leaves}
+use Rattle.protocol.specs.pages.Turn.{farewell, farewells}
+use Rattle.record.specs.Layout.{seats, levels}
+use Rattle.record.specs.Meaning.{seats_in}
+use Rattle.record.specs.Call.{call_refusal, called}
+use Rattle.record.specs.Answer.{number_of, outcome}
+use Rattle.clearing.specs.inner.Steps.{Step, same, saying, lot_farewells, farewells_from, begun, ended}
 use Rattle.clearing.proofs.turn_refusal.Goals as goal
-use Rattle.clearing.proofs.turn_refusal.Goals.{Else-seen-ne0}
 
--- past 1 and 2
-passed : (c : Else-seen-ne0) → Passed c.args.rec.now
-passed c = record-passed _ c.look-seen.ensures.refused c.if-seen-ne0.false
+-- src/lib.rt:112:8
+pub returns-in_err-look : goal.returns-in_err-look
+returns-in_err-look c = ?
 
-pub returns-then-seen-ne0 : goal.returns-then-seen-ne0
-returns-then-seen-ne0 c = refused-early _ turn c.look-seen.ensures.refused c.if-seen-ne0.true
+-- src/lib.rt:113:9
+pub returns-then-is_some : goal.returns-then-is_some
+returns-then-is_some c = ?
 
-pub returns-then-seen-lt-MESSAGES : goal.returns-then-seen-lt-MESSAGES
-returns-then-seen-lt-MESSAGES c =
-    let p = passed (goal.at.returns-then-seen-lt-MESSAGES c).Else-seen-ne0 in
-    sym (messages-left _ p (sym (some-pending _ (c.look-seen.ensures.first c.if-seen-ne0.false) c.if-seen-lt-MESSAGES.true)))
-
+-- src/lib.rt:109:1
 pub returns : goal.returns
-returns c =
-    let p = passed (goal.at.returns c).Else-seen-ne0 in
-    sym (messages-left _ p (sym (quiet-pending _ (c.look-seen.ensures.first c.if-seen-ne0.false) c.if-seen-lt-MESSAGES.false)))
+returns c = ?
