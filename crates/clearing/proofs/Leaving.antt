@@ -1,6 +1,6 @@
 -- Which lots leave, as the bytes of a meaning say it, and the set of them as a number. Assumes nothing.
 use Prim.Native.Nat.{ℕ, suc, ◌+◌, ◌*◌, ◌%◌, ◌^◌, ◌≤◌, ◌<◌}
-use mathlib.Core.Path.{◌≡◌, sym, ap, ◌∙◌}
+use mathlib.Core.Path.{◌≡◌, refl, sym, ap, ◌∙◌}
 use mathlib.Core.Logic.{⊎_elim}
 use mathlib.Core.Bool.{Bool, true, false, not}
 use mathlib.Core.List.{List}
@@ -10,6 +10,7 @@ use native.Mathlib.Omega.{arith}
 use lib.Dec.{eqb}
 use lib.Pow.{pow_mono}
 use borrow.Author.Tests.{lt-ltb, le-ltb, eq-eqb, ne_eqb}
+use Rattle.std.specs.Int.{from_bool}
 use Rattle.base.specs.Loops.{one_if, any}
 use Rattle.base.proofs.Cases.{lt-or-ge, true-or-false}
 use Rattle.base.proofs.Tests.{true-T, T_true, true-false}
@@ -38,6 +39,11 @@ leaves-above : (l : List ℕ) (x : ℕ) → seats ≤ x → leaves (seats_in l) 
 unfolding seats_in
 leaves-above l x h = rw (le-ltb x seats h)
 
+-- a test as a number
+pub from_bool-one_if : (b : Bool) → from_bool b ≡ one_if b
+from_bool-one_if true = refl
+from_bool-one_if false = refl
+
 -- the tests from s on with the one before it are those from t on
 pub packed-before : (p : ℕ → Bool) (m n s t : ℕ) → m ≡ n + 1 → s ≡ t + 1
     → packed n (λ j. p (s + j)) * 2 + one_if (p t) ≡ packed m (λ j. p (t + j))
@@ -58,20 +64,3 @@ leavers-bits l x = ⊎_elim
     (λ h. packed-bits seats (leaves (seats_in l)) x h)
     (λ h. bits_above seats (packed seats (leaves (seats_in l))) x (packed_lt seats (leaves (seats_in l))) h ∙ sym (leaves-above l x h))
     (lt-or-ge x seats)
-
--- a set is not empty exactly if a seat is in it
-pub any-set : (set : ℕ) (p : ℕ → Bool) → set < 2 ^ seats → ((x : ℕ) → has_bit set x ≡ p x) → not (eqb set 0) ≡ any seats p
-any-set set p h f = ⊎_elim
-    (λ t. rw t (ap not (ne_eqb set 0 (filled t))))
-    (λ t. rw t (ap not (eq-eqb set 0 (empty t))))
-    (true-or-false (any seats p))
-  where
-    filled : any seats p ≡ true → set ≡ 0 → ⊥
-    filled t z =
-        let i = any_out seats p (true-T {b = any seats p} t) in
-        true-false (T_true {b = p i.0} i.2) (sym (f i.0) ∙ rw z (has_bit-none i.0))
-
-    empty : any seats p ≡ false → set ≡ 0
-    empty t =
-        sym (packed-is seats set p h (λ j l. f j))
-        ∙ packed_none seats p (λ j l. ⊎_elim (λ q. true-false (any_here seats j p l q) t) (λ q. q) (true-or-false (p j)))

@@ -29,7 +29,11 @@ use soundness::look;
 fn leavers(rec: &Record) -> u64
     ensures { (x : ℕ) → has_bit result x ≡ leaves (seats_in rec.now) x }
 {
-    (0..SEATS).rev().fold(0, |set, s| set * 2 + u64::from(is_leaving(rec, s)))
+    let mut set = 0;
+    for s in (0..SEATS).rev() {
+        set = set * 2 + u64::from(is_leaving(rec, s));
+    }
+    set
 }
 
 // Whether a lot leaves.

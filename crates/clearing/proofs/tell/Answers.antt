@@ -1,23 +1,12 @@
-use Rattle.std.proofs.Common.{rules, ◌≡◌, ℕ, ◌<◌, ◌+◌, ◌-◌, ◌*◌, ◌≤◌, length, ◌/◌, ◌%◌, Bool, true, false, nat_eq, nat_lt, List, [], ◌∷◌, ◌++◌, slice_index_or, slice_set, bit_and, bit_or, Fits, w8, w32, w64, Bor, MutBor}
-use Rattle.graph.specs.Vector.{width}
-use Rattle.graph.specs.inner.Code.{as_side}
-use Rattle.memory.specs.Bits.{has_bit}
-use Rattle.base.specs.Loops.{any}
-use Rattle.protocol.specs.Calls.{turn as turning}
-use Rattle.protocol.specs.Calls.{accept}
-use Rattle.protocol.specs.State.{leaves}
-use Rattle.protocol.specs.pages.Turn.{farewell, farewells}
-use Rattle.record.specs.Layout.{seats, levels}
-use Rattle.record.specs.Meaning.{seats_in}
-use Rattle.record.specs.Call.{call_refusal, called}
-use Rattle.record.specs.Answer.{number_of, outcome}
-use Rattle.clearing.specs.inner.Steps.{Step, same, saying, lot_farewells, farewells_from, begun, ended}
+-- `clearing::tell` meets its contract. Assumes nothing.
+use Rattle.clearing.proofs.Telling.{tell-sent, tell_none}
 use Rattle.clearing.proofs.tell.Goals as goal
 
--- src/lib.rt:43:1
 pub returns-in-Some : goal.returns-in-Some
-returns-in-Some c = ?
+returns-in-Some c = λ M f e.
+    let a = c.args in
+    rw (c.send.ensures, c.going_place.ensures.0, c.opposite.ensures)
+    (tell-sent M f a.y a.k _ c.requires.0 c.requires.1 e c.in-Some.to c.in-Some.ensures.seat c.in-Some.ensures.link)
 
--- src/lib.rt:43:1
 pub returns-in_default : goal.returns-in_default
-returns-in_default c = ?
+returns-in_default c = λ M f e. let a = c.args in tell_none M f a.y a.k _ c.requires.0 c.requires.1 e c.in_default.ensures.link

@@ -1,27 +1,28 @@
-use Rattle.std.proofs.Common.{rules, ◌≡◌, ℕ, ◌<◌, ◌+◌, ◌-◌, ◌*◌, ◌≤◌, length, ◌/◌, ◌%◌, Bool, true, false, nat_eq, nat_lt, List, [], ◌∷◌, ◌++◌, slice_index_or, slice_set, bit_and, bit_or, Fits, w8, w32, w64, Bor, MutBor}
-use Rattle.graph.specs.Vector.{width}
-use Rattle.graph.specs.inner.Code.{as_side}
-use Rattle.memory.specs.Bits.{has_bit}
-use Rattle.base.specs.Loops.{any}
-use Rattle.protocol.specs.Calls.{turn as turning}
-use Rattle.protocol.specs.Calls.{accept}
-use Rattle.protocol.specs.State.{leaves}
-use Rattle.protocol.specs.pages.Turn.{farewell, farewells}
-use Rattle.record.specs.Layout.{seats, levels}
-use Rattle.record.specs.Meaning.{seats_in}
-use Rattle.record.specs.Call.{call_refusal, called}
-use Rattle.record.specs.Answer.{number_of, outcome}
-use Rattle.clearing.specs.inner.Steps.{Step, same, saying, lot_farewells, farewells_from, begun, ended}
+-- `clearing::turn_refusal` meets its contract: the record's rows, then the table's. Assumes nothing.
+use mathlib.Core.Path.{refl, ◌∙◌}
+use Rattle.std.specs.Prelude.{Result, Ok, Err}
+use Rattle.protocol.specs.Calls.{rows, refusal}
+use Rattle.protocol.specs.Refusals.{first}
+use Rattle.record.specs.Answer.{number_of}
+use Rattle.record.specs.declared.refusals.Refusal.{Refusal}
+use Rattle.record.specs.declared.refusals.Refusal.TheVariants.{MessagesLeft}
+use Rattle.record.proofs.Answered.{answered-early, answered-late}
+use Rattle.record.proofs.Rows.{row_here, row_next}
+use Rattle.clearing.proofs.Refused.{some-left}
 use Rattle.clearing.proofs.turn_refusal.Goals as goal
 
--- src/lib.rt:112:8
 pub returns-in_err-look : goal.returns-in_err-look
-returns-in_err-look c = ?
+returns-in_err-look c = answered-early _ _ _ c.from_residual.result _ c.from_residual.ensures.1 c.in_err-look.ensures.refused
 
--- src/lib.rt:113:9
 pub returns-then-is_some : goal.returns-then-is_some
-returns-then-is_some c = ?
+unfolding refusal rows first number_of
+returns-then-is_some c =
+    let no : Result (Unit {0}) Refusal = Err MessagesLeft in
+    answered-late _ _ c.in_ok-look.field-0 no c.in_ok-look.ensures.refused
+    (row_here 11 _ (c.is_some.ensures ∙ some-left _ _ c.in_ok-look.ensures.first) c.if-is_some.true)
 
--- src/lib.rt:109:1
 pub returns : goal.returns
-returns c = ?
+unfolding refusal rows first number_of
+returns c =
+    answered-late _ _ c.in_ok-look.field-0 (Ok (tt {0})) c.in_ok-look.ensures.refused
+    (row_next 11 (c.is_some.ensures ∙ some-left _ _ c.in_ok-look.ensures.first) c.if-is_some.false refl)

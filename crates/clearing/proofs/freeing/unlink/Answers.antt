@@ -1,15 +1,22 @@
-use Rattle.std.proofs.Common.{rules, ◌≡◌, ◌||◌, ◌+◌, ◌<◌, ℕ, ◌-◌, ◌*◌, ◌≤◌, length, ◌/◌, ◌%◌, Bool, true, false, nat_eq, nat_lt, List, [], ◌∷◌, ◌++◌, slice_index_or, slice_set, bit_and, bit_or, Fits, w8, w32, w64, Bor, MutBor}
-use Rattle.memory.specs.Bits.{has_bit}
-use Rattle.graph.specs.Side.{side_number}
-use Rattle.graph.specs.inner.Code.{as_side}
-use Rattle.record.specs.Layout.{seats, levels}
-use Rattle.clearing.specs.inner.Steps.{Step, same, link_place, freed_to, freed}
+-- `clearing::freeing::unlink` meets its contract. Assumes nothing.
+use Prim.Native.Nat.{◌+◌}
+use mathlib.Core.Path.{refl, sym, ◌∙◌}
+use mathlib.Core.Option.{none}
+use borrow.Author.Rules.{rules}
+use Rattle.clearing.proofs.Unlinking.{cut-link, uncut-link}
 use Rattle.clearing.proofs.freeing.unlink.Goals as goal
+use Rattle.clearing.proofs.freeing.unlink.Goals.{in_default-via-in-None-1, in_default-via-in-Some+else-parts}
 
--- src/freeing.rt:31:1
 pub returns-then-parts : goal.returns-then-parts
-returns-then-parts c = ?
+returns-then-parts c = λ M f e.
+    let a = c.args in
+    c.write_link.ensures
+    ∙ cut-link a.set (a.x + 1) a.x a.k _ c.requires.0 c.requires.1 M f e c.in-Some.ensures.link (sym c.parts.ensures ∙ c.if-parts.true)
 
--- src/freeing.rt:31:1
 pub returns-in_default : goal.returns-in_default
-returns-in_default c = ?
+returns-in_default c = λ M f e.
+    let a = c.args in
+    elim c.in_default.branch [
+      in_default-via-in-None-1 w ↦ uncut-link a.set (a.x + 1) a.x a.k _ c.requires.0 c.requires.1 M f e {o = none} (search rules) refl
+    | in_default-via-in-Some+else-parts w ↦ uncut-link a.set (a.x + 1) a.x a.k _ c.requires.0 c.requires.1 M f e w.in-Some.ensures.link (sym w.parts.ensures ∙ w.if-parts.false)
+    ]
