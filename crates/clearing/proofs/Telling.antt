@@ -1,5 +1,5 @@
 -- Messages sent one after the other, links that the bytes have, and GOING from a lot. Assumes nothing.
-use Prim.Native.Nat.{ℕ, ◌+◌, ◌-◌, ◌≤◌, ◌<◌}
+use Prim.Native.Nat.{ℕ, ◌+◌, ◌<◌}
 use mathlib.Core.Path.{◌≡◌, sym, ap, ◌∙◌}
 use mathlib.Core.Option.{none, some}
 use mathlib.Core.Bool.{true, false, cond}
@@ -58,24 +58,24 @@ each_more n f = rw add-one
 
 -- steps that send, by what they send from the seats and links: nothing, two after each other, and lists one after the other
 module _ {l m k : List ℕ} where
-  pub step_then : (f g : Seats → Links → List Msg) → Step same (λ M. saying M (f M.seats M.link)) l m
+  pub Step-then : (f g : Seats → Links → List Msg) → Step same (λ M. saying M (f M.seats M.link)) l m
       → Step same (λ M. saying M (g M.seats M.link)) m k → Step same (λ M. saying M (f M.seats M.link ++ g M.seats M.link)) l k
-  step_then f g a b = λ M c e.
+  Step-then f g a b = λ M c e.
       let N = saying M (f M.seats M.link) in
       b N c (a M c e) ∙ ap bytes_of (saying-append M (f M.seats M.link) (g M.seats M.link))
 
-  pub step_next : (f : Seats → Links → ℕ → List Msg) (n : ℕ) → Step same (λ M. saying M (each n (f M.seats M.link))) l m
+  pub Step-next : (f : Seats → Links → ℕ → List Msg) (n : ℕ) → Step same (λ M. saying M (each n (f M.seats M.link))) l m
       → Step same (λ M. saying M (f M.seats M.link n)) m k → Step same (λ M. saying M (each (n + 1) (f M.seats M.link))) l k
-  step_next f n a b = λ M c e.
-      step_then (λ s L. each n (f s L)) (λ s L. f s L n) a b M c e ∙ ap (λ (z : List Msg). bytes_of (saying M z)) (sym (each_more n (f M.seats M.link)))
+  Step-next f n a b = λ M c e.
+      Step-then (λ s L. each n (f s L)) (λ s L. f s L n) a b M c e ∙ ap (λ (z : List Msg). bytes_of (saying M z)) (sym (each_more n (f M.seats M.link)))
 
-pub step_none : (f : Seats → Links → ℕ → List Msg) (l : List ℕ) → Step same (λ M. saying M (each 0 (f M.seats M.link))) l l
+pub Step-none : (f : Seats → Links → ℕ → List Msg) (l : List ℕ) → Step same (λ M. saying M (each 0 (f M.seats M.link))) l l
 unfolding each
-step_none f l = λ M c e. e ∙ sym (ap bytes_of (saying-nothing M))
+Step-none f l = λ M c e. e ∙ sym (ap bytes_of (saying-nothing M))
 
-pub step_all : (f : Seats → Links → ℕ → List Msg) {n : ℕ} (m : ℕ) {l k : List ℕ} → n ≡ m
+pub Step-all : (f : Seats → Links → ℕ → List Msg) {n : ℕ} (m : ℕ) {l k : List ℕ} → n ≡ m
     → Step same (λ M. saying M (each n (f M.seats M.link))) l k → Step same (λ M. saying M (each m (f M.seats M.link))) l k
-step_all f m e a = λ M c h. a M c h ∙ ap (λ (i : ℕ). bytes_of (saying M (each i (f M.seats M.link)))) e
+Step-all f m e a = λ M c h. a M c h ∙ ap (λ (i : ℕ). bytes_of (saying M (each i (f M.seats M.link)))) e
 
 -- a link that the bytes of a meaning have is its link
 pub link-named : (M : Meaning) (x k : ℕ) (d : Side) → x < seats → k < levels → NamesSeat (M.link x k d) → {l : List ℕ} → l ≡ bytes_of M

@@ -3,10 +3,9 @@ use Prim.Native.Nat.{ℕ, zero, suc, ◌+◌, ◌*◌, ◌/◌, ◌≤◌, ◌<�
 use mathlib.Core.Path.{◌≡◌, refl, sym, ap, ◌∙◌}
 use mathlib.Core.Logic.{◌⊎◌, inl, inr, ⊎_elim}
 use mathlib.Core.Option.{Option, none, some}
-use mathlib.Core.Bool.{Bool, true, false, cond, ◌&&◌, ◌||◌}
+use mathlib.Core.Bool.{Bool, true, false, cond, ◌||◌}
 use mathlib.Core.List.{List}
 use native.Mathlib.Omega.{arith}
-use lib.Dec.{ltb}
 use lib.ListN.{set as put}
 use lib.Seq.{set-get_or}
 use borrow.Author.Tests.{lt-ltb, le-ltb}
@@ -21,7 +20,6 @@ use Rattle.protocol.specs.Freeing.{unlinked, unlinking}
 use Rattle.protocol.specs.pages.Deliver.{applied}
 use Rattle.protocol.proofs.Calls.{applied-at, applied-frame}
 use Rattle.protocol.proofs.Numbering.{side_number-lt}
-use Rattle.protocol.proofs.KeepFreeing.{unlinking-some}
 use Rattle.record.specs.Layout.{seats, levels, link_at, no_link}
 use Rattle.record.specs.Meaning.{link_byte, meaning, bytes_of}
 use Rattle.record.specs.inner.Entry.{bare_at}
@@ -111,7 +109,7 @@ module _ (set : ℕ) where
             (applied-frame x (link_to k d o) (freed_to set s here M).link y j c)))
 
     -- the link as the bytes have it: it becomes none, or is kept
-    module _ {l : List ℕ} (e : l ≡ bytes_of (freed_to set s here M)) {o : Option ℕ} (f : o ≡ (meaning l).link x k d) where
+    module _ {l : List ℕ} (e : l ≡ bytes_of (freed_to set s here M)) (o : Option ℕ) (f : o ≡ (meaning l).link x k d) where
       link-is : M.link x k d ≡ o
       link-is = sym (f ∙ link-named (freed_to set s here M) x k d h g old-seat e ∙ old-link)
 
@@ -138,9 +136,9 @@ module _ (set : ℕ) where
         let to = λ (n : ℕ). bytes_of (freed_to set (x + 1) n M) in
         let q : k < levels = omega arith in
         let a = unlinked-to k (omega arith) e in
-        let b = uncut-link (x + 1) x k left h q M c a (sym (bare-link l x h bare k left q)) refl in
+        let b = uncut-link (x + 1) x k left h q M c a none (sym (bare-link l x h bare k left q)) refl in
         let n : link_place x k 0 + 1 ≡ link_place x k 1 = omega arith in
-        let d = uncut-link (x + 1) x k right h q M c (b ∙ ap to n) (sym (bare-link l x h bare k right q)) refl in
+        let d = uncut-link (x + 1) x k right h q M c (b ∙ ap to n) none (sym (bare-link l x h bare k right q)) refl in
         let m : link_place x k 1 + 1 ≡ link_place x (suc k) 0 = omega arith in
         d ∙ ap to m
 

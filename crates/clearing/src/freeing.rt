@@ -32,7 +32,9 @@ fn unlink(rec: &mut Record, set: u64, x: usize, k: usize, d: Side)
     requires { (x < seats) × (k < levels) }
     ensures { let n = link_place x k (side_number (as_side d)) in Step (freed_to set (x + 1) n) (freed_to set (x + 1) (n + 1)) rec.old rec.new }
 {
-    if let Some(y) = link(rec, x, k, d) && parts(set, x, y) {
+    if let Some(y) = link(rec, x, k, d)
+        && parts(set, x, y)
+    {
         record::write_link(rec, x, k, d, Some(NONE));
     }
 }

@@ -30,8 +30,10 @@ fn leavers(rec: &Record) -> u64
     ensures { (x : ℕ) → has_bit result x ≡ leaves (seats_in rec.now) x }
 {
     let mut set = 0;
-    for s in (0..SEATS).rev() {
-        set = set * 2 + u64::from(is_leaving(rec, s));
+    for s in 0..SEATS {
+        if is_leaving(rec, s) {
+            set |= 1 << s;
+        }
     }
     set
 }
@@ -113,10 +115,10 @@ fn carry_out(rec: &mut Record)
 fn turn_refusal(rec: &Record) -> Result<(), Refusal>
     ensures { number_of result ≡ call_refusal rec.now turning }
 {
-    if look(rec)?.is_some() {
-        return Err(Refusal::MessagesLeft);
+    match look(rec)? {
+        Some(_) => Err(Refusal::MessagesLeft),
+        None => Ok(()),
     }
-    Ok(())
 }
 
 // In phase open with leavers: phase clearing, and every leaver sends GOING to each of its links; without leavers nothing changes. In phase

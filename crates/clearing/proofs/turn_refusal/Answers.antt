@@ -1,6 +1,7 @@
 -- `clearing::turn_refusal` meets its contract: the record's rows, then the table's. Assumes nothing.
-use mathlib.Core.Path.{refl, ◌∙◌}
+use mathlib.Core.Path.{refl, ap}
 use Rattle.std.specs.Prelude.{Result, Ok, Err}
+use Rattle.std.specs.Option.{is_some}
 use Rattle.protocol.specs.Calls.{rows, refusal}
 use Rattle.protocol.specs.Refusals.{first}
 use Rattle.record.specs.Answer.{number_of}
@@ -14,15 +15,15 @@ use Rattle.clearing.proofs.turn_refusal.Goals as goal
 pub returns-in_err-look : goal.returns-in_err-look
 returns-in_err-look c = answered-early _ _ _ c.from_residual.result _ c.from_residual.ensures.1 c.in_err-look.ensures.refused
 
-pub returns-then-is_some : goal.returns-then-is_some
+pub returns-in-Some : goal.returns-in-Some
 unfolding refusal rows first number_of
-returns-then-is_some c =
+returns-in-Some c =
     let no : Result (Unit {0}) Refusal = Err MessagesLeft in
     answered-late _ _ c.in_ok-look.field-0 no c.in_ok-look.ensures.refused
-    (row_here 11 _ (c.is_some.ensures ∙ some-left _ _ c.in_ok-look.ensures.first) c.if-is_some.true)
+    (row_here 11 _ (some-left _ c.in_ok-look.field-0 c.in_ok-look.ensures.first) (ap is_some c.in-Some.is))
 
-pub returns : goal.returns
+pub returns-in-None : goal.returns-in-None
 unfolding refusal rows first number_of
-returns c =
+returns-in-None c =
     answered-late _ _ c.in_ok-look.field-0 (Ok (tt {0})) c.in_ok-look.ensures.refused
-    (row_next 11 (c.is_some.ensures ∙ some-left _ _ c.in_ok-look.ensures.first) c.if-is_some.false refl)
+    (row_next 11 (some-left _ c.in_ok-look.field-0 c.in_ok-look.ensures.first) (ap is_some c.in-None.is) refl)

@@ -6,20 +6,20 @@ use Rattle.graph.specs.Side.{left, right}
 use Rattle.graph.specs.Vector.{width}
 use Rattle.protocol.specs.pages.Crash.{introduced}
 use Rattle.crash.specs.inner.Steps.{level_introductions}
-use Rattle.clearing.proofs.Telling.{step_none, step_then, step_next, step_all}
+use Rattle.clearing.proofs.Telling.{Step-none, Step-then, Step-next, Step-all}
 use Rattle.crash.proofs.introduce_links.Goals as goal
 
 pub loop-k-init : goal.loop-k-init
-loop-k-init c = step_none (λ s L. level_introductions L c.args.x) _
+loop-k-init c = Step-none (λ s L. level_introductions L c.args.x) _
 
 pub loop-k-preserved : goal.loop-k-preserved
 loop-k-preserved c =
     let x = c.args.x in
     let k = c.loop-k.k in
     let above : suc (k - 1) ≡ k = omega arith in
-    step_all (λ s L. level_introductions L x) (k + 1 - 1) (omega arith)
-    (step_next (λ s L. level_introductions L x) (k - 1) c.loop-k.invariant
-    (rw above (step_then (λ s L. introduced L x k left) (λ s L. introduced L x k right) c.introduce.ensures c.introduce-in-loop-k.ensures)))
+    Step-all (λ s L. level_introductions L x) (k + 1 - 1) (omega arith)
+    (Step-next (λ s L. level_introductions L x) (k - 1) c.loop-k.invariant
+    (rw above (Step-then (λ s L. introduced L x k left) (λ s L. introduced L x k right) c.introduce.ensures c.introduce-in-loop-k.ensures)))
 
 pub returns : goal.returns
-returns c = step_all (λ s L. level_introductions L c.args.x) width (omega arith) c.loop-k.invariant
+returns c = Step-all (λ s L. level_introductions L c.args.x) width (omega arith) c.loop-k.invariant

@@ -1,5 +1,5 @@
 -- `crash::introduce_links` meets its contract: the levels from 1 below `k` are done. Assumes nothing.
-use Prim.Native.Nat.{◌-◌, ◌<◌}
+use Prim.Native.Nat.{◌-◌}
 use Rattle.protocol.specs.Page.{each}
 use Rattle.clearing.specs.inner.Steps.{Step, same, saying}
 use Rattle.crash.specs.inner.Steps.{level_introductions}

@@ -11,9 +11,6 @@ use Rattle.clearing.proofs.freeing.free_seats.Goals as goal
 pub loop-s-init : goal.loop-s-init
 loop-s-init c = λ M f e. e ∙ sym (freed_to-none c.args.set M)
 
-pub loop-s-preserved : goal.loop-s-preserved
-loop-s-preserved c = λ M f e. c.unlink_seat.ensures M f (c.clear_seat.ensures M f (c.loop-s.invariant M f e))
-
 pub returns : goal.returns
 returns c = λ M f e.
     let set = c.args.set in

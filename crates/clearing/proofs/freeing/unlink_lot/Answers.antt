@@ -6,9 +6,6 @@ use Rattle.record.specs.Meaning.{bytes_of}
 use Rattle.clearing.specs.inner.Steps.{link_place, freed_to}
 use Rattle.clearing.proofs.freeing.unlink_lot.Goals as goal
 
-pub loop-k-init : goal.loop-k-init
-loop-k-init c = λ M f e. e
-
 pub loop-k-preserved : goal.loop-k-preserved
 loop-k-preserved c = λ M f e.
     let x = c.args.x in
