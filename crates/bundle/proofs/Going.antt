@@ -1,36 +1,33 @@
 -- A bundle step by step: how it stands after n deliveries, with what is still to be done and what the index says; that it goes on so, and ends as
 -- the definition says. Assumes nothing.
-use Prim.Native.Nat.{ℕ, zero, suc, ◌+◌, ◌-◌, ◌*◌, ◌/◌, ◌≤◌, ◌<◌}
+use Prim.Native.Nat.{ℕ, zero, suc, ◌+◌, ◌-◌, ◌≤◌, ◌<◌}
 use mathlib.Core.Path.{◌≡◌, refl, sym, ap, ◌∙◌, subst}
 use mathlib.Core.Logic.{◌≢◌}
 use mathlib.Core.Option.{none}
-use mathlib.Core.Bool.{Bool, true, false}
 use mathlib.Core.List.{List}
 use native.Mathlib.Omega.{arith}
 use native.Mathlib.Nat.{add-zero, zero-add}
 use lib.ListN.{length, get_or}
 use Rattle.memory.specs.Bytes.{AreBytes}
-use Rattle.memory.specs.Bits.{with_bit}
 use Rattle.graph.specs.Vector.{width}
 use Rattle.protocol.specs.Message.{name_of}
 use Rattle.protocol.specs.Order.{smallest}
 use Rattle.protocol.specs.Calls.{deliver}
-use Rattle.record.specs.Layout.{seats, messages}
+use Rattle.record.specs.Layout.{seats}
 use Rattle.record.specs.Meaning.{meaning}
 use Rattle.record.specs.Reading.{record_refusal}
 use Rattle.record.specs.Call.{called}
 use Rattle.record.specs.Bundle.{BundleOutcome, bundled}
 use Rattle.record.proofs.Bundle.{Fine, delivery-fine, bundle-done, bundle-step, bundle-same, bundle-zero}
-use Rattle.messages.specs.inner.Numbers.{first_pending}
-use Rattle.index.specs.inner.Index.{parts, noting}
-use Rattle.bundle.specs.inner.Steps.{first_word, Tracks, IsBeyond, IsReady, IsDelivered}
-use Rattle.bundle.proofs.Ready.{ready, extended, extended-first, started}
+use Rattle.index.specs.inner.Index.{parts}
+use Rattle.bundle.specs.inner.Steps.{first_word, Tracks, IsDelivered}
+use Rattle.bundle.proofs.Ready.{started}
 
 -- n deliveries of the bundle of a limit on l₀ left l
-pub record Going (l₀ : List ℕ) (limit : ℕ) (l x : List ℕ) (t reach n : ℕ) : Type 0 where
+pub record Going (l₀ : List ℕ) (limit : ℕ) (l x : List ℕ) (reach n : ℕ) : Type 0 where
   pub fine : Fine l
   pub count : n ≤ limit
-  pub tracks : Tracks l x t reach
+  pub tracks : Tracks l x reach
   pub rest : bundled l₀ limit
       ≡ record { refused = 0; delivered = n + (bundled l (limit - n)).delivered; after = (bundled l (limit - n)).after }
 
@@ -41,7 +38,7 @@ refused-number l limit = refl
 
 -- no delivery yet
 pub going-first : (l : List ℕ) (limit : ℕ) {x : List ℕ} {from : ℕ} → record_refusal l ≡ 0 → AreBytes l
-    → ((i : ℕ) → get_or x i 0 ≡ 0) → length x ≡ parts → from ≤ first_word l → Going l limit l x 0 from 0
+    → ((i : ℕ) → get_or x i 0 ≡ 0) → length x ≡ parts → from ≤ first_word l → Going l limit l x from 0
 going-first l limit {x} {from} e b z p h = record {
   fine = record { passed = e; bytes = b };
   count = omega arith;
@@ -53,16 +50,7 @@ going-first l limit {x} {from} e b z p h = record {
       (ap (λ (r : ℕ). record { refused = r; delivered = o.delivered; after = o.after }) (refused-number l limit ∙ e));
 }
 
--- the index before a delivery: a noted word is below the reach, or one beyond it is found and noted
-module _ {l x : List ℕ} {t reach : ℕ} {r : Bool} (k : Tracks l x t reach) (b : IsBeyond x t reach r) where
-  pub next-noted : r ≡ false → Tracks l x t reach × IsReady l x t
-  next-noted q = (k, ready k (b.one q).1)
-
-  pub next-found : {i : ℕ} → r ≡ true → i ≡ first_pending l (reach * 64) → i < messages
-      → Tracks l (noting x (i / 64) true) (with_bit t (i / 64 / 64) true) (i / 64 + 1) × IsReady l (noting x (i / 64) true) (with_bit t (i / 64 / 64) true)
-  next-found q e h = let d = extended k (b.none q) e h in (d, ready d (extended-first k (b.none q) e h))
-
-module _ {l₀ : List ℕ} {limit : ℕ} {l x : List ℕ} {t reach n : ℕ} (g : Going l₀ limit l x t reach n) where
+module _ {l₀ : List ℕ} {limit : ℕ} {l x : List ℕ} {reach n : ℕ} (g : Going l₀ limit l x reach n) where
   -- by what is still to be done
   rest-is : {o : BundleOutcome} → bundled l (limit - n) ≡ o
       → bundled l₀ limit ≡ record { refused = 0; delivered = n + o.delivered; after = o.after }
@@ -78,12 +66,14 @@ module _ {l₀ : List ℕ} {limit : ℕ} {l x : List ℕ} {t reach n : ℕ} (g :
   going-none e = ends (bundle-done l (limit - n) g.fine.passed e)
 
   -- the limit is reached
-  pub going-limit : limit ≤ n → record { refused = 0; delivered = n; after = l } ≡ bundled l₀ limit
-  going-limit h = let z : limit - n ≡ 0 = omega arith in ends (ap (bundled l) z ∙ bundle-zero l)
+  pub going-limit : n ≡ limit → record { refused = 0; delivered = limit; after = l } ≡ bundled l₀ limit
+  going-limit h =
+      let z : limit - n ≡ 0 = omega arith in
+      ap (λ (d : ℕ). record { refused = 0; delivered = d; after = l }) (sym h) ∙ ends (ap (bundled l) z ∙ bundle-zero l)
 
   -- the smallest message is delivered
-  pub going_on : {x₁ : List ℕ} {t₁ reach₁ : ℕ} {y z : List ℕ} {u : ℕ} → n < limit → Tracks l x₁ t₁ reach₁
-      → IsDelivered l x₁ t₁ y z u → Going l₀ limit y z u reach₁ (n + 1)
+  pub going_on : {x₁ : List ℕ} {reach₁ : ℕ} {y z : List ℕ} → n < limit → Tracks l x₁ reach₁
+      → IsDelivered l x₁ y z → Going l₀ limit y z reach₁ (n + 1)
   going_on {reach₁ = reach₁} {y = y} h k d = record {
     fine = subst Fine (sym d.bytes) (delivery-fine l g.fine (name_of d.message));
     count = omega arith;

@@ -1,21 +1,21 @@
 -- The first word that has a pending message: by the words noted below the reach, or beyond it; and the smallest message by it. Assumes nothing.
-use Prim.Native.Nat.{ℕ, ◌+◌, ◌-◌, ◌*◌, ◌/◌, ◌%◌, ◌≤◌, ◌<◌}
+use Prim.Native.Nat.{ℕ, ◌+◌, ◌-◌, ◌*◌, ◌/◌, ◌≤◌, ◌<◌}
 use mathlib.Core.Path.{◌≡◌, sym, ◌∙◌}
 use mathlib.Core.Logic.{⊎_elim}
 use mathlib.Core.Option.{none, some}
 use mathlib.Core.Bool.{Bool, true, false}
 use mathlib.Core.List.{List}
 use native.Mathlib.Omega.{arith}
-use lib.Dec.{eqb, leb}
-use lib.ListN.{length, get_or}
-use borrow.Author.Tests.{eqb-false, leb-true, leb-false}
+use lib.Dec.{ltb}
+use borrow.Author.Tests.{ltb-true, ltb-false}
+use Rattle.std.specs.Prelude as code
+use Rattle.std.specs.Prelude.{Some, None, MatchOption}
+use lib.ListN.{length, get_or, length-set}
 use Rattle.base.specs.Loops.{first_from}
-use Rattle.base.proofs.Any.{any_none}
 use Rattle.base.proofs.Cases.{lt-or-ge, eq-or-ne}
 use Rattle.base.proofs.Tests.{T_true, true-false, not-T-false}
-use Rattle.memory.specs.Bits.{has_bit, bit_set, with_bit}
+use Rattle.memory.specs.Bits.{bit_set}
 use Rattle.memory.specs.inner.Words.{word_set}
-use Rattle.memory.proofs.Bits.{has_bit-none}
 use Rattle.base.proofs.First.{IsFirst, first, first-is, first_any}
 use Rattle.memory.proofs.Words.{bit_word, word-clear, clear-word-bits}
 use Rattle.graph.specs.Vector.{width}
@@ -26,59 +26,57 @@ use Rattle.record.specs.Meaning.{meaning}
 use Rattle.record.proofs.Form.{meaning-bit}
 use Rattle.messages.specs.inner.Numbers.{first_pending}
 use Rattle.messages.proofs.First.{first-pending-bit, first-smallest, first-none, first-of-all}
-use Rattle.index.specs.inner.Index.{words, parts, is_noted, noting, is_some, Exact}
-use Rattle.index.proofs.Index.{noted-same, noted_other, note-exact, none-noted, exact_none}
-use Rattle.bundle.specs.inner.Steps.{first_word, first_noted, Tracks, IsReady, IsBeyond}
+use Rattle.index.specs.inner.Index.{words, parts, is_noted, noting, first_noted}
+use Rattle.index.proofs.Noted.{noted-same, noted_other, none-noted}
+use Rattle.bundle.specs.inner.Steps.{first_word, Tracks, IsReady}
 
 -- a test that does not pass
 fails : {b : Bool} → (b ≡ true → ⊥) → b ≡ false
 fails h = not-T-false (λ t. h (T_true t))
 
--- 0 is the top of an index that notes no word
-pub top-none : {x : List ℕ} {t : ℕ} → Exact x t → t ≡ 0 → (w : ℕ) → w < parts * 64 → is_noted x w ≡ false
-top-none {x} e z w h =
-    let f : is_some x (w / 64) ≡ false = sym (e.tells (w / 64) (omega arith)) ∙ rw z (has_bit-none (w / 64)) in
-    not-T-false (any_none 64 (has_bit (get_or x (w / 64) 0)) f (w % 64) (omega arith))
-
--- and so that of one that notes a word is not
-top-some : {x : List ℕ} {t : ℕ} → Exact x t → (w : ℕ) → w < parts * 64 → is_noted x w ≡ true → 0 < t
-top-some {t = t} e w h n = ⊎_elim (λ z. true-false n (top-none e z w h)) (λ ne. omega (arith, ne)) (eq-or-ne t 0)
-
--- whether no word below the reach is noted: by the top, or by the first noted word r
-module _ {x : List ℕ} {t reach : ℕ} (e : Exact x t) (h : reach ≤ words) where
-  pub beyond-none : t ≡ 0 → IsBeyond x t reach (eqb t 0)
-  beyond-none z = record { none = λ q w l. top-none e z w (omega arith); one = λ q. absurd (eqb-false t 0 q z) }
-
-  pub beyond-first : {r : ℕ} → (t ≡ 0 → ⊥) → r ≡ first_noted x → IsBeyond x t reach (leb reach r)
-  beyond-first {r} ne er = record {
-    none = λ q w l. (first (parts * 64) 0 (is_noted x)).before w (omega arith) (omega (arith, leb-true reach r q));
-    one = λ q. (omega (arith, ne), omega (arith, leb-false reach r q));
-  }
-
 -- a noted word is below the reach: the first noted one is the first that has a message
-pub ready : {l x : List ℕ} {t reach : ℕ} → Tracks l x t reach → first_noted x < reach → IsReady l x t
-ready {l} {x} {t} {reach} k h = record {
-  some = top-some k.exact (first_noted x) (omega (arith, k.within)) is-noted;
+pub ready : {l x : List ℕ} {reach w : ℕ} → Tracks l x reach → w ≡ first_noted x → w < reach → IsReady l x w
+ready {l} {x} {reach} {w} k e h = record {
   word = rw (sym is-first) (omega (arith, k.within));
-  first = is-first;
+  first = e ∙ is-first;
+  noted = rw e is-noted;
 }
   where
     f : IsFirst (parts * 64) 0 (is_noted x) (first_from (parts * 64) 0 (is_noted x))
     f = first (parts * 64) 0 (is_noted x)
 
     is-noted : is_noted x (first_from (parts * 64) 0 (is_noted x)) ≡ true
-    is-noted = f.found (omega (arith, k.within))
+    is-noted = f.found (omega (arith, k.within, e))
 
     is-first : first_noted x ≡ first_word l
     is-first = sym (first-is words 0 (word_set l pending_from) (first_noted x) (record {
       low = omega arith;
-      high = omega (arith, k.within);
-      before = λ v p q. fails (λ s. true-false (k.all v (omega arith) s) (f.before v p q));
-      found = λ g. k.has (first_noted x) (omega arith) is-noted;
+      high = omega (arith, k.within, e);
+      before = λ v p q. fails (λ s. true-false (k.all v (omega (arith, e)) s) (f.before v p q));
+      found = λ g. k.has (first_noted x) (omega (arith, e)) is-noted;
     }))
 
+-- o is the first noted word, and b says whether there is one below the reach
+abbrev pub IsBelow : (reach : ℕ) → code.Option ℕ → Bool → Type 0
+IsBelow reach o b = MatchOption o (b ≡ false) (λ w. b ≡ ltb w reach)
+
+abbrev pub IsFirstNoted : List ℕ → code.Option ℕ → Type 0
+IsFirstNoted x o = MatchOption o ((w : ℕ) → w < parts * 64 → is_noted x w ≡ false) (λ w. (w ≡ first_noted x) × (w < parts * 64))
+
+pub noted-ready : {l x : List ℕ} {reach : ℕ} {b : Bool} (A : Type 0) → Tracks l x reach → (o : code.Option ℕ) → IsFirstNoted x o → IsBelow reach o b
+    → b ≡ true → MatchOption o A (λ w. Tracks l x reach × IsReady l x w)
+noted-ready A k None f e t = true-false t e
+noted-ready {reach = reach} A k (Some w) f e t = (k, ready k f.0 (ltb-true w reach (sym e ∙ t)))
+
+pub none-below : (x : List ℕ) {reach : ℕ} {b : Bool} → reach ≤ words → (o : code.Option ℕ) → IsFirstNoted x o → IsBelow reach o b
+    → b ≡ false → (w : ℕ) → w < reach → is_noted x w ≡ false
+none-below x h None f e t w l = f w (omega arith)
+none-below x {reach} h (Some r) f e t w l =
+    let g : reach ≤ r = ltb-false r reach (sym e ∙ t) in
+    (first (parts * 64) 0 (is_noted x)).before w (omega arith) (omega (arith, f.0))
+
 -- no word below the reach is noted: i is the first place from there on whose message is pending
-module _ {l x : List ℕ} {t reach i : ℕ} (k : Tracks l x t reach) (none_below : (w : ℕ) → w < reach → is_noted x w ≡ false)
+module _ {l x : List ℕ} {reach i : ℕ} (k : Tracks l x reach) (none_below : (w : ℕ) → w < reach → is_noted x w ≡ false)
     (e : i ≡ first_pending l (reach * 64)) where
   at : IsFirst (messages - reach * 64) (reach * 64) (bit_set l pending_from) i
   at = rw (e, ← first-pending-bit l (reach * 64) (omega (arith, k.within))) (first (messages - reach * 64) (reach * 64) (bit_set l pending_from))
@@ -95,38 +93,49 @@ module _ {l x : List ℕ} {t reach i : ℕ} (k : Tracks l x t reach) (none_below
 
   -- there is one: its word is noted, and the reach is after it
   module _ (h : i < messages) where
-    pub extended : Tracks l (noting x (i / 64) true) (with_bit t (i / 64 / 64) true) (i / 64 + 1)
+    room : i / 64 / 64 < length x
+    room = omega (arith, k.long)
+
+    pub extended : Tracks l (noting x (i / 64) true) (i / 64 + 1)
     extended = record {
-      exact = note-exact (i / 64) (omega arith) k.exact;
+      long = length-set x (i / 64 / 64) _ ∙ k.long;
       within = omega arith;
-      has = λ w p n.
-          ⊎_elim (λ q. has-own w q) (λ ne. k.has w p (sym (noted_other x (i / 64) true k.exact.long (omega arith) w ne) ∙ n))
-          (eq-or-ne w (i / 64));
+      has = λ w p n. ⊎_elim (λ q. has-own w q) (λ ne. k.has w p (sym (noted_other x (i / 64) true room w ne) ∙ n)) (eq-or-ne w (i / 64));
       all = λ w p s. ⊎_elim (λ q. rw q own) (λ ne. true-false s (before w (omega (arith, ne)))) (eq-or-ne w (i / 64));
     }
       where
         own : is_noted (noting x (i / 64) true) (i / 64) ≡ true
-        own = noted-same x (i / 64) true k.exact.long (omega arith)
+        own = noted-same x (i / 64) true room
 
         has-own : (w : ℕ) → w ≡ i / 64 → word_set l pending_from w ≡ true
         has-own w q = rw q (bit_word l pending_from i (at.found (omega arith)))
 
-    pub extended-first : first_noted (noting x (i / 64) true) < i / 64 + 1
-    extended-first = ⊎_elim (λ g. g)
-        (λ g. true-false (noted-same x (i / 64) true k.exact.long (omega arith))
-        ((first (parts * 64) 0 (is_noted (noting x (i / 64) true))).before (i / 64) (omega arith) (omega arith)))
-        (lt-or-ge (first_noted (noting x (i / 64) true)) (i / 64 + 1))
+    -- its word is the first that has a message
+    pub found-ready : IsReady l (noting x (i / 64) true) (i / 64)
+    found-ready = record {
+      word = rw (sym is-first) (omega arith);
+      first = is-first;
+      noted = noted-same x (i / 64) true room;
+    }
+      where
+        is-first : i / 64 ≡ first_word l
+        is-first = sym (first-is words 0 (word_set l pending_from) (i / 64) (record {
+          low = omega arith;
+          high = omega arith;
+          before = λ w p q. before w q;
+          found = λ g. bit_word l pending_from i (at.found (omega arith));
+        }))
 
   -- there is none: nothing is pending
   pub none_left : i ≡ messages → smallest seats width (meaning l).pending ≡ none
   none_left z = first-none l (reach * 64) (λ j h. meaning-bit l j (omega (arith, k.within)) ∙ clear j h) (sym e ∙ z)
 
 -- an index of zeros, where no word below `from` has a message
-pub started : (l x : List ℕ) (from : ℕ) → ((i : ℕ) → get_or x i 0 ≡ 0) → length x ≡ parts → from ≤ first_word l → Tracks l x 0 from
+pub started : (l x : List ℕ) (from : ℕ) → ((i : ℕ) → get_or x i 0 ≡ 0) → length x ≡ parts → from ≤ first_word l → Tracks l x from
 started l x from z e h =
     let f = first words 0 (word_set l pending_from) in
     record {
-      exact = exact_none x z e;
+      long = e;
       within = omega (arith, f.high);
       has = λ w p n. true-false n (none-noted x z w);
       all = λ w p s. true-false s (f.before w (omega arith) (omega arith));
@@ -191,9 +200,6 @@ module _ (l : List ℕ) (h : first_word l < words) where
       let e = sym (first-pending-bit l 0 (omega arith)) ∙ first-is messages 0 (bit_set l pending_from) first_place at_place in
       rw (← e) (first-smallest l 0 (λ j p. absurd (omega arith)) (omega arith) (rw e place-below))
 
--- the word that an index which is ready gives
-pub ready-word : {l x : List ℕ} {t w : ℕ} → IsReady l x t → w ≡ first_noted x
-    → (w < words) × (word_set l pending_from w ≡ true) × (is_noted x w ≡ true)
-ready-word {l} {x} {w = w} r e =
-    let q = e ∙ r.first in
-    (rw q r.word, rw q (word_some l r.word), rw e ((first (parts * 64) 0 (is_noted x)).found (omega (arith, r.first, r.word))))
+-- a word that is ready has a pending message
+pub ready-word : {l x : List ℕ} {w : ℕ} → IsReady l x w → (w < words) × (word_set l pending_from w ≡ true)
+ready-word {l} r = (rw r.first r.word, rw r.first (word_some l r.word))

@@ -6,9 +6,9 @@ use mathlib.Core.Bool.{Bool, true, false, not}
 use mathlib.Core.List.{List, [], ◌∷◌, Memᴰ}
 use native.Mathlib.Omega.{arith}
 use lib.Dec.{T}
-use lib.ListN.{length}
+use lib.ListN.{length, length-set}
 use Rattle.base.proofs.Cases.{eq-or-ne, not-not}
-use Rattle.memory.specs.Bits.{with_bit, clear_bit, set_bit}
+use Rattle.memory.specs.Bits.{clear_bit, set_bit}
 use Rattle.memory.specs.inner.Words.{word_set}
 use Rattle.memory.proofs.Bitmap.{length-put_bit}
 use Rattle.memory.proofs.Words.{word-other, word-set}
@@ -17,41 +17,36 @@ use Rattle.protocol.specs.Message.{Msg}
 use Rattle.protocol.specs.Numbering.{exists, place}
 use Rattle.record.specs.Layout.{seats, messages, pending_from, size}
 use Rattle.record.proofs.Places.{place-within}
-use Rattle.index.specs.inner.Index.{words, is_noted, noting, is_some, Exact}
-use Rattle.index.proofs.Index.{noted-same, noted_other, noting-exact, note-exact}
+use Rattle.index.specs.inner.Index.{words, parts, is_noted, noting}
+use Rattle.index.proofs.Noted.{noted-within, noted-same, noted_other}
 use Rattle.rules.specs.inner.Done.{indexed, send_all}
 use Rattle.bundle.specs.inner.Steps.{Tracks, IsStruck}
 
--- word w is struck out, or it stays
-module _ {x : List ℕ} {t w : ℕ} {last : Bool} (e : Exact x t) (h : w < words) where
-  pub struck-out : {y : List ℕ} {u : ℕ} → last ≡ true
-      → (y ≡ noting x w false) × (u ≡ with_bit t (w / 64) (is_some y (w / 64))) → IsStruck x w last y u
-  struck-out q (ey, eu) = record {
-    exact = rw (eu, ey) (noting-exact x w false e.long h e);
-    own = rw (ey, q) (noted-same x w false e.long h);
-    others = λ v ne. rw ey (noted_other x w false e.long h v ne);
-  }
+-- word w, which is noted, is struck out
+pub struck-out : {x y : List ℕ} {w : ℕ} {last : Bool} → is_noted x w ≡ true → last ≡ true → y ≡ noting x w false → IsStruck x w last y
+struck-out {x} {w = w} n q ey = record {
+  long = rw ey (length-set x (w / 64) _);
+  own = rw (ey, q) (noted-same x w false (noted-within x w n));
+  others = λ v ne. rw ey (noted_other x w false (noted-within x w n) v ne);
+}
 
-  pub struck-none : last ≡ false → is_noted x w ≡ true → IsStruck x w last x t
-  struck-none q n = record { exact = e; own = rw q n; others = λ v ne. refl }
-
-module _ {l x : List ℕ} {t reach : ℕ} (k : Tracks l x t reach) where
+module _ {l x : List ℕ} {reach : ℕ} (k : Tracks l x reach) where
   -- bytes with the same pending words
-  pub tracks_same : {y : List ℕ} → ((w : ℕ) → w < words → word_set y pending_from w ≡ word_set l pending_from w) → Tracks y x t reach
+  pub tracks_same : {y : List ℕ} → ((w : ℕ) → w < words → word_set y pending_from w ≡ word_set l pending_from w) → Tracks y x reach
   tracks_same e = record {
-    exact = k.exact;
+    long = k.long;
     within = k.within;
     has = λ w h n. e w h ∙ k.has w h n;
     all = λ w h s. k.all w h (sym (e w (omega (arith, k.within))) ∙ s);
   }
 
   -- word w has another test than before, and is noted as it says; the others are as before
-  own-word : {y z : List ℕ} {u : ℕ} (w : ℕ) → Exact z u → is_noted z w ≡ word_set y pending_from w
+  own-word : {y z : List ℕ} (w : ℕ) → length z ≡ parts → is_noted z w ≡ word_set y pending_from w
       → ((v : ℕ) → (v ≡ w → ⊥) → is_noted z v ≡ is_noted x v)
       → ((v : ℕ) → (v ≡ w → ⊥) → word_set y pending_from v ≡ word_set l pending_from v)
-      → Tracks y z u reach
+      → Tracks y z reach
   own-word {y} {z} w e o notes sets = record {
-    exact = e;
+    long = e;
     within = k.within;
     has = λ v h n. ⊎_elim (λ q. has-own v q n) (λ ne. sets v ne ∙ k.has v h (sym (notes v ne) ∙ n)) (eq-or-ne v w);
     all = λ v h s. ⊎_elim (λ q. all_own v q s) (λ ne. notes v ne ∙ k.all v h (sym (sets v ne) ∙ s)) (eq-or-ne v w);
@@ -64,26 +59,26 @@ module _ {l x : List ℕ} {t reach : ℕ} (k : Tracks l x t reach) where
       all_own v q s = rw q (o ∙ (rw q at s))
 
   -- the message at place i is taken, and its word struck out if it was the last
-  pub tracks-taken : {z : List ℕ} {u : ℕ} (w i : ℕ) → w ≡ i / 64
-      → IsStruck x w (not (word_set (clear_bit l pending_from i) pending_from w)) z u → Tracks (clear_bit l pending_from i) z u reach
+  pub tracks-taken : {z : List ℕ} (w i : ℕ) → w ≡ i / 64
+      → IsStruck x w (not (word_set (clear_bit l pending_from i) pending_from w)) z → Tracks (clear_bit l pending_from i) z reach
   tracks-taken w i e s =
-      own-word w s.exact (s.own ∙ not-not (word_set (clear_bit l pending_from i) pending_from w)) s.others
+      own-word w (s.long ∙ k.long) (s.own ∙ not-not (word_set (clear_bit l pending_from i) pending_from w)) s.others
       (λ v ne. word-other l pending_from i _ v (λ q. ne (q ∙ sym e)))
 
   -- the message at place i is sent
   pub tracks-sent : (i : ℕ) → length l ≡ size → i < messages
-      → Tracks (set_bit l pending_from i) (noting x (i / 64) true) (with_bit t (i / 64 / 64) true) reach
+      → Tracks (set_bit l pending_from i) (noting x (i / 64) true) reach
   tracks-sent i z h =
-      let w : i / 64 < words = omega arith in
-      own-word (i / 64) (note-exact (i / 64) w k.exact)
-      (noted-same x (i / 64) true k.exact.long w ∙ sym (word-set l pending_from i (omega arith)))
-      (noted_other x (i / 64) true k.exact.long w)
+      let w : i / 64 / 64 < length x = omega (arith, k.long) in
+      own-word (i / 64) (length-set x (i / 64 / 64) _ ∙ k.long)
+      (noted-same x (i / 64) true w ∙ sym (word-set l pending_from i (omega arith)))
+      (noted_other x (i / 64) true w)
       (λ v ne. word-other l pending_from i true v ne)
 
 -- messages that exist are sent
 pub tracks-sends : (ms : List Msg) → ((m : Msg) → Memᴰ m ms → T (exists seats width m))
-    → {l x : List ℕ} {t reach : ℕ} → length l ≡ size → Tracks l x t reach
-    → let b = send_all ms (indexed l x t) in Tracks b.bytes b.index b.top reach
+    → {l x : List ℕ} {reach : ℕ} → length l ≡ size → Tracks l x reach
+    → let b = send_all ms (indexed l x) in Tracks b.bytes b.index reach
 unfolding send_all
 tracks-sends [] h z k = k
 tracks-sends (m ∷ ms) h {l} z k =

@@ -3,21 +3,23 @@
 // one, and what a rule sends is noted there. The answer and the bytes left are those of record's specs/Bundle.antt.
 #![tactic(auto)]
 
-ghost use Rattle.std.specs.Prelude.{◌≡◌, true, ◌≤◌, ◌<◌, length};
+ghost use Rattle.std.specs.Prelude.{◌≡◌, true, ◌≤◌, ◌<◌, length, MatchOption};
+ghost use Rattle.std.proofs.Math.Option.{none};
 ghost use Rattle.graph.specs.Vector.{width};
 ghost use Rattle.protocol.specs.Message.{name_of};
 ghost use Rattle.protocol.specs.Numbering.{message_at};
+ghost use Rattle.protocol.specs.Order.{smallest};
 ghost use Rattle.protocol.specs.pages.Deliver.{rule};
 ghost use Rattle.record.specs.Layout.{seats, messages, size};
 ghost use Rattle.record.specs.Meaning.{meaning};
 ghost use Rattle.record.specs.Reading.{record_refusal};
 ghost use Rattle.record.specs.Bundle.{bundled};
-ghost use Rattle.index.specs.inner.Index.{words, parts, is_noted, Exact};
+ghost use Rattle.index.specs.inner.Index.{words, is_noted};
 ghost use Rattle.rules.specs.inner.Done.{indexed, carried};
 ghost use Rattle.bundle.specs.Answer.{bundle_outcome, BundleNumbered};
-ghost use Rattle.bundle.specs.inner.Steps.{first_word, IsStruck, IsReady, IsDelivered, IsBeyond};
+ghost use Rattle.bundle.specs.inner.Steps.{first_word, Tracks, IsStruck, IsReady, IsDelivered};
 
-use index::WORD;
+use index::{Index, WORD};
 use messages::{FOUNDS, GOINGS, NONES, PROBES, PULLS, SEEKS, first_pending};
 use record::{LEVELS, MESSAGES, PENDING, SEATS, WIDTH};
 use rules::{found, going, meet, none, probe, pull, seek};
@@ -30,102 +32,101 @@ pub enum Bundled {
     Refused(u8),
 }
 
-// Does the rule of the message at place i: its kind by the block that holds i, its numbers by the digits of its place there. Gives the index's top.
-fn carry_out(rec: &mut [u8], index: &mut [u64], top: u64, i: usize) -> u64
-    requires { (length rec.old ≡ size) × (length index.old ≡ parts) × (i < messages) }
-    ensures { let m = message_at seats width i in indexed rec.new index.new result
-        ≡ carried (name_of m).to (rule width (meaning rec.old) m) (indexed rec.old index.old top) }
+// Does the rule of the message at place i: its kind by the block that holds i, its numbers by the digits of its place there.
+fn carry_out(rec: &mut [u8], index: &mut Index, i: usize)
+    requires { (length rec.old ≡ size) × (i < messages) }
+    ensures { let m = message_at seats width i in indexed rec.new index.new
+        ≡ carried (name_of m).to (rule width (meaning rec.old) m) (indexed rec.old index.old) }
 {
     if i < PROBES {
         let pair = i / LEVELS;
-        return meet(rec, index, top, pair / SEATS, pair % SEATS, i % LEVELS);
+        return meet(rec, index, pair / SEATS, pair % SEATS, i % LEVELS);
     }
     if i < PULLS {
         let j = i - PROBES;
         let pair = j / WIDTH;
-        return probe(rec, index, top, pair / SEATS, pair % SEATS, j % WIDTH);
+        return probe(rec, index, pair / SEATS, pair % SEATS, j % WIDTH);
     }
     if i < GOINGS {
         let j = i - PULLS;
         let level = j / 2;
         let bit = level / WIDTH;
-        return pull(rec, index, top, bit / 2, bit % 2, level % WIDTH, j % 2);
+        return pull(rec, index, bit / 2, bit % 2, level % WIDTH, j % 2);
     }
     if i < SEEKS {
         let j = i - GOINGS;
         let level = j / 2;
-        return going(rec, index, top, level / LEVELS, level % LEVELS, j % 2);
+        return going(rec, index, level / LEVELS, level % LEVELS, j % 2);
     }
     if i < FOUNDS {
         let j = i - SEEKS;
         let pair = j / LEVELS;
-        return seek(rec, index, top, pair / SEATS, pair % SEATS, j % LEVELS);
+        return seek(rec, index, pair / SEATS, pair % SEATS, j % LEVELS);
     }
     if i < NONES {
         let j = i - FOUNDS;
         let pair = j / LEVELS;
-        found(rec, pair / SEATS, pair % SEATS, j % LEVELS);
-        return top;
+        return found(rec, pair / SEATS, pair % SEATS, j % LEVELS);
     }
     let j = i - NONES;
     let level = j / 2;
     none(rec, level / LEVELS, level % LEVELS, j % 2);
-    top
 }
 
-// Strikes word w out of the index if its last message is taken, and gives the top.
-fn strike_last(index: &mut [u64], top: u64, w: usize, last: bool) -> u64
-    requires { Exact index.old top × (w < words) × (is_noted index.old w ≡ true) }
-    ensures { IsStruck index.old w last index.new result }
+// Strikes word w out of the index if its last message is taken.
+fn strike_last(index: &mut Index, w: usize, last: bool)
+    requires { (w < words) × (is_noted index.old w ≡ true) }
+    ensures { IsStruck index.old w last index.new }
 {
     if last {
-        return index::strike(index, top, w);
+        index.strike(w);
     }
-    top
 }
 
-// Delivers the smallest message: the first of the first noted word, which is the first that has one.
-fn deliver_first(rec: &mut [u8], index: &mut [u64], top: u64) -> u64
-    requires { (record_refusal rec.old ≡ 0) × Exact index.old top × IsReady rec.old index.old top }
-    ensures { IsDelivered rec.old index.old top rec.new index.new result }
+// Delivers the smallest message: the first of word w, which is the first that has one.
+fn deliver_first(rec: &mut [u8], index: &mut Index, w: usize)
+    requires { (record_refusal rec.old ≡ 0) × IsReady rec.old index.old w }
+    ensures { IsDelivered rec.old index.old rec.new index.new }
 {
-    let w = index::first(index, top);
     let cleared = memory::clear_first(rec, PENDING, w);
-    let rest = strike_last(index, top, w, cleared.last);
-    carry_out(rec, index, rest, w * WORD + cleared.bit)
+    strike_last(index, w, cleared.last);
+    carry_out(rec, index, w * WORD + cleared.bit);
 }
 
-// Whether no word below `reach` is noted.
-fn is_beyond(index: &[u64], top: u64, reach: usize) -> bool
-    requires { Exact index.now top × (reach ≤ words) }
-    ensures { IsBeyond index.now top reach result }
+// The first word that has a pending message, if there is one. Up to `reach` all words that have one are noted; the next one is sought there, and
+// noted, only if none of these is left.
+fn next_word(rec: &[u8], index: &mut Index, reach: &mut usize) -> Option<usize>
+    requires { (length rec.now ≡ size) × Tracks rec.now index.old reach.old }
+    ensures { MatchOption result (smallest seats width (meaning rec.now).pending ≡ none)
+        (λ w. Tracks rec.now index.new reach.new × IsReady rec.now index.new w) }
 {
-    top == 0 || reach <= index::first(index, top)
+    let noted = index.first();
+    if noted.is_some_and(|w| w < *reach) {
+        return noted;
+    }
+    let i = first_pending(rec, *reach * WORD);
+    if i == MESSAGES {
+        return None;
+    }
+    index.note(i);
+    *reach = i / WORD + 1;
+    Some(i / WORD)
 }
 
-// Delivers the smallest message until none is pending or the limit is reached, and counts. No word below `from` has a pending message. Up to
-// `reach` all words that have one are noted; the next one is sought there only if none of these is left.
+// Delivers the smallest message until none is pending or the limit is reached, and counts. No word below `from` has a pending message.
 fn deliver_smallest(rec: &mut [u8], limit: u16, from: usize) -> u16
     requires { (record_refusal rec.old ≡ 0) × (from ≤ first_word rec.old) }
     ensures { record { refused = 0; delivered = result; after = rec.new } ≡ bundled rec.old limit }
 {
-    let mut index = [0u64; index::SIZE];
-    let mut top: u64 = 0;
+    let mut index = Index::new();
     let mut reach = from;
-    let mut n: u16 = 0;
-    while n < limit {
-        if is_beyond(&index, top, reach) {
-            let i = first_pending(rec, reach * WORD);
-            if i == MESSAGES {
-                return n;
-            }
-            top = index::note(&mut index, top, i);
-            reach = i / WORD + 1;
-        }
-        top = deliver_first(rec, &mut index, top);
-        n += 1;
+    for n in 0..limit {
+        let Some(w) = next_word(rec, &mut index, &mut reach) else {
+            return n;
+        };
+        deliver_first(rec, &mut index, w);
     }
-    n
+    limit
 }
 
 // Delivers the smallest pending message by its five numbers, again and again, until none is pending or the limit is reached, and says how many it

@@ -7,13 +7,14 @@ use mathlib.Core.List.{List, [], ◌∷◌, ◌++◌, append_assoc, append-nil}
 use mathlib.Core.Logic.{◌⊎◌, ⊎_elim, inl, inr}
 use native.Mathlib.Omega.{arith}
 use native.Mathlib.Nat.{pow-suc}
-use lib.Dec.{eqb, leb}
+use lib.Dec.{eqb}
 use lib.ListN.{length, length-append}
-use borrow.Author.Tests.{lt-ltb, le-ltb, leb-true, eqb-false}
+use borrow.Author.Tests.{lt-ltb, le-ltb, ne_eqb, eqb-false}
+use Rattle.std.specs.List.{AllByRecursion}
 use Rattle.command.specs.Command.{is_digit, digits_from, decimal}
 use Rattle.command.specs.Text.{shown_in, shown}
-use Rattle.base.proofs.Cases.{lt-or-ge, eq-or-ne, and_left, and_right}
-use Rattle.command.proofs.Reading.{digits-digit, decimal-digits}
+use Rattle.base.proofs.Cases.{lt-or-ge, eq-or-ne}
+use Rattle.command.proofs.Reading.{digit-byte, digits-digit, decimal-digits}
 
 -- the digits of a number, however many are allowed
 digit-in : (k n : ℕ) → n < 10 → shown_in k n ≡ (48 + n) ∷ []
@@ -106,10 +107,6 @@ decimal-shown n = ⊎_elim
     (λ e. decimal-led (led-shown n (omega (arith, e))) ∙ digits-shown n)
     (eq-or-ne n 0)
 
--- a byte of digits is a digit
-digit-byte : (b : ℕ) → is_digit b ≡ true → (48 ≤ b) × (b ≤ 57)
-digit-byte b e = (leb-true 48 b (and_left (leb 48 b) (leb b 57) e), leb-true b 57 (and_right (leb 48 b) (leb b 57) e))
-
 -- what digits after a number make: their text after its own
 digits-text : (m : ℕ) (f : List ℕ) (n : ℕ) → 0 < m → digits_from m f ≡ some n → shown n ≡ shown m ++ f
 unfolding digits_from
@@ -149,18 +146,20 @@ shown-decimal (b ∷ c ∷ f) n e = by (eqb b 48) refl (is_digit b) refl e
         digits-text (0 * 10 + (b - 48)) (c ∷ f) n (omega arith) q ∙ rw (shown-digit (0 * 10 + (b - 48)) (omega arith), v)
 
 -- no digit is a space
-unfoldable pub Plain : List ℕ → Type 0
-Plain [] = Unit
-Plain (b ∷ f) = (b ≡ 32 → ⊥) × Plain f
+abbrev pub IsPlain : ℕ → Type 0
+IsPlain b = eqb b 32 ≡ false
+
+abbrev pub Plain : List ℕ → Type 0
+Plain f = AllByRecursion IsPlain f
 
 digits-plain : (m : ℕ) (f : List ℕ) (n : ℕ) → digits_from m f ≡ some n → Plain f
-unfolding Plain digits_from
+unfolding digits_from
 digits-plain m [] n e = tt
 digits-plain m (b ∷ f) n e = by (is_digit b) refl (digits-plain (m * 10 + (b - 48)) f n) e
   where
     by : (t : Bool) → is_digit b ≡ t → (digits_from (m * 10 + (b - 48)) f ≡ some n → Plain f)
-        → cond t (digits_from (m * 10 + (b - 48)) f) none ≡ some n → (b ≡ 32 → ⊥) × Plain f
-    by true d h q = let r = digit-byte b d in (λ s. omega arith, h q)
+        → cond t (digits_from (m * 10 + (b - 48)) f) none ≡ some n → IsPlain b × Plain f
+    by true d h q = let r = digit-byte b d in (ne_eqb b 32 (λ s. omega arith), h q)
     by false d h q = absurd (none-ne-some n q)
 
 pub plain-shown : (n : ℕ) → Plain (shown n)

@@ -1,9 +1,9 @@
 -- Laws of the definitions of specs/.
-pub mod Fields
+pub mod Spaces
 pub mod Reading
 pub mod Commands
-pub mod Answers
 pub mod Lines
+pub mod Steps
 pub mod Decimal
 pub mod Joined
 pub mod Text

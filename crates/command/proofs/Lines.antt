@@ -1,15 +1,13 @@
--- Which lines have a letter: one byte alone, or one byte and a space. Assumes nothing.
-use Prim.Native.Nat.{ℕ, ◌<◌}
-use mathlib.Core.Path.{◌≡◌, refl, sym, ◌∙◌}
+-- What the first field tells: a letter of its own, or no command. Assumes nothing.
+use Prim.Native.Nat.{ℕ, ◌≤◌, ◌<◌}
+use mathlib.Core.Path.{◌≡◌, refl, ◌∙◌}
 use mathlib.Core.Option.{none}
 use mathlib.Core.List.{List, [], ◌∷◌}
-use mathlib.Core.Logic.{⊎_elim}
 use native.Mathlib.Omega.{arith}
-use lib.ListN.{length, get_or, drop}
+use lib.ListN.{length, get_or}
 use borrow.Author.Tests.{ne_eqb}
-use Rattle.command.specs.Command.{fields, command_of, parsed}
-use Rattle.base.proofs.Cases.{eq-or-ne}
-use Rattle.command.proofs.Fields.{first, rest, fields-first, first-end, rest_end, first-space, first_byte, rest-space, rest-byte}
+use Rattle.command.specs.Command.{turn, settle, print, fields, command_of, parsed}
+use Rattle.command.specs.inner.Reading.{only}
 
 -- no command begins with an empty field, or with two bytes
 no_field : (fs : List (List ℕ)) → command_of ([] ∷ fs) ≡ none
@@ -33,49 +31,75 @@ no_word x y w (a ∷ b ∷ d ∷ e ∷ f ∷ []) = refl
 no_word x y w (a ∷ b ∷ d ∷ e ∷ f ∷ g ∷ l) = refl
 
 -- or with a letter of its own and numbers after it
-pub no-numbers : (x : ℕ) (l : List ℕ) → (x ≡ 74 → ⊥) → (x ≡ 76 → ⊥) → (x ≡ 68 → ⊥) → (x ≡ 70 → ⊥)
-    → command_of ((x ∷ []) ∷ fields l) ≡ none
+no-numbers : (x : ℕ) → (x ≡ 74 → ⊥) → (x ≡ 76 → ⊥) → (x ≡ 68 → ⊥) → (x ≡ 70 → ⊥) → (a : List ℕ) (fs : List (List ℕ))
+    → command_of ((x ∷ []) ∷ a ∷ fs) ≡ none
 unfolding command_of
-no-numbers x l nj nl nd nf = rw (fields-first l) (by (first l) (rest l))
-  where
-    by : (a : List ℕ) (fs : List (List ℕ)) → command_of ((x ∷ []) ∷ a ∷ fs) ≡ none
-    by a [] = rw (ne_eqb x 76 nl)
-    by a (b ∷ []) = rw (ne_eqb x 70 nf)
-    by a (b ∷ d ∷ []) = refl
-    by a (b ∷ d ∷ e ∷ []) = rw (ne_eqb x 74 nj)
-    by a (b ∷ d ∷ e ∷ f ∷ []) = rw (ne_eqb x 68 nd)
-    by a (b ∷ d ∷ e ∷ f ∷ g ∷ l) = refl
+no-numbers x nj nl nd nf a [] = rw (ne_eqb x 76 nl)
+no-numbers x nj nl nd nf a (b ∷ []) = rw (ne_eqb x 70 nf)
+no-numbers x nj nl nd nf a (b ∷ d ∷ []) = refl
+no-numbers x nj nl nd nf a (b ∷ d ∷ e ∷ []) = rw (ne_eqb x 74 nj)
+no-numbers x nj nl nd nf a (b ∷ d ∷ e ∷ f ∷ []) = rw (ne_eqb x 68 nd)
+no-numbers x nj nl nd nf a (b ∷ d ∷ e ∷ f ∷ g ∷ l) = refl
 
-pub parsed-empty : (l : List ℕ) → length l ≡ 0 → parsed l ≡ none
-unfolding parsed
-parsed-empty [] h = rw (fields-first []) (rw first-end (no_field (rest [])))
-parsed-empty (x ∷ l) h = absurd (omega arith)
+turn_alone : (fs : List (List ℕ)) → command_of ((84 ∷ []) ∷ fs) ≡ only fs turn
+unfolding command_of
+turn_alone [] = refl
+turn_alone (a ∷ fs) = no-numbers 84 (λ e. omega arith) (λ e. omega arith) (λ e. omega arith) (λ e. omega arith) a fs
 
-pub parsed-alone : (l : List ℕ) → length l ≡ 1 → parsed l ≡ command_of ((get_or l 0 0 ∷ []) ∷ [])
-unfolding parsed command_of
-parsed-alone [] h = absurd (omega arith)
-parsed-alone (x ∷ []) h = ⊎_elim
-    (λ e. rw (fields-first (x ∷ []), first-space x [] e) (no_field (rest (x ∷ [])) ∙ rw e))
-    (λ e. rw (fields-first (x ∷ []), first_byte x [] e, rest-byte x [] e, first-end, rest_end))
-    (eq-or-ne x 32)
-parsed-alone (x ∷ y ∷ l) h = absurd (omega arith)
+settle_alone : (fs : List (List ℕ)) → command_of ((65 ∷ []) ∷ fs) ≡ only fs settle
+unfolding command_of
+settle_alone [] = refl
+settle_alone (a ∷ fs) = no-numbers 65 (λ e. omega arith) (λ e. omega arith) (λ e. omega arith) (λ e. omega arith) a fs
 
-pub parsed-word : (l : List ℕ) → 1 < length l → (get_or l 1 0 ≡ 32 → ⊥) → parsed l ≡ none
-unfolding parsed
-parsed-word [] h n = absurd (omega arith)
-parsed-word (x ∷ []) h n = absurd (omega arith)
-parsed-word (x ∷ y ∷ l) h n = ⊎_elim
-    (λ e. rw (fields-first (x ∷ y ∷ l), first-space x (y ∷ l) e) (no_field (rest (x ∷ y ∷ l))))
-    (λ e. rw (fields-first (x ∷ y ∷ l), first_byte x (y ∷ l) e, first_byte y l n) (no_word x y (first l) (rest (x ∷ y ∷ l))))
-    (eq-or-ne x 32)
+print_alone : (fs : List (List ℕ)) → command_of ((80 ∷ []) ∷ fs) ≡ only fs print
+unfolding command_of
+print_alone [] = refl
+print_alone (a ∷ fs) = no-numbers 80 (λ e. omega arith) (λ e. omega arith) (λ e. omega arith) (λ e. omega arith) a fs
 
-pub parsed-numbers : (l : List ℕ) → 1 < length l → get_or l 1 0 ≡ 32 → parsed l ≡ command_of ((get_or l 0 0 ∷ []) ∷ fields (drop 2 l))
-unfolding parsed
-parsed-numbers [] h s = absurd (omega arith)
-parsed-numbers (x ∷ []) h s = absurd (omega arith)
-parsed-numbers (x ∷ y ∷ l) h s = ⊎_elim
-    (λ e.
-    rw (fields-first (x ∷ y ∷ l), first-space x (y ∷ l) e)
-    (no_field (rest (x ∷ y ∷ l)) ∙ sym (no-numbers x l (λ q. omega arith) (λ q. omega arith) (λ q. omega arith) (λ q. omega arith))))
-    (λ e. rw (fields-first (x ∷ y ∷ l), first_byte x (y ∷ l) e, first-space y l s, rest-byte x (y ∷ l) e, rest-space y l s))
-    (eq-or-ne x 32)
+-- or with another letter
+no_letter : (x : ℕ) → (x ≡ 74 → ⊥) → (x ≡ 76 → ⊥) → (x ≡ 68 → ⊥) → (x ≡ 70 → ⊥) → (x ≡ 84 → ⊥) → (x ≡ 65 → ⊥) → (x ≡ 80 → ⊥)
+    → (fs : List (List ℕ)) → command_of ((x ∷ []) ∷ fs) ≡ none
+unfolding command_of
+no_letter x nj nl nd nf nt na np [] = rw (ne_eqb x 84 nt, ne_eqb x 65 na, ne_eqb x 80 np)
+no_letter x nj nl nd nf nt na np (a ∷ fs) = no-numbers x nj nl nd nf a fs
+
+-- a line by its first field
+module _ (l f : List ℕ) (fs : List (List ℕ)) (is : fields l ≡ f ∷ fs) where
+  pub parsed_letter : (x : ℕ) → 1 ≤ length f → length f < 2 → get_or f 0 0 ≡ x → parsed l ≡ command_of ((x ∷ []) ∷ fs)
+  unfolding parsed
+  parsed_letter x lo hi e = rw is (by f lo hi e)
+    where
+      by : (g : List ℕ) → 1 ≤ length g → length g < 2 → get_or g 0 0 ≡ x → command_of (g ∷ fs) ≡ command_of ((x ∷ []) ∷ fs)
+      by [] p q r = absurd (omega arith)
+      by (b ∷ []) p q r = rw r
+      by (b ∷ d ∷ g) p q r = absurd (omega arith)
+
+  pub parsed_turn : 1 ≤ length f → length f < 2 → get_or f 0 0 ≡ 84 → parsed l ≡ only fs turn
+  parsed_turn lo hi e = parsed_letter 84 lo hi e ∙ turn_alone fs
+
+  pub parsed_settle : 1 ≤ length f → length f < 2 → get_or f 0 0 ≡ 65 → parsed l ≡ only fs settle
+  parsed_settle lo hi e = parsed_letter 65 lo hi e ∙ settle_alone fs
+
+  pub parsed_print : 1 ≤ length f → length f < 2 → get_or f 0 0 ≡ 80 → parsed l ≡ only fs print
+  parsed_print lo hi e = parsed_letter 80 lo hi e ∙ print_alone fs
+
+  pub parsed_other : 1 ≤ length f → length f < 2 → (get_or f 0 0 ≡ 74 → ⊥) → (get_or f 0 0 ≡ 76 → ⊥) → (get_or f 0 0 ≡ 68 → ⊥)
+      → (get_or f 0 0 ≡ 70 → ⊥) → (get_or f 0 0 ≡ 84 → ⊥) → (get_or f 0 0 ≡ 65 → ⊥) → (get_or f 0 0 ≡ 80 → ⊥) → parsed l ≡ none
+  parsed_other lo hi nj nl nd nf nt na np = parsed_letter (get_or f 0 0) lo hi refl ∙ no_letter (get_or f 0 0) nj nl nd nf nt na np fs
+
+  pub parsed_empty : length f < 1 → parsed l ≡ none
+  unfolding parsed
+  parsed_empty h = rw is (by f h)
+    where
+      by : (g : List ℕ) → length g < 1 → command_of (g ∷ fs) ≡ none
+      by [] p = no_field fs
+      by (b ∷ g) p = absurd (omega arith)
+
+  pub parsed_word : 2 ≤ length f → parsed l ≡ none
+  unfolding parsed
+  parsed_word h = rw is (by f h)
+    where
+      by : (g : List ℕ) → 2 ≤ length g → command_of (g ∷ fs) ≡ none
+      by [] p = absurd (omega arith)
+      by (b ∷ []) p = absurd (omega arith)
+      by (b ∷ d ∷ g) p = no_word b d g fs

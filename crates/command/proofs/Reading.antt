@@ -1,57 +1,35 @@
--- Reading the first field of a line as a number: what each byte tells. Assumes nothing.
+-- A field as a number: what each byte tells, and numbers of fewer bits. Assumes nothing.
 use Prim.Native.Nat.{ℕ, ◌+◌, ◌-◌, ◌*◌, ◌^◌, ◌≤◌, ◌<◌}
-use mathlib.Core.Path.{◌≡◌, refl, sym, ◌∙◌}
+use mathlib.Core.Path.{◌≡◌, refl, ◌∙◌}
 use mathlib.Core.Bool.{Bool, true, false, cond}
 use mathlib.Core.Option.{Option, none, some}
 use mathlib.Core.List.{List, [], ◌∷◌, cons≢nil}
 use mathlib.Core.Logic.{⊎_elim}
 use native.Mathlib.Omega.{arith}
-use lib.Dec.{ltb}
-use borrow.Author.Tests.{eq-eqb, ne_eqb, le-leb, lt-leb, lt-ltb, le-ltb}
-use Rattle.command.specs.Command.{fields, is_digit, digits_from, decimal, fitting, byte_field, vector_field, number_field}
-use Rattle.command.specs.inner.Reading.{Read, wrong, last, more, read_as, read, digits_field}
+use lib.Dec.{leb, ltb}
+use lib.ListN.{length, get_or, drop, drop_of_length-le}
+use borrow.Author.Tests.{eq-eqb, ne_eqb, le-leb, lt-ltb, le-ltb, leb-true}
+use Rattle.std.specs.Prelude.{Result, Ok, Err}
+use Rattle.std.specs.Result.{OkIff, result_ok}
+use Rattle.command.specs.Command.{is_digit, digits_from, decimal, fitting, byte_field, vector_field, number_field}
+use Rattle.command.specs.inner.Reading.{with_rest, read, digits_field, as_number}
 use Rattle.graph.specs.Vector.{width}
-use Rattle.base.proofs.Cases.{lt-or-ge}
-use Rattle.command.proofs.Fields.{first, rest, fields-first, first-space, first_byte, rest-space, rest-byte}
+use Rattle.base.proofs.Cases.{lt-or-ge, and_left, and_right}
+use Rattle.command.proofs.Spaces.{drop_here}
 
-pub read_first : (v : List ℕ → Option ℕ) (l : List ℕ) → read v (fields l) ≡ read_as (v (first l)) (rest l)
-unfolding read
-read_first v l = rw (fields-first l)
-
--- a number with a field after it
-pub read_more : (n : ℕ) (l : List ℕ) → read_as (some n) (fields l) ≡ more n (fields l)
-read_more n l = rw (fields-first l)
-
--- the field ends: at the line's end, or at a space
-pub read-end : (v : List ℕ → Option ℕ) → read v (fields []) ≡ read_as (v []) []
-unfolding first rest
-read-end v = read_first v []
-
-pub read-space : (v : List ℕ → Option ℕ) (b : ℕ) (l : List ℕ) → b ≡ 32 → read v (fields (b ∷ l)) ≡ read_as (v []) (fields l)
-read-space v b l e = read_first v (b ∷ l) ∙ rw (first-space b l e, rest-space b l e)
-
-pub read_byte : (v : List ℕ → Option ℕ) (b : ℕ) (l : List ℕ) → (b ≡ 32 → ⊥)
-    → read v (fields (b ∷ l)) ≡ read_as (v (b ∷ first l)) (rest l)
-read_byte v b l e = read_first v (b ∷ l) ∙ rw (first_byte b l e, rest-byte b l e)
+-- a byte of digits is a digit
+pub digit-byte : (b : ℕ) → is_digit b ≡ true → (48 ≤ b) × (b ≤ 57)
+digit-byte b e = (leb-true 48 b (and_left (leb 48 b) (leb b 57) e), leb-true b 57 (and_right (leb 48 b) (leb b 57) e))
 
 -- a digit goes into the number
 pub digits-digit : (n b : ℕ) (f : List ℕ) → 48 ≤ b → b ≤ 57 → digits_from n (b ∷ f) ≡ digits_from (n * 10 + (b - 48)) f
 unfolding digits_from
 digits-digit n b f l h = rw (le-leb 48 b l, le-leb b 57 h)
 
-pub read-digit : (n b : ℕ) (l : List ℕ) → 48 ≤ b → b ≤ 57
-    → read (digits_field n) (fields (b ∷ l)) ≡ read (digits_field (n * 10 + (b - 48))) (fields l)
-read-digit n b l p q =
-    read_byte (digits_field n) b l (λ e. omega arith) ∙ rw (digits-digit n b (first l) p q) (sym (read_first (digits_field (n * 10 + (b - 48))) l))
-
 -- another byte is no digit
-pub read_low : (n b : ℕ) (l : List ℕ) → (b ≡ 32 → ⊥) → b < 48 → read (digits_field n) (fields (b ∷ l)) ≡ wrong
+digits-other : (n b : ℕ) (f : List ℕ) → is_digit b ≡ false → digits_field n (b ∷ f) ≡ none
 unfolding digits_from fitting
-read_low n b l e h = read_byte (digits_field n) b l e ∙ rw (lt-leb 48 b h)
-
-pub read-high : (n b : ℕ) (l : List ℕ) → 57 < b → read (digits_field n) (fields (b ∷ l)) ≡ wrong
-unfolding digits_from fitting
-read-high n b l h = read_byte (digits_field n) b l (λ e. omega arith) ∙ rw (le-leb 48 b (omega arith), lt-leb b 57 h)
+digits-other n b f e = rw e
 
 -- a number too wide stays so
 digits-grow : (n : ℕ) (f : List ℕ) (m : ℕ) → digits_from n f ≡ some m → n ≤ m
@@ -72,69 +50,79 @@ digits-wide n f h = by (digits_from n f) refl
     by none e = refl
     by (some m) e = rw (le-ltb m (2 ^ 64) (omega (arith, digits-grow n f m e)))
 
-pub read_wide : (n : ℕ) (l : List ℕ) → 2 ^ 64 ≤ n → read (digits_field n) (fields l) ≡ wrong
-read_wide n l h = read_first (digits_field n) l ∙ rw (digits-wide n (first l) h)
-
--- a field that ends with a number that fits
-pub fits-end : (n : ℕ) → n < 2 ^ 64 → digits_field n [] ≡ some n
+-- past the last digit, a number that fits
+pub digits_end : (n i : ℕ) (l : List ℕ) → length l ≤ i → n < 2 ^ 64 → digits_field n (drop i l) ≡ some n
 unfolding digits_from fitting
-fits-end n h = rw (lt-ltb n (2 ^ 64) h)
+digits_end n i l h k = rw (drop_of_length-le l h, lt-ltb n (2 ^ 64) k)
 
--- no number is empty
-pub number-end : read number_field (fields []) ≡ wrong
-unfolding decimal fitting
-number-end = read-end number_field
+-- the field from its byte i on, which is a digit or none
+module _ (n i : ℕ) (l : List ℕ) (here : i < length l) where
+  pub digits_here : is_digit (get_or l i 0) ≡ true → digits_field n (drop i l) ≡ digits_field (n * 10 + (get_or l i 0 - 48)) (drop (i + 1) l)
+  digits_here e =
+      let d = digit-byte (get_or l i 0) e in
+      rw (drop_here l i here, digits-digit n (get_or l i 0) (drop (i + 1) l) d.0 d.1)
 
-pub number-space : (b : ℕ) (l : List ℕ) → b ≡ 32 → read number_field (fields (b ∷ l)) ≡ wrong
-unfolding decimal fitting
-number-space b l e = read-space number_field b l e
+  pub digits_none : is_digit (get_or l i 0) ≡ false → digits_field n (drop i l) ≡ none
+  digits_none e = rw (drop_here l i here) (digits-other n (get_or l i 0) (drop (i + 1) l) e)
 
--- a 0 stands alone
-pub number-zero : (b c : ℕ) (l : List ℕ) → b ≡ 48 → (c ≡ 32 → ⊥) → read number_field (fields (b ∷ c ∷ l)) ≡ wrong
-unfolding decimal fitting
-number-zero b c l e h = read_byte number_field b (c ∷ l) (λ q. omega arith) ∙ rw (first_byte c l h, eq-eqb b 48 e)
+  pub digits_over : is_digit (get_or l i 0) ≡ true → 2 ^ 64 ≤ n * 10 + (get_or l i 0 - 48) → digits_field n (drop i l) ≡ none
+  digits_over e w = digits_here e ∙ digits-wide (n * 10 + (get_or l i 0 - 48)) (drop (i + 1) l) w
 
--- any other number is its digits
+-- no number is empty, a 0 stands alone, and any other number is its digits
 pub decimal-digits : (b : ℕ) (f : List ℕ) → (b ≡ 48 → f ≡ []) → decimal (b ∷ f) ≡ digits_from 0 (b ∷ f)
 unfolding decimal
 decimal-digits b [] h = refl
 decimal-digits b (c ∷ f) h = rw (ne_eqb b 48 (λ e. cons≢nil (h e)))
 
-pub number_digits : (b : ℕ) (l : List ℕ) → (b ≡ 32 → ⊥) → (b ≡ 48 → first l ≡ [])
-    → read number_field (fields (b ∷ l)) ≡ read (digits_field 0) (fields (b ∷ l))
-number_digits b l e h =
-    read_byte number_field b l e ∙ rw (decimal-digits b (first l) h) (sym (read_byte (digits_field 0) b l e))
+pub number_empty : (l : List ℕ) → length l ≡ 0 → number_field l ≡ none
+unfolding decimal fitting
+number_empty [] h = refl
+number_empty (b ∷ l) h = absurd (omega arith)
+
+module _ (l f : List ℕ) (b : ℕ) (is : l ≡ b ∷ f) where
+  pub number_zero : b ≡ 48 → 0 < length f → number_field l ≡ none
+  unfolding decimal fitting
+  number_zero e h = rw is (by f h)
+    where
+      by : (g : List ℕ) → 0 < length g → number_field (b ∷ g) ≡ none
+      by [] k = absurd (omega arith)
+      by (c ∷ g) k = rw (eq-eqb b 48 e)
+
+  pub number_digits : (b ≡ 48 → length f ≡ 0) → number_field l ≡ digits_field 0 l
+  number_digits h = rw (is, decimal-digits b f (λ e. empty f (h e)))
+    where
+      empty : (g : List ℕ) → length g ≡ 0 → g ≡ []
+      empty [] k = refl
+      empty (c ∷ g) k = absurd (omega arith)
 
 -- a number of w bits is a number below 2 ^ w
-abbrev pub narrow : (w : ℕ) → Read → Read
-narrow w wrong = wrong
-narrow w (last n) = cond (ltb n (2 ^ w)) (last n) wrong
-narrow w (more n after) = cond (ltb n (2 ^ w)) (more n after) wrong
+abbrev pub narrow : (w : ℕ) → Option (ℕ × List (List ℕ)) → Option (ℕ × List (List ℕ))
+narrow w none = none
+narrow w (some p) = cond (ltb p.0 (2 ^ w)) (some p) none
 
 fitting-narrow : (w : ℕ) → 2 ^ w ≤ 2 ^ 64 → (o : Option ℕ) (after : List (List ℕ))
-    → read_as (fitting w o) after ≡ narrow w (read_as (fitting 64 o) after)
+    → with_rest (fitting w o) after ≡ narrow w (with_rest (fitting 64 o) after)
 unfolding fitting
 fitting-narrow w le none after = refl
 fitting-narrow w le (some n) after = ⊎_elim
-    (λ h. rw (lt-ltb n (2 ^ w) h, lt-ltb n (2 ^ 64) (omega arith)) (small after h))
-    (λ h. rw (le-ltb n (2 ^ w) h) (big after (ltb n (2 ^ 64)) h))
+    (λ h. rw (lt-ltb n (2 ^ w) h, lt-ltb n (2 ^ 64) (omega arith)) (rw (lt-ltb n (2 ^ w) h)))
+    (λ h. rw (le-ltb n (2 ^ w) h) (big (ltb n (2 ^ 64)) h))
     (lt-or-ge n (2 ^ w))
   where
-    small : (after : List (List ℕ)) → n < 2 ^ w → read_as (some n) after ≡ narrow w (read_as (some n) after)
-    small [] h = rw (lt-ltb n (2 ^ w) h)
-    small (f ∷ after) h = rw (lt-ltb n (2 ^ w) h)
+    big : (t : Bool) → 2 ^ w ≤ n → none ≡ narrow w (with_rest (cond t (some n) none) after)
+    big false h = refl
+    big true h = rw (le-ltb n (2 ^ w) h)
 
-    big : (after : List (List ℕ)) (t : Bool) → 2 ^ w ≤ n → wrong ≡ narrow w (read_as (cond t (some n) none) after)
-    big after false h = refl
-    big [] true h = rw (le-ltb n (2 ^ w) h)
-    big (f ∷ after) true h = rw (le-ltb n (2 ^ w) h)
-
-pub read-narrow : (fs : List (List ℕ)) → read byte_field fs ≡ narrow 8 (read number_field fs)
-unfolding read
-read-narrow [] = refl
-read-narrow (f ∷ fs) = fitting-narrow 8 (omega arith) (decimal f) fs
+pub read_byte : (fs : List (List ℕ)) → read byte_field fs ≡ narrow 8 (read number_field fs)
+read_byte [] = refl
+read_byte (f ∷ fs) = fitting-narrow 8 (omega arith) (decimal f) fs
 
 pub read_vector : (fs : List (List ℕ)) → read vector_field fs ≡ narrow width (read number_field fs)
-unfolding read
 read_vector [] = refl
 read_vector (f ∷ fs) = fitting-narrow width (omega arith) (decimal f) fs
+
+-- a number that a conversion to 8 bits gave, or none where it failed
+pub narrow_ok : {E : Type 0} (n : ℕ) (fs : List (List ℕ)) (r : Result ℕ E) → OkIff r (n < 2 ^ 8) n
+    → with_rest (as_number (result_ok r)) fs ≡ narrow 8 (some (n, fs))
+narrow_ok n fs (Ok m) h = rw (h.1, lt-ltb n (2 ^ 8) h.0)
+narrow_ok n fs (Err e) h = rw (le-ltb n (2 ^ 8) (omega (arith, h)))

@@ -10,13 +10,13 @@ use native.Mathlib.Omega.{arith}
 use lib.Dec.{eqb, ltb}
 use lib.ListN.{length, take, length-append}
 use lib.Seq.{length-take-le, take_all}
-use borrow.Author.Tests.{lt-ltb, ltb-true, eqb-true}
+use borrow.Author.Tests.{lt-ltb, ltb-true, ne_eqb, eqb-true}
 use Rattle.command.specs.Command.{Command, join, leave, deliver, turn, settle, find, print}
 use Rattle.command.specs.Command.{fields, decimal, fitting, given, is_letter, when, command_of, parsed}
 use Rattle.command.specs.Text.{shown, spaced, joined, letter_of, numbers_of, fields_of, text, fits, decimals, longest}
 use Rattle.graph.specs.Vector.{width}
 use Rattle.base.proofs.Cases.{lt-or-ge}
-use Rattle.command.proofs.Decimal.{Plain, decimal-shown, shown-decimal, plain-shown, shown-length}
+use Rattle.command.proofs.Decimal.{decimal-shown, shown-decimal, plain-shown, shown-length}
 use Rattle.command.proofs.Joined.{AllPlain, fields-joined, joined-fields}
 
 -- the fields of a command are that command
@@ -50,8 +50,8 @@ all_shown [] = tt
 all_shown (n ∷ ns) = (plain-shown n, all_shown ns)
 
 fields-text : (c : Command) → fields (text c) ≡ fields_of c
-unfolding text fields_of Plain
-fields-text c = fields-joined (letter_of c ∷ []) (map shown (numbers_of c)) (not-space c, tt) (all_shown (numbers_of c))
+unfolding text fields_of
+fields-text c = fields-joined (letter_of c ∷ []) (map shown (numbers_of c)) (ne_eqb (letter_of c) 32 (not-space c), tt) (all_shown (numbers_of c))
 
 pub parsed-text : (c : Command) → fits c → parsed (text c) ≡ some c
 unfolding parsed

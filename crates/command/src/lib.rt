@@ -1,230 +1,217 @@
 // The parser of a line of `lots`: any bytes, of any length, without the newline. A command is a letter and its numbers, with one space
-// before each number. Positions count from the line's start.
-#![tactic(auto)]
+// before each number.
+#![tactic(auto, using(crate::proofs::Steps::steps))]
 
-ghost use Rattle.std.specs.Prelude.{◌≡◌, [], ◌∷◌, drop};
-ghost use Rattle.command.specs.Command.{parsed, command_of, fields, byte_field, number_field};
-ghost use Rattle.command.specs.Answer.{as_command};
-ghost use Rattle.command.specs.inner.Reading.{read, digits_field, number_read, byte_read};
+ghost use Rattle.std.specs.Prelude.{◌≡◌, ◌==◌, [], ◌∷◌, MatchOption, position};
+ghost use Rattle.command.specs.Command.{parsed, command_of, byte_field, vector_field, number_field};
+ghost use Rattle.command.specs.Answer.{as_command, command_as};
+ghost use Rattle.command.specs.inner.Reading.{read, with_rest, only, as_number, digits_field};
+
+use std::marker::Model;
 
 const SPACE: u8 = b' ';
 
 const ZERO: u8 = b'0';
 
-const NINE: u8 = b'9';
-
 const BASE: u64 = 10;
-
-// Where the first number stands: after the letter and a space.
-const FIRST: usize = 2;
-
-// The largest number of 8 bits.
-const BYTE_MAX: u64 = 255;
 
 // The largest vector.
 const VECTOR_MAX: u64 = (1 << graph::WIDTH) - 1;
 
-// A command with its numbers in the order of the line, or no command.
-#[derive(Drop)]
-pub enum Parsed {
-    Bad,
-    Join(u8, u64, u8, u8),
-    Leave(u8),
-    Deliver(u8, u8, u8, u8, u8),
+// A command with its numbers.
+#[derive(Clone, Copy, Debug, PartialEq, Eq)]
+pub enum Command {
+    Join {
+        seat: u8,
+        number: u64,
+        vector: u8,
+        contact: u8,
+    },
+    Leave {
+        seat: u8,
+    },
+    Deliver {
+        kind: u8,
+        to: u8,
+        about: u8,
+        level: u8,
+        side: u8,
+    },
     Turn,
     Settle,
-    Find(u8, u64),
+    Find {
+        start: u8,
+        number: u64,
+    },
     Print,
 }
 
-// A field of 64 bits: none, the line's last, or one with the position of the next field.
-#[derive(Drop)]
-enum Number {
-    Wrong,
-    Last(u64),
-    More(u64, usize),
-}
-
-// A field of 8 bits.
-#[derive(Drop)]
-enum Byte {
-    Wrong,
-    Last(u8),
-    More(u8, usize),
-}
-
-// A byte as a number.
-fn wide(x: u8) -> u64
-    ensures { result ≡ x }
+// The number of a field: at least one digit, no leading zero but in 0 itself, and at most 64 bits.
+fn number(field: &[u8]) -> Option<u64>
+    ensures { as_number result ≡ number_field field.now }
 {
-    x as u64
+    let (lead, others) = field.split_first()?;
+    if *lead == ZERO && !others.is_empty() {
+        return None;
+    }
+    digits(field)
 }
 
-// The digits of the field that starts at `at`, none or with zeros in front too. A number of more than 64 bits is wrong.
-fn digits_at(line: &[u8], at: usize) -> Number
-    ensures { number_read line.now result ≡ read (digits_field 0) (fields (drop at line.now)) }
+// The number that digits are, none or with zeros in front too, if it fits 64 bits.
+fn digits(field: &[u8]) -> Option<u64>
+    ensures { as_number result ≡ digits_field 0 field.now }
 {
     let mut n: u64 = 0;
-    let mut i = at;
-    while i < line.len() {
-        let b = line[i];
-        if b == SPACE {
-            return Number::More(n, i + 1);
+    for b in field {
+        if !b.is_ascii_digit() {
+            return None;
         }
-        if b < ZERO {
-            return Number::Wrong;
-        }
-        if b > NINE {
-            return Number::Wrong;
-        }
-        let d = wide(b - ZERO);
-        if n > (u64::MAX - d) / BASE {
-            return Number::Wrong;
-        }
-        n = n * BASE + d;
-        i += 1;
+        n = n.checked_mul(BASE)?.checked_add(u64::from(*b - ZERO))?;
     }
-    Number::Last(n)
+    Some(n)
 }
 
-// The number that starts at `at`: at least one digit, and no leading zero but in 0 itself.
-fn number_at(line: &[u8], at: usize) -> Number
-    ensures { number_read line.now result ≡ read number_field (fields (drop at line.now)) }
+// The place of the first space.
+fn space(text: &[u8]) -> Option<usize>
+    ensures { result ≡ position (λ b. b == 32) text.now }
 {
-    if at >= line.len() {
-        return Number::Wrong;
-    }
-    let lead = line[at];
-    if lead == SPACE {
-        return Number::Wrong;
-    }
-    let next = at + 1;
-    if lead == ZERO && next < line.len() && line[next] != SPACE {
-        return Number::Wrong;
-    }
-    digits_at(line, at)
+    text.iter().position(|b| *b == SPACE)
 }
 
-// The number of 8 bits that starts at `at`.
-fn byte_at(line: &[u8], at: usize) -> Byte
-    ensures { byte_read line.now result ≡ read byte_field (fields (drop at line.now)) }
-{
-    match number_at(line, at) {
-        Number::Wrong => Byte::Wrong,
-        Number::Last(n) => {
-            if n > BYTE_MAX {
-                return Byte::Wrong;
+// The fields of a line that are not read yet, split at each space: those of `rest`, or none.
+#[derive(Drop)]
+struct Fields<'a> {
+    rest: Option<&'a [u8]>,
+}
+
+impl<'a> Model for Fields<'a> {
+    ghost use Rattle.std.specs.Prelude.{ℕ, List};
+    ghost use Rattle.command.specs.inner.Reading.{fields_left};
+
+    ghost Value = { List (List ℕ) };
+
+    ghost view = { λ f. fields_left f.rest };
+}
+
+impl<'a> Fields<'a> {
+    // The next field.
+    fn take(&mut self) -> Option<&'a [u8]>
+        ensures { MatchOption result (self.old ≡ []) (λ f. self.old ≡ f.now ∷ self.new) }
+    {
+        let rest = self.rest?;
+        match space(rest) {
+            Some(end) => {
+                self.rest = Some(&rest[end + 1..]);
+                Some(&rest[..end])
             }
-            Byte::Last(n as u8)
-        }
-        Number::More(n, next) => {
-            if n > BYTE_MAX {
-                return Byte::Wrong;
+            None => {
+                self.rest = None;
+                Some(rest)
             }
-            Byte::More(n as u8, next)
         }
+    }
+
+    // The next field as a number of 64 bits.
+    fn number(&mut self) -> Option<u64>
+        ensures { with_rest (as_number result) self.new ≡ read number_field self.old }
+    {
+        number(self.take()?)
+    }
+
+    // The next field as a number of 8 bits.
+    fn byte(&mut self) -> Option<u8>
+        ensures { with_rest (as_number result) self.new ≡ read byte_field self.old }
+    {
+        u8::try_from(self.number()?).ok()
+    }
+
+    // The next field as a vector. Its bound is that of `graph::WIDTH` bits, whatever the type has, so it is no `try_from`.
+    fn vector(&mut self) -> Option<u8>
+        ensures { with_rest (as_number result) self.new ≡ read vector_field self.old }
+    {
+        let vector = self.number()?;
+        if vector > VECTOR_MAX {
+            return None;
+        }
+        Some(vector as u8)
+    }
+
+    // The command, if no field is left.
+    fn end(&self, command: Command) -> Option<Command>
+        ensures { as_command result ≡ only self.now (command_as command) }
+    {
+        self.rest.is_none().then_some(command)
     }
 }
 
 // `J seat number vector contact`
-fn join(line: &[u8]) -> Parsed
-    ensures { as_command result ≡ command_of ((74 ∷ []) ∷ fields (drop 2 line.now)) }
+fn join(fields: &mut Fields) -> Option<Command>
+    ensures { as_command result ≡ command_of ((74 ∷ []) ∷ fields.old) }
 {
-    let Byte::More(seat, at_number) = byte_at(line, FIRST) else {
-        return Parsed::Bad;
-    };
-    let Number::More(n, at_vector) = number_at(line, at_number) else {
-        return Parsed::Bad;
-    };
-    let Number::More(vector, at_contact) = number_at(line, at_vector) else {
-        return Parsed::Bad;
-    };
-    if vector > VECTOR_MAX {
-        return Parsed::Bad;
-    }
-    let Byte::Last(contact) = byte_at(line, at_contact) else {
-        return Parsed::Bad;
-    };
-    Parsed::Join(seat, n, vector as u8, contact)
+    let seat = fields.byte()?;
+    let number = fields.number()?;
+    let vector = fields.vector()?;
+    let contact = fields.byte()?;
+    fields.end(Command::Join {
+        seat,
+        number,
+        vector,
+        contact,
+    })
 }
 
 // `L seat`
-fn leave(line: &[u8]) -> Parsed
-    ensures { as_command result ≡ command_of ((76 ∷ []) ∷ fields (drop 2 line.now)) }
+fn leave(fields: &mut Fields) -> Option<Command>
+    ensures { as_command result ≡ command_of ((76 ∷ []) ∷ fields.old) }
 {
-    let Byte::Last(seat) = byte_at(line, FIRST) else {
-        return Parsed::Bad;
-    };
-    Parsed::Leave(seat)
+    let seat = fields.byte()?;
+    fields.end(Command::Leave { seat })
 }
 
 // `D kind to about level side`
-fn deliver(line: &[u8]) -> Parsed
-    ensures { as_command result ≡ command_of ((68 ∷ []) ∷ fields (drop 2 line.now)) }
+fn deliver(fields: &mut Fields) -> Option<Command>
+    ensures { as_command result ≡ command_of ((68 ∷ []) ∷ fields.old) }
 {
-    let Byte::More(kind, at_to) = byte_at(line, FIRST) else {
-        return Parsed::Bad;
-    };
-    let Byte::More(to, at_about) = byte_at(line, at_to) else {
-        return Parsed::Bad;
-    };
-    let Byte::More(about, at_level) = byte_at(line, at_about) else {
-        return Parsed::Bad;
-    };
-    let Byte::More(level, at_side) = byte_at(line, at_level) else {
-        return Parsed::Bad;
-    };
-    let Byte::Last(side) = byte_at(line, at_side) else {
-        return Parsed::Bad;
-    };
-    Parsed::Deliver(kind, to, about, level, side)
+    let kind = fields.byte()?;
+    let to = fields.byte()?;
+    let about = fields.byte()?;
+    let level = fields.byte()?;
+    let side = fields.byte()?;
+    fields.end(Command::Deliver {
+        kind,
+        to,
+        about,
+        level,
+        side,
+    })
 }
 
 // `F start number`
-fn find(line: &[u8]) -> Parsed
-    ensures { as_command result ≡ command_of ((70 ∷ []) ∷ fields (drop 2 line.now)) }
+fn find(fields: &mut Fields) -> Option<Command>
+    ensures { as_command result ≡ command_of ((70 ∷ []) ∷ fields.old) }
 {
-    let Byte::More(start, at_number) = byte_at(line, FIRST) else {
-        return Parsed::Bad;
-    };
-    let Number::Last(n) = number_at(line, at_number) else {
-        return Parsed::Bad;
-    };
-    Parsed::Find(start, n)
+    let start = fields.byte()?;
+    let number = fields.number()?;
+    fields.end(Command::Find { start, number })
 }
 
-// The command of a line that is one letter: `T`, `A` or `P`.
-fn alone(letter: u8) -> Parsed
-    ensures { as_command result ≡ command_of ((letter ∷ []) ∷ []) }
-{
-    match letter {
-        b'T' => Parsed::Turn,
-        b'A' => Parsed::Settle,
-        b'P' => Parsed::Print,
-        _ => Parsed::Bad,
-    }
-}
-
-// The command that a line is: `J 0 100 0 255` is `Join(0, 100, 0, 255)`. A line of another form, or with a number too wide, is `Bad`: an empty
-// line too, one with two spaces together or with a space at an end, and any line of more than `longest` bytes (proofs/Text.antt, `long-bad`).
-pub fn parse(line: &[u8]) -> Parsed
+// The command that a line is: `J 0 100 0 255` is the join of lot 100 on seat 0. A line of another form, or with a number too wide, is none: an
+// empty line too, one with two spaces together or with a space at an end, and any line of more than `longest` bytes (proofs/Text.antt, `long-bad`).
+pub fn parse(line: &[u8]) -> Option<Command>
     ensures { as_command result ≡ parsed line.now }
 {
-    if line.len() == 0 {
-        return Parsed::Bad;
-    }
-    let letter = line[0];
-    if line.len() == 1 {
-        return alone(letter);
-    }
-    if line[1] != SPACE {
-        return Parsed::Bad;
-    }
-    match letter {
-        b'J' => join(line),
-        b'L' => leave(line),
-        b'D' => deliver(line),
-        b'F' => find(line),
-        _ => Parsed::Bad,
+    let mut fields = Fields { rest: Some(line) };
+    let [letter] = fields.take()? else {
+        return None;
+    };
+    match *letter {
+        b'J' => join(&mut fields),
+        b'L' => leave(&mut fields),
+        b'D' => deliver(&mut fields),
+        b'F' => find(&mut fields),
+        b'T' => fields.end(Command::Turn),
+        b'A' => fields.end(Command::Settle),
+        b'P' => fields.end(Command::Print),
+        _ => None,
     }
 }

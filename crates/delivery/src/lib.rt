@@ -14,6 +14,7 @@ ghost use Rattle.record.specs.Call.{called};
 ghost use Rattle.record.specs.Answer.{Numbered, outcome};
 ghost use Rattle.messages.specs.inner.Places.{place_of};
 
+use index::Index;
 use messages::place_of;
 use record::refusals::NO_SUCH_MESSAGE;
 use record::{Answer, MESSAGES};
@@ -46,8 +47,7 @@ fn deliver_meet(rec: &mut [u8], to: usize, about: usize, level: usize, side: usi
     if !take_named(rec, 1, to, about, level, side) {
         return Answer::Refused(NO_SUCH_MESSAGE);
     }
-    let mut index = [0u64; index::SIZE];
-    meet(rec, &mut index, 0, to, about, level);
+    meet(rec, &mut Index::new(), to, about, level);
     Answer::Done
 }
 
@@ -58,8 +58,7 @@ fn deliver_probe(rec: &mut [u8], to: usize, about: usize, level: usize, side: us
     if !take_named(rec, 2, to, about, level, side) {
         return Answer::Refused(NO_SUCH_MESSAGE);
     }
-    let mut index = [0u64; index::SIZE];
-    probe(rec, &mut index, 0, to, about, level);
+    probe(rec, &mut Index::new(), to, about, level);
     Answer::Done
 }
 
@@ -70,8 +69,7 @@ fn deliver_pull(rec: &mut [u8], to: usize, about: usize, level: usize, side: usi
     if !take_named(rec, 3, to, about, level, side) {
         return Answer::Refused(NO_SUCH_MESSAGE);
     }
-    let mut index = [0u64; index::SIZE];
-    pull(rec, &mut index, 0, to, about, level, side);
+    pull(rec, &mut Index::new(), to, about, level, side);
     Answer::Done
 }
 
@@ -82,8 +80,7 @@ fn deliver_going(rec: &mut [u8], to: usize, about: usize, level: usize, side: us
     if !take_named(rec, 4, to, about, level, side) {
         return Answer::Refused(NO_SUCH_MESSAGE);
     }
-    let mut index = [0u64; index::SIZE];
-    going(rec, &mut index, 0, to, level, side);
+    going(rec, &mut Index::new(), to, level, side);
     Answer::Done
 }
 
@@ -94,8 +91,7 @@ fn deliver_seek(rec: &mut [u8], to: usize, about: usize, level: usize, side: usi
     if !take_named(rec, 5, to, about, level, side) {
         return Answer::Refused(NO_SUCH_MESSAGE);
     }
-    let mut index = [0u64; index::SIZE];
-    seek(rec, &mut index, 0, to, about, level);
+    seek(rec, &mut Index::new(), to, about, level);
     Answer::Done
 }
 

@@ -68,13 +68,13 @@ pub fn bit(vector: u8, k: usize) -> usize
     requires { k < width }
     ensures { (eqb result 1 ≡ bit_at width k vector) × (result < 2) }
 {
-    ((vector >> (LAST_BIT - k)) % 2) as usize
+    usize::from((vector >> (LAST_BIT - k)) % 2)
 }
 
 // The count of equal bits from the highest on, up to the width.
 pub fn share(a: u8, b: u8) -> u8
     ensures { result ≡ shared width a b }
 {
-    let zeros = u8::leading_zeros(a ^ b) as u8;
-    if zeros < WIDTH { zeros } else { WIDTH }
+    let zeros = (a ^ b).leading_zeros() as u8;
+    zeros.min(WIDTH)
 }

@@ -13,7 +13,7 @@ use Rattle.base.proofs.Tests.{not-T-false}
 use Rattle.memory.specs.Bits.{has_bit}
 use Rattle.base.proofs.First.{first, first-is}
 use Rattle.index.specs.inner.Index.{parts, is_noted, is_some, Exact}
-use Rattle.index.proofs.Index.{some-within}
+use Rattle.index.proofs.Noted.{some-within}
 
 -- word j of number k
 noted_in : (x : List ℕ) (k j : ℕ) → j < 64 → is_noted x (k * 64 + j) ≡ has_bit (get_or x k 0) j

@@ -1,3 +1,3 @@
 -- What the index says after a word is noted or struck out, and its first word.
-pub mod Index
+pub mod Noted
 pub mod FirstWord

@@ -7,7 +7,7 @@ ghost use Rattle.program.specs.Pieces.{Takes, fed_byte, ended};
 
 mod settle;
 
-use command::Parsed;
+use command::Command;
 
 // Room for the text of every answer.
 pub const ROOM: usize = answers::ROOM;
@@ -18,33 +18,46 @@ const NEWLINE: u8 = b'\n';
 pub fn answer(rec: &mut [u8], line: &[u8], out: &mut [u8; ROOM]) -> usize
     ensures { Gives (answered rec.old line.now) rec.new out.old out.new result }
 {
-    match command::parse(line) {
-        Parsed::Bad => answers::bad(out),
-        Parsed::Join(seat, number, vector, contact) => {
+    let Some(command) = command::parse(line) else {
+        return answers::bad(out);
+    };
+    match command {
+        Command::Join {
+            seat,
+            number,
+            vector,
+            contact,
+        } => {
             let a = joining::join(rec, seat, number, vector, contact);
             answers::changed(a, out)
         }
-        Parsed::Leave(seat) => {
+        Command::Leave { seat } => {
             let a = joining::leave(rec, seat);
             answers::changed(a, out)
         }
-        Parsed::Deliver(kind, to, about, level, side) => {
+        Command::Deliver {
+            kind,
+            to,
+            about,
+            level,
+            side,
+        } => {
             let a = delivery::deliver(rec, kind, to, about, level, side);
             answers::changed(a, out)
         }
-        Parsed::Turn => {
+        Command::Turn => {
             let a = clearing::turn(rec);
             answers::changed(a, out)
         }
-        Parsed::Settle => {
+        Command::Settle => {
             let a = settle::settle(rec);
             answers::changed(a, out)
         }
-        Parsed::Find(seat, number) => {
-            let a = find::find(rec, seat, number);
+        Command::Find { start, number } => {
+            let a = find::find(rec, start, number);
             answers::searched(a, out)
         }
-        Parsed::Print => answers::print(rec, out),
+        Command::Print => answers::print(rec, out),
     }
 }
 

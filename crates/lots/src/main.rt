@@ -5,130 +5,107 @@
 // out, so that standard output has a beginning of the right answers; a line on standard error says so, and the exit status is 1.
 #![tactic(auto)]
 
-ghost use Rattle.std.specs.Prelude.{◌≡◌, true, length, take};
+ghost use Rattle.std.specs.Prelude.{◌≡◌, length, take, OnOk};
 ghost use Rattle.program.specs.Pieces.{fed};
 
 use lines::ROOM;
+use std::fmt;
 use std::io::Read;
 use std::process::ExitCode;
 
-// Writes the first n bytes of an answer. Whether all of them were written.
-fn write(rt: &HostRuntime, answer: &[u8], n: usize) -> bool {
-    if n <= answer.len() && rt.write_all(&answer[..n]).is_ok() {
-        return true;
-    }
-    let _ = rt.eprint("lots: write failed\n");
-    false
+// Room for an unfinished line: no command fills it (`cut_line` in the proofs of crate command).
+const LINE: usize = 64;
+
+// Why a run ends before its input does.
+#[derive(Clone, Copy, Debug, PartialEq, Eq)]
+enum Stop {
+    ReadFailed,
+    WriteFailed,
 }
 
-// The bytes of an unfinished line, whether to go on, and whether no read and no write has failed.
+impl fmt::Display for Stop {
+    fn fmt<W: fmt::Write>(&self, f: &mut fmt::Formatter<W>) -> fmt::Result {
+        f.write_str(match self {
+            Stop::ReadFailed => "read failed",
+            Stop::WriteFailed => "write failed",
+        })
+    }
+}
+
+// A record, the bytes of an unfinished line, of which the first `kept` are kept, and room for an answer.
 #[derive(Drop)]
-struct Input {
+struct Session {
+    rec: [u8; record::SIZE],
+    line: [u8; LINE],
     kept: usize,
-    more: bool,
-    well: bool,
+    out: [u8; ROOM],
 }
 
-// Takes the bytes of a piece of input and writes the answers to the lines that end in it, as long as they are written. `line` has the bytes that
-// are kept of an unfinished line, n of them.
-fn take_piece(
-    rt: &HostRuntime,
-    rec: &mut [u8],
-    line: &mut [u8],
-    n: usize,
-    piece: &[u8],
-    out: &mut [u8; ROOM],
-) -> Input
-    ensures { result.more ≡ true → (let f = fed (length line.old) rec.old (take n line.old) piece.now in
-        (rec.new ≡ f.after) × (take result.kept line.new ≡ f.line)) }
-{
-    let mut kept = n;
-    for i in 0..piece.len() {
-        let taken = lines::take_byte(rec, line, kept, piece[i], out);
-        kept = taken.kept;
-        if !write(rt, out, taken.answer) {
-            return Input {
-                kept,
-                more: false,
-                well: false,
-            };
-        }
-    }
-    Input {
-        kept,
-        more: true,
-        well: true,
-    }
-}
-
-// After the last read, which failed if it answered an error. Otherwise input is at its end, and the last line may lack its newline.
-fn end_input(
-    rt: &HostRuntime,
-    rec: &mut [u8],
-    line: &[u8],
-    n: usize,
-    has_failed: bool,
-    out: &mut [u8; ROOM],
-) -> Input {
-    if has_failed {
-        let _ = rt.eprint("lots: read failed\n");
-        return Input {
+impl Session {
+    // A record just opened.
+    fn new() -> Session {
+        let mut rec = [0u8; record::SIZE];
+        reading::open(&mut rec);
+        Session {
+            rec,
+            line: [0; LINE],
             kept: 0,
-            more: false,
-            well: false,
-        };
-    }
-    let count = lines::take_end(rec, line, n, out);
-    let well = write(rt, out, count);
-    Input {
-        kept: 0,
-        more: false,
-        well,
-    }
-}
-
-// Reads once.
-fn read_some(
-    rt: &HostRuntime,
-    rec: &mut [u8],
-    line: &mut [u8],
-    n: usize,
-    out: &mut [u8; ROOM],
-) -> Input {
-    let mut piece = [0u8; 4096];
-    match rt.stdin().read(&mut piece) {
-        Ok(0) => end_input(rt, rec, line, n, false, out),
-        Ok(count) => take_piece(rt, rec, line, n, &piece[..count], out),
-        Err(_) => end_input(rt, rec, line, n, true, out),
-    }
-}
-
-// Reads as long as there is more. Whether no read and no write has failed. A proved loop has to end, and nothing says that input does: the turns
-// are counted up to a number that no run comes to.
-fn read_all(rt: &HostRuntime, rec: &mut [u8], line: &mut [u8], out: &mut [u8; ROOM]) -> bool {
-    let mut input = Input {
-        kept: 0,
-        more: true,
-        well: true,
-    };
-    for _ in 0..u64::MAX {
-        if !input.more {
-            break;
+            out: [0; ROOM],
         }
-        input = read_some(rt, rec, line, input.kept, out);
     }
-    input.well
+
+    // Writes the first n bytes of the answer.
+    fn write(&self, rt: &HostRuntime, n: usize) -> Result<(), Stop> {
+        let answer = self.out.get(..n).ok_or(Stop::WriteFailed)?;
+        rt.write_all(answer).map_err(|_| Stop::WriteFailed)
+    }
+
+    // Takes the bytes of a piece of input and writes the answers to the lines that end in it.
+    fn take_piece(&mut self, rt: &HostRuntime, piece: &[u8]) -> Result<(), Stop>
+        ensures { OnOk result (let f = fed (length self.old.line) self.old.rec (take self.old.kept self.old.line) piece.now in
+            (self.new.rec ≡ f.after) × (take self.new.kept self.new.line ≡ f.line)) }
+    {
+        for byte in piece {
+            let taken = lines::take_byte(
+                &mut self.rec,
+                &mut self.line,
+                self.kept,
+                *byte,
+                &mut self.out,
+            );
+            self.kept = taken.kept;
+            self.write(rt, taken.answer)?;
+        }
+        Ok(())
+    }
+
+    // At the end of input, where the last line may lack its newline.
+    fn take_end(&mut self, rt: &HostRuntime) -> Result<(), Stop> {
+        let answer = lines::take_end(&mut self.rec, &self.line, self.kept, &mut self.out);
+        self.write(rt, answer)
+    }
+
+    // Reads to the end of input. A proved loop has to end, and nothing says that input does: the turns are counted up to a number that no run
+    // comes to.
+    fn run(&mut self, rt: &HostRuntime) -> Result<(), Stop> {
+        let mut piece = [0u8; 4096];
+        for _ in 0..u64::MAX {
+            let count = rt.stdin().read(&mut piece).map_err(|_| Stop::ReadFailed)?;
+            if count == 0 {
+                return self.take_end(rt);
+            }
+            self.take_piece(rt, &piece[..count])?;
+        }
+        Ok(())
+    }
 }
 
 fn main(rt: HostRuntime) -> ExitCode {
-    let mut rec = [0u8; record::SIZE];
-    reading::open(&mut rec);
-    // no command fills it (`cut_line` in the proofs of crate command)
-    let mut line = [0u8; 64];
-    let mut out = [0u8; ROOM];
-    if read_all(&rt, &mut rec, &mut line, &mut out) {
-        ExitCode::SUCCESS
-    } else {
-        ExitCode::FAILURE
+    match Session::new().run(&rt) {
+        Ok(()) => ExitCode::SUCCESS,
+        Err(stop) => {
+            let _ = eprintln!(rt; "lots: {stop}");
+            ExitCode::FAILURE
+        }
     }
 }

@@ -1,15 +1,13 @@
 -- Bitmaps in bytes: a bit after one was set or cleared, other bytes, and bytes as their bits. Assumes nothing.
-use Prim.Native.Nat.{ℕ, ◌+◌, ◌*◌, ◌/◌, ◌%◌, ◌^◌, ◌≤◌, ◌<◌}
+use Prim.Native.Nat.{ℕ, ◌+◌, ◌*◌, ◌/◌, ◌%◌, ◌≤◌, ◌<◌}
 use mathlib.Core.Path.{◌≡◌, sym, ap, ◌∙◌}
 use mathlib.Core.Logic.{◌⊎◌, ⊎_elim}
 use mathlib.Core.Bool.{Bool}
 use mathlib.Core.List.{List}
 use native.Mathlib.Omega.{arith}
-use native.Mathlib.Nat.{div-add-mod', mul_comm}
-use lib.Bits.{bit_or, or_shifted_r}
+use native.Mathlib.Nat.{div-add-mod'}
 use lib.Dec.{eqb}
 use lib.ListN.{length, get_or, set, length-set}
-use lib.Pow.{shl_exact}
 use lib.Seq.{get_or-set_same, get_or-set_other, set-get_or, set_out}
 use Rattle.base.specs.Loops.{all}
 use Rattle.memory.specs.Bytes.{AreBytes, put_number}
@@ -18,7 +16,7 @@ use Rattle.base.proofs.Cases.{lt-or-ge, eq-or-ne}
 use Rattle.base.proofs.All.{all_same}
 use Rattle.memory.proofs.Bytes.{bytes-set, get_d-put_number-other}
 use Rattle.memory.proofs.Bits.{has_bit-with_bit, has_bit-with_bit-other, with_bit-lt, with_bit-has_bit}
-use Rattle.memory.proofs.Packed.{packed-is, packed-bits, packed_lt, packed-append, packed-parts}
+use Rattle.memory.proofs.Packed.{packed-is, packed-bits, packed-parts}
 
 -- a bit is of its own byte alone
 pub bit_set-agrees : (l m : List ℕ) (base i : ℕ) → get_or l (base + i / 8) 0 ≡ get_or m (base + i / 8) 0 → bit_set l base i ≡ bit_set m base i
@@ -58,16 +56,6 @@ bytes-all l base n w v b e f h =
     ap (eqb (packed (n * 8) (bit_set l base))) (sym e)
     ∙ packed-parts n 8 (bit_set l base) (λ j. b)
     ∙ all_same n _ _ (λ i p. rw (byte-packed l base i h, f))
-
--- byte i of n joined to the bits before it: code's or with the shifted byte
-pub or_byte : (l : List ℕ) (base n i : ℕ) → AreBytes l → i < n
-    → bit_or (packed (8 * i) (bit_set l base)) ((get_or l (base + i) 0 * 2 ^ (8 * i)) % 2 ^ (8 * n)) ≡ packed (8 * (i + 1)) (bit_set l base)
-or_byte l base n i b h =
-    let x = get_or l (base + i) 0 in
-    let e : 8 * (i + 1) ≡ 8 * i + 8 = omega arith in
-    let whole : (x * 2 ^ (8 * i)) % 2 ^ (8 * n) ≡ x * 2 ^ (8 * i) = shl_exact 8 (8 * i) (8 * n) (b (base + i)) (omega arith) in
-    rw (whole, or_shifted_r x (8 * i) (packed (8 * i) (bit_set l base)) (packed_lt (8 * i) (bit_set l base)), e, packed-append)
-    (ap (λ (y : ℕ). y * 2 ^ (8 * i) + packed (8 * i) (bit_set l base)) (simp (mul_comm i 8) at (byte-packed l base i b)))
 
 -- a bit of a byte that was made of its bits
 pub bit_set-packed : (l : List ℕ) (base i : ℕ) (p : ℕ → Bool) → get_or l (base + i / 8) 0 ≡ packed 8 (λ j. p (i / 8 * 8 + j))

@@ -1,23 +1,14 @@
 -- Numbers in bytes: what reading gives after writing, at the same place and at others, and that bytes stay bytes. Assumes nothing.
-use Prim.Native.Nat.{ℕ, zero, suc, ◌+◌, ◌*◌, ◌/◌, ◌%◌, ◌^◌, ◌≤◌, ◌<◌}
+use Prim.Native.Nat.{ℕ, zero, suc, ◌+◌, ◌/◌, ◌%◌, ◌^◌, ◌≤◌, ◌<◌}
 use mathlib.Core.Path.{◌≡◌, refl, ap, ◌∙◌}
 use mathlib.Core.Logic.{◌⊎◌, ⊎_elim, inl, inr}
 use mathlib.Core.List.{List}
 use native.Mathlib.Omega.{arith}
 use native.Mathlib.Nat.{pow-suc}
-use native.Mathlib.Numerals.{add-one}
 use lib.ListN.{length, get_or, set, length-set}
 use lib.Seq.{get_or-set_same, get_or-set_other, set_out}
 use Rattle.memory.specs.Bytes.{AreBytes, number_at, put_number}
 use Rattle.base.proofs.Cases.{lt-or-ge, eq-or-ne}
-
-pub number_at-none : (l : List ℕ) (a : ℕ) → number_at l a 0 ≡ 0
-unfolding number_at
-number_at-none l a = refl
-
-pub number_at-more : (l : List ℕ) (a n : ℕ) → number_at l a (n + 1) ≡ number_at l a n * 256 + get_or l (a + n) 0
-unfolding number_at
-number_at-more l a n = rw add-one
 
 pub number_at-lt : (l : List ℕ) (a n : ℕ) → AreBytes l → number_at l a n < 256 ^ n
 unfolding number_at

@@ -4,11 +4,9 @@ use mathlib.Core.Path.{◌≡◌, refl, sym, ap, ◌∙◌}
 use mathlib.Core.Logic.{⊎_elim, inl, inr}
 use mathlib.Core.List.{List}
 use native.Mathlib.Omega.{arith}
-use native.Mathlib.Nat.{mul-suc, mul_comm, zero-div, mul_assoc, add-mul, pow-suc, div-div-eq-div-mul}
-use native.Mathlib.Numerals.{add-one}
-use lib.Bits.{bit_or, or_shifted}
-use lib.ListN.{length, get_or, set}
-use lib.Pow.{pow-add, shl_lt, shl_exact}
+use native.Mathlib.Nat.{mul-suc, mul_comm, zero-div, pow-suc, div-div-eq-div-mul}
+use lib.ListN.{length, get_or}
+use lib.Pow.{pow-add}
 use lib.Seq.{get_or-set_same, get_or-set_other, ext_get_or}
 use Rattle.memory.specs.Bytes.{AreBytes, number_at, put_number, digit}
 use Rattle.base.proofs.Cases.{lt-or-ge}
@@ -34,39 +32,10 @@ digit-before n v j h =
     let e : suc n - suc j ≡ suc (n - suc j) = omega arith in
     rw (e, pow-suc, mul_comm (256 ^ (n - suc j)) 256) (ap (λ (x : ℕ). x % 256) (sym (div-div-eq-div-mul v 256 (256 ^ (n - suc j)))))
 
--- a digit by a shift
-pow-bytes : (m : ℕ) → 2 ^ (8 * m) ≡ 256 ^ m
+-- a power of bytes, by its bits
+pub pow-bytes : (m : ℕ) → 2 ^ (8 * m) ≡ 256 ^ m
 pow-bytes zero = refl
 pow-bytes (suc m) = rw (mul-suc, pow-add, pow-bytes m) (sym (pow-suc 256 m))
-
-pub digit_shift : (n v j k : ℕ) → k + suc j ≡ n → v / 2 ^ (8 * k) % 256 ≡ digit n v j
-unfolding digit
-digit_shift n v j k h = let e : n - suc j ≡ k = omega arith in rw (e, pow-bytes k)
-
--- byte i of n joined to the number x of the bytes before it: code's or with the shifted byte
-pub or-digit : (x b n i k : ℕ) → k + suc i ≡ n → b < 256
-    → bit_or (x * 256 ^ (n - i)) ((b * 2 ^ (8 * k)) % 2 ^ (8 * n)) ≡ (x * 256 + b) * 256 ^ k
-or-digit x b n i k h f =
-    let e : n - i ≡ suc k = omega arith in
-    let w : 8 + 8 * k ≡ 8 * suc k = omega arith in
-    let low : b * 2 ^ (8 * k) < 2 ^ (8 * suc k) = rw (← w) (shl_lt 8 (8 * k) f) in
-    let high : x * 256 ^ (n - i) ≡ x * 2 ^ (8 * suc k) = rw (e, pow-bytes (suc k)) in
-    let whole : (b * 2 ^ (8 * k)) % 2 ^ (8 * n) ≡ b * 2 ^ (8 * k) = shl_exact 8 (8 * k) (8 * n) f (omega arith) in
-    rw (high, whole, or_shifted x (8 * suc k) (b * 2 ^ (8 * k)) low, pow-bytes (suc k), pow-bytes k, pow-suc 256 k)
-    (rw (mul_comm (256 ^ k) 256, add-mul, mul_assoc))
-
--- one byte more of a number that is written highest byte first
-pub put_number-none : (l : List ℕ) (a v : ℕ) → put_number l a 0 v ≡ l
-unfolding put_number
-put_number-none l a v = refl
-
-pub put_number-more : (l : List ℕ) (a n v i : ℕ) → i < n
-    → put_number l a (i + 1) (v / 256 ^ (n - (i + 1))) ≡ set (put_number l a i (v / 256 ^ (n - i))) (a + i) (digit n v i)
-unfolding put_number digit
-put_number-more l a n v i h =
-    let e : n - i ≡ suc (n - suc i) = omega arith in
-    let m = 256 ^ (n - suc i) in
-    rw (add-one, e, pow-suc) (ap (λ (x : ℕ). set (put_number l a i x) (a + i) (v / m % 256)) (div-div-eq-div-mul v m 256))
 
 -- a number that was written is its digits
 pub get_d-put_number : (l : List ℕ) (a n v j : ℕ) → a + n ≤ length l → j < n → get_or (put_number l a n v) (a + j) 0 ≡ digit n v j

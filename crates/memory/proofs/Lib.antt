@@ -11,3 +11,5 @@ pub mod Words
 pub mod FirstSet
 pub mod Search
 pub mod Examples
+pub mod Conversions
+pub mod Runs

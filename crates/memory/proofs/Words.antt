@@ -5,11 +5,12 @@ use mathlib.Core.Logic.{◌⊎◌, inl, inr, ⊎_elim}
 use mathlib.Core.Bool.{Bool, true, false}
 use mathlib.Core.List.{List}
 use native.Mathlib.Omega.{arith}
-use native.Mathlib.Numerals.{add-one}
-use lib.Bits.{bit_and, bit_or}
-use lib.ListN.{length, get_or, set, length-set}
+use lib.Bits.{bit_and, bit_or, and_comm}
+use lib.ListN.{length, get_or, length-set}
 use lib.Pow.{low}
 use lib.Seq.{get_or-set_same, get_or-set_other, ext_get_or}
+use Rattle.std.specs.Int.{w64, bit_not}
+use Rattle.std.proofs.lemmas.Nat.{and-not}
 use Rattle.base.proofs.Any.{any_here, any_same, none_any}
 use Rattle.base.proofs.Cases.{lt-or-ge, eq-or-ne}
 use Rattle.base.proofs.Tests.{T_true, true-false, false-T, not-T-false}
@@ -26,25 +27,20 @@ module _ (l : List ℕ) (a v : ℕ) where
   length-put_low zero = refl
   length-put_low (suc n) = rw length-set (length-put_low n)
 
-  get_d-put_low-other : (n j : ℕ) → (j < a) ⊎ (a + n ≤ j) → get_or (put_low l a n v) j 0 ≡ get_or l j 0
+  pub get_d-put_low-other : (n j : ℕ) → (j < a) ⊎ (a + n ≤ j) → get_or (put_low l a n v) j 0 ≡ get_or l j 0
   unfolding put_low
   get_d-put_low-other zero j h = refl
   get_d-put_low-other (suc n) j h =
       get_or-set_other (put_low l a n v) (a + n) j _ 0 (λ e. ⊎_elim (λ q. omega arith) (λ q. omega arith) h)
       ∙ get_d-put_low-other n j (⊎_elim (λ q. inl q) (λ q. inr (omega arith)) h)
 
-  get_d-put_low : (n j : ℕ) → a + n ≤ length l → j < n → get_or (put_low l a n v) (a + j) 0 ≡ v / 2 ^ (j * 8) % 256
+  pub get_d-put_low : (n j : ℕ) → a + n ≤ length l → j < n → get_or (put_low l a n v) (a + j) 0 ≡ v / 2 ^ (j * 8) % 256
   unfolding put_low
   get_d-put_low zero j f h = absurd (omega arith)
   get_d-put_low (suc n) j f h = ⊎_elim
       (λ e. rw e (get_or-set_same (put_low l a n v) (a + n) (v / 2 ^ (n * 8) % 256) 0 (omega (arith, length-put_low n))))
       (λ ne. get_or-set_other (put_low l a n v) (a + n) (a + j) _ 0 (λ e. ne (omega arith)) ∙ get_d-put_low n j (omega arith) (omega arith))
       (eq-or-ne j n)
-
-  -- one byte more
-  pub put_low-more : (n : ℕ) → set (put_low l a n v) (a + n) (v / 2 ^ (n * 8) % 256) ≡ put_low l a (n + 1) v
-  unfolding put_low
-  put_low-more n = rw (add-one n)
 
 -- byte m of a number made of 64 bits
 byte-of-packed : (p : ℕ → Bool) (m : ℕ) → m < 8 → packed 64 p / 2 ^ (m * 8) % 256 ≡ packed 8 (λ j. p (m * 8 + j))
@@ -100,21 +96,25 @@ put_bit-word l base i v =
     let m : i % 64 % 8 ≡ i % 8 = omega arith in
     rw (d, m)
 
--- the word x with one bit set or cleared by a mask, and written back as y
-module _ (l : List ℕ) (base i : ℕ) (b : AreBytes l) (f : base + i / 64 * 8 + 8 ≤ length l)
-    {x : ℕ} (e : x ≡ packed 64 (bit_set l (base + i / 64 * 8))) where
-  pub put-bit : (v : Bool) {n : ℕ} {y : List ℕ} → n ≡ with_bit x (i % 64) v → y ≡ put_low l (base + i / 64 * 8) 8 n → y ≡ put_bit l base i v
-  put-bit v en ey =
-      ey
-      ∙ ap (put_low l (base + i / 64 * 8) 8) (en ∙ ap (λ (z : ℕ). with_bit z (i % 64) v) e)
-      ∙ put-changed l (base + i / 64 * 8) (i % 64) v b f (omega arith)
-      ∙ put_bit-word l base i v
+-- the word x with one bit changed, and written back as y
+pub put-bit : (l : List ℕ) (base i : ℕ) → AreBytes l → base + i / 64 * 8 + 8 ≤ length l → {x : ℕ} → x ≡ packed 64 (bit_set l (base + i / 64 * 8))
+    → (v : Bool) {n : ℕ} {y : List ℕ} → n ≡ with_bit x (i % 64) v → y ≡ put_low l (base + i / 64 * 8) 8 n → y ≡ put_bit l base i v
+put-bit l base i b f e v en ey =
+    ey
+    ∙ ap (put_low l (base + i / 64 * 8) 8) (en ∙ ap (λ (z : ℕ). with_bit z (i % 64) v) e)
+    ∙ put-changed l (base + i / 64 * 8) (i % 64) v b f (omega arith)
+    ∙ put_bit-word l base i v
 
-  pub set_word : {y : List ℕ} → y ≡ put_low l (base + i / 64 * 8) 8 (bit_or x ((1 * 2 ^ (i % 64)) % 2 ^ 64)) → y ≡ put_bit l base i true
-  set_word ey = put-bit true (ap (bit_or x) (one_shifted 64 (i % 64) (omega arith)) ∙ mask-set x (i % 64)) ey
+-- code's masks of a word: bit k set, and cleared
+pub mask_on : (x k : ℕ) → k < 64 → bit_or x ((1 * 2 ^ k) % 2 ^ 64) ≡ with_bit x k true
+mask_on x k h = ap (bit_or x) (one_shifted 64 k h) ∙ mask-set x k
 
-  pub clear-word : {y : List ℕ} → y ≡ put_low l (base + i / 64 * 8) 8 (x - bit_and x ((1 * 2 ^ (i % 64)) % 2 ^ 64)) → y ≡ put_bit l base i false
-  clear-word ey = put-bit false (ap (λ (m : ℕ). x - bit_and x m) (one_shifted 64 (i % 64) (omega arith)) ∙ mask-clear x (i % 64)) ey
+pub mask_off : (x k : ℕ) → k < 64 → x < 2 ^ 64 → bit_and x (bit_not w64 ((1 * 2 ^ k) % 2 ^ 64)) ≡ with_bit x k false
+mask_off x k h f =
+    let m = (1 * 2 ^ k) % 2 ^ 64 in
+    let off : bit_and x (bit_not w64 m) ≡ x - bit_and x m =
+    and_comm x (bit_not w64 m) ∙ omega (arith, and-not 64 m x (omega arith) f, and_comm m x) in
+    off ∙ ap (λ (p : ℕ). x - bit_and x p) (one_shifted 64 k h) ∙ mask-clear x k
 
 -- a bit and its word
 module _ (l : List ℕ) (base : ℕ) where

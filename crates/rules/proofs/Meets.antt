@@ -1,47 +1,44 @@
 -- MEET: from what its handlers read and did, step by step, to the effect of the rule on the bytes. Assumes nothing.
-use Prim.Native.Nat.{ℕ, ◌-◌, ◌<◌}
+use Prim.Native.Nat.{ℕ, ◌<◌}
+use Rattle.std.specs.Prelude as code
+use Rattle.std.specs.Prelude.{Some, None, MatchOption, is_some}
+use Rattle.std.specs.Option.{option_eq}
 use mathlib.Core.Path.{◌≡◌, refl, sym, ap, ◌∙◌}
 use mathlib.Core.Logic.{inl}
-use mathlib.Core.Option.{Option, none, some}
-use mathlib.Core.Bool.{Bool, true, false, not, cond, ◌&&◌}
+use mathlib.Core.Option.{Option}
+use mathlib.Core.Bool.{Bool, true, false, not, cond}
 use mathlib.Core.List.{List, [], ◌∷◌, ◌++◌}
 use native.Mathlib.Omega.{arith}
-use borrow.Author.Tests.{ltb-true, lt-ltb, eq-eqb, ne_eqb}
+use borrow.Author.Tests.{lt-ltb, eq-eqb}
 use lib.Dec.{eqb, ltb}
 use lib.ListN.{set}
 use lib.Seq.{get_or-set_other}
 use Rattle.memory.specs.Bytes.{number_at}
 use Rattle.memory.proofs.Bytes.{number_at-set-other}
-use Rattle.base.proofs.Cases.{and_left}
-use Rattle.graph.specs.Side.{Side, left, right, opp, on_side, side_of, side_of_number}
+use Rattle.graph.specs.Side.{Side, left, right, opp, on_side, side_of}
 use Rattle.graph.specs.Vector.{width, bit}
 use Rattle.protocol.specs.Message.{meet, probe, pull}
 use Rattle.protocol.specs.Numbering.{place}
-use Rattle.protocol.specs.Rules.{Entry, to_link, sending, setting, meeting, effect}
+use Rattle.protocol.specs.Rules.{Entry, Effect, to_link, sending, setting, meeting, effect}
 use Rattle.protocol.specs.State.{Meaning, entry}
 use Rattle.protocol.specs.pages.Deliver.{rule, applied}
 use Rattle.record.specs.Layout.{seats, levels, vector_size, link_at, vector_from}
 use Rattle.record.specs.Meaning.{meaning, link_of}
 use Rattle.record.proofs.Form.{meaning-vector, meaning-link}
 use Rattle.record.specs.inner.Entry.{written}
-use Rattle.record.specs.declared.fields.Change.{Change}
-use Rattle.record.specs.declared.fields.Change.TheVariants.{Keep, Set}
-use Rattle.record.proofs.Links.{side-opp, link_of-some}
+use Rattle.record.specs.inner.Code.{as_link}
 use Rattle.rules.specs.inner.Done.{changed, Indexed, indexed, send_at, send_all, carried}
 use Rattle.rules.specs.inner.Told.{told}
 use Rattle.rules.proofs.Sends.{send-more, send-append}
-use Rattle.rules.proofs.Sides.{bit_not}
 
--- PROBE and PULL after a set below the highest level: b is the bit of `to`, x the record with the PROBE sent, y with the PULL
-pub spread-sent : (l : List ℕ) (to about v other d : ℕ) (n : List ℕ) (u : ℕ) {x y : Indexed} {level i b : ℕ} → level < width
+-- PROBE and PULL after a set below the highest level: x is the record with the PROBE sent, y with the PULL
+pub spread-sent : (l : List ℕ) (to about v : ℕ) (other : code.Option ℕ) (d : Side) (n : List ℕ) {x y : Indexed} {level i : ℕ} → level < width
     → i ≡ place seats width (probe about to level)
-    → x ≡ send_at i (indexed l n u)
-    → eqb b 1 ≡ bit width level v
-    → b < 2
-    → y ≡ send_all (to_link (link_of other) (λ z. pull z (eqb (1 - b) 1) level (side_of_number d))) x
+    → x ≡ send_at i (indexed l n)
+    → y ≡ send_all (to_link (as_link other) (λ z. pull z (not (bit width level v)) level d)) x
     → y ≡ send_all (cond (ltb level width)
-    (probe about to level ∷ to_link (link_of other) (λ z. pull z (not (bit width level v)) level (side_of_number d))) []) (indexed l n u)
-spread-sent l to about v other d n u h ei ex eb hb ey = rw (lt-ltb _ _ h, send-more, ← ei, ← ex, ← eb, ← bit_not _ hb) ey
+    (probe about to level ∷ to_link (as_link other) (λ z. pull z (not (bit width level v)) level d)) []) (indexed l n)
+spread-sent l to about v other d n h ei ex ey = rw (lt-ltb _ _ h, send-more, ← ei, ← ex) ey
 
 -- what is sent after a set, by the link that was there
 told_is : (M : Meaning) (to about level : ℕ) (d : Side) (old : Option ℕ) → told M to about level d old
@@ -52,18 +49,17 @@ told_is M to about level left old = rw (eq-eqb to to refl, eq-eqb level level re
 told_is M to about level right old = rw (eq-eqb to to refl, eq-eqb level level refl)
 
 -- one after the other: x is the record with the MEET about `to`, y with that about the old link, z with the rest
-pub told-sent : (l n : List ℕ) (u to about level old other d v : ℕ) {x y z : Indexed} {i : ℕ} → to < seats
-    → d < 2
-    → link_of other ≡ (meaning l).link to level (side_of_number (1 - d))
+pub told-sent : (l n : List ℕ) (to about level : ℕ) (old other : code.Option ℕ) (d : Side) (v : ℕ) {x y z : Indexed} {i : ℕ} → to < seats
+    → as_link other ≡ (meaning l).link to level (opp d)
     → v ≡ number_at l (vector_from to) vector_size
     → i ≡ place seats width (meet about to level)
-    → x ≡ send_at i (indexed l n u)
-    → y ≡ send_all (to_link (link_of old) (λ o. meet about o level)) x
+    → x ≡ send_at i (indexed l n)
+    → y ≡ send_all (to_link (as_link old) (λ o. meet about o level)) x
     → z ≡ send_all (cond (ltb level width)
-    (probe about to level ∷ to_link (link_of other) (λ o. pull o (not (bit width level v)) level (side_of_number (1 - d)))) []) y
-    → z ≡ send_all (told (meaning l) to about level (side_of_number d) (link_of old)) (indexed l n u)
-told-sent l n u to about level old other d v ht hd eo ev ei ex ey ez =
-    rw (told_is, send-more, send-append, ← side-opp d hd, ← eo, meaning-vector l to ht, ← ev, ← ei, ← ex, ← ey) ez
+    (probe about to level ∷ to_link (as_link other) (λ o. pull o (not (bit width level v)) level (opp d))) []) y
+    → z ≡ send_all (told (meaning l) to about level d (as_link old)) (indexed l n)
+told-sent l n to about level old other d v ht eo ev ei ex ey ez =
+    rw (told_is, send-more, send-append, ← eo, meaning-vector l to ht, ← ev, ← ei, ← ex, ← ey) ez
 
 -- a link written leaves the link on the other side and the vector
 module _ (l : List ℕ) (to level : ℕ) (d : Side) (v : ℕ) (ht : to < seats) (hl : level < levels) where
@@ -83,67 +79,67 @@ module _ (l : List ℕ) (to level : ℕ) (d : Side) (v : ℕ) (ht : to < seats) 
       ∙ number_at-set-other l (link_at to level d) v (vector_from to) vector_size (inl (omega arith))
       ∙ sym (meaning-vector l to ht)
 
--- what the rule does, by the byte of the link: it is `about`, or another
+-- what the rule does, by the link: it is `about`, or another, of which r says whether it is nearer
 module _ (num vec : ℕ → ℕ) (e : Entry) (to about level : ℕ) (d : Side) where
-  meeting-same : about < seats → meeting width num vec e to about level d (link_of about) ≡ sending []
+  meeting-same : (old : code.Option ℕ) → option_eq eqb old (Some about) ≡ true → meeting width num vec e to about level d (as_link old) ≡ sending []
   unfolding meeting
-  meeting-same h = rw (link_of-some about h, eq-eqb about about refl)
+  meeting-same None q = cc
+  meeting-same (Some z) q = let t : eqb z about ≡ true = q in rw t
 
-  meeting-other : (old : ℕ) → (old ≡ about → ⊥) → meeting width num vec e to about level d (link_of old)
-      ≡ cond (ltb old seats && on_side d (num old) (num about)) (sending (meet old about level ∷ [])) (setting width num vec e to about level d)
-  unfolding meeting link_of
-  meeting-other old ne = by (ltb old seats)
+  abbrev meeting-by : code.Option ℕ → Effect
+  meeting-by None = setting width num vec e to about level d
+  meeting-by (Some z) = sending (meet z about level ∷ [])
+
+  meeting-other : (old r : code.Option ℕ) → option_eq eqb old (Some about) ≡ false
+      → MatchOption old (r ≡ None) (λ z. r ≡ cond (on_side d (num z) (num about)) (Some z) None)
+      → meeting width num vec e to about level d (as_link old) ≡ meeting-by r
+  unfolding meeting
+  meeting-other None r q h = rw h
+  meeting-other (Some z) r q h = let t : eqb z about ≡ false = q in rw (t, h) (by (on_side d (num z) (num about)))
     where
-      by : (b : Bool) → meeting width num vec e to about level d (cond b (some old) none)
-          ≡ cond (b && on_side d (num old) (num about)) (sending (meet old about level ∷ [])) (setting width num vec e to about level d)
-      by true = rw (ne_eqb old about ne)
+      by : (b : Bool) → cond b (sending (meet z about level ∷ [])) (setting width num vec e to about level d) ≡ meeting-by (cond b (Some z) None)
+      by true = refl
       by false = refl
 
--- the link is `about`: old is its byte
-pub same-done : (l n : List ℕ) (u to about level old d : ℕ)
-    → side_of_number d ≡ side_of ((meaning l).seats.number to) ((meaning l).seats.number about)
-    → link_of old ≡ (meaning l).link to level (side_of_number d)
-    → old ≡ about
-    → about < seats
-    → indexed l n u ≡ carried to (rule width (meaning l) (meet to about level)) (indexed l n u)
+-- the link is `about`
+pub same-done : (l n : List ℕ) (to about level : ℕ) (d : Side) (old : code.Option ℕ)
+    → d ≡ side_of ((meaning l).seats.number to) ((meaning l).seats.number about)
+    → as_link old ≡ (meaning l).link to level d
+    → option_eq eqb old (Some about) ≡ true
+    → indexed l n ≡ carried to (rule width (meaning l) (meet to about level)) (indexed l n)
 unfolding carried send_all changed rule effect
-same-done l n u to about level old d es eo e h = rw (← es, ← eo, e, meeting-same _ _ _ to about level (side_of_number d) h)
+same-done l n to about level d old es eo e = rw (← es, ← eo, meeting-same _ _ _ to about level d old e)
 
--- what was read and written where it is another: b is whether it is nearer, c what becomes of it, and w the record after the writing
-pub record Met (l : List ℕ) (to about level old d : ℕ) (b : Bool) (c : Change) (w : List ℕ) : Type 0 where
-  pub side : side_of_number d ≡ side_of ((meaning l).seats.number to) ((meaning l).seats.number about)
-  pub link : link_of old ≡ (meaning l).link to level (side_of_number d)
-  pub other : old ≡ about → ⊥
-  pub nearer : b ≡ (ltb old seats && on_side (side_of_number d) ((meaning l).seats.number old) ((meaning l).seats.number about))
-  pub change : c ≡ cond b Keep (Set about)
-  pub wrote : w ≡ written l to level (side_of_number d) c
+-- what was read and written where it is another: r is the link if it is nearer, c what becomes of it, and w the record after the writing
+pub record Met (l : List ℕ) (to about level : ℕ) (d : Side) (old r : code.Option ℕ) (c : code.Option ℕ) (w : List ℕ) : Type 0 where
+  pub side : d ≡ side_of ((meaning l).seats.number to) ((meaning l).seats.number about)
+  pub link : as_link old ≡ (meaning l).link to level d
+  pub other : option_eq eqb old (Some about) ≡ false
+  pub nearer : MatchOption old (r ≡ None)
+      (λ z. r ≡ cond (on_side d ((meaning l).seats.number z) ((meaning l).seats.number about)) (Some z) None)
+  pub change : c ≡ cond (is_some r) None (Some about)
+  pub wrote : w ≡ written l to level d c
 
 -- x is all that is left
-module _ {l : List ℕ} {to about level old d : ℕ} {b : Bool} {c : Change} {w : List ℕ} (m : Met l to about level old d b c w) where
-  -- a nearer link is a seat
-  pub nearer-seat : b ≡ true → old < seats
-  nearer-seat t = ltb-true old seats (and_left (ltb old seats) _ (sym m.nearer ∙ t))
-
+module _ {l : List ℕ} {to about level : ℕ} {d : Side} {old r : code.Option ℕ} {c : code.Option ℕ} {w : List ℕ} (m : Met l to about level d old r c w) where
   rule-is : rule width (meaning l) (meet to about level)
-      ≡ cond b (sending (meet old about level ∷ []))
-      (setting width (meaning l).seats.number (meaning l).seats.vector (entry (meaning l) to) to about level (side_of_number d))
+      ≡ meeting-by (meaning l).seats.number (meaning l).seats.vector (entry (meaning l) to) to about level d r
   unfolding rule effect
-  rule-is = rw (← m.side, ← m.link, m.nearer) (meeting-other _ _ _ to about level (side_of_number d) old m.other)
+  rule-is = rw (← m.side, ← m.link) (meeting-other _ _ _ to about level d old r m.other m.nearer)
 
-  pub passed-done : (n : List ℕ) (u : ℕ) {x : Indexed} {i : ℕ} → b ≡ true
-      → i ≡ place seats width (meet old about level)
-      → x ≡ send_at i (indexed w n u)
-      → x ≡ carried to (rule width (meaning l) (meet to about level)) (indexed l n u)
+  pub passed-done : (n : List ℕ) {z : ℕ} {x : Indexed} {i : ℕ} → r ≡ Some z
+      → i ≡ place seats width (meet z about level)
+      → x ≡ send_at i (indexed w n)
+      → x ≡ carried to (rule width (meaning l) (meet to about level)) (indexed l n)
   unfolding carried changed send_all
-  passed-done n u t ei ex = rw (rule-is, t) (rw (m.wrote, m.change, t, ei) at ex)
+  passed-done n t ei ex = rw (rule-is, t) (rw (m.wrote, m.change, t, ei) at ex)
 
-  pub set-done : (n : List ℕ) (u : ℕ) {x : Indexed} → b ≡ false
+  pub set-done : (n : List ℕ) {x : Indexed} → r ≡ None
       → to < seats
       → level < levels
-      → x ≡ send_all (told (meaning w) to about level (side_of_number d) (link_of old)) (indexed w n u)
-      → x ≡ carried to (rule width (meaning l) (meet to about level)) (indexed l n u)
+      → x ≡ send_all (told (meaning w) to about level d (as_link old)) (indexed w n)
+      → x ≡ carried to (rule width (meaning l) (meet to about level)) (indexed l n)
   unfolding carried changed setting
-  set-done n u t ht hl ex =
-      let D = side_of_number d in
+  set-done n t ht hl ex =
       let e = rw (m.wrote, m.change, t, told_is) at ex in
-      rw (rule-is, t, ← m.link, ← same-other l to level D about ht hl, ← same-vector l to level D about ht hl) e
+      rw (rule-is, t, ← m.link, ← same-other l to level d about ht hl, ← same-vector l to level d about ht hl) e

@@ -19,16 +19,11 @@ const WORD: usize = 64;
 
 const WORD_BYTES: usize = WORD / 8;
 
-fn meet_fits(rec: &Record, to: usize, about: usize, level: usize) -> bool
+// A MEET, and a PROBE.
+fn pair_message_fits(rec: &Record, to: usize, about: usize, level: usize) -> bool
     requires { (to < seats) × (about < seats) }
-    ensures { result ≡ message_ok width (seats_in rec.now) (meet to about level) }
-{
-    !is_clearing(rec) && pair_fits(rec, level, to, about)
-}
-
-fn probe_fits(rec: &Record, to: usize, about: usize, level: usize) -> bool
-    requires { (to < seats) × (about < seats) × (level < width) }
-    ensures { result ≡ message_ok width (seats_in rec.now) (probe to about level) }
+    ensures meet { result ≡ message_ok width (seats_in rec.now) (meet to about level) }
+    ensures probe { level < width → result ≡ message_ok width (seats_in rec.now) (probe to about level) }
 {
     !is_clearing(rec) && pair_fits(rec, level, to, about)
 }
@@ -83,8 +78,8 @@ fn message_fits(rec: &Record, i: usize) -> bool
     let about = m.about as usize;
     let level = m.level as usize;
     match kind {
-        1 => meet_fits(rec, to, about, level),
-        2 => probe_fits(rec, to, about, level),
+        1 => pair_message_fits(rec, to, about, level),
+        2 => pair_message_fits(rec, to, about, level),
         3 => pull_fits(rec, to, level),
         4 => going_fits(rec, to, level),
         5 => seek_fits(rec, to, about, level),

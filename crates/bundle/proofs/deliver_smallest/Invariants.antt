@@ -1,11 +1,7 @@
 -- `bundle::deliver_smallest` meets its contract. The loop's invariant: so many deliveries of the bundle are made, and the rest is to be done. Assumes
 -- nothing.
-use Prim.Native.Nat.{◌-◌}
 use Rattle.bundle.proofs.Going.{Going}
 use Rattle.bundle.proofs.deliver_smallest.Given as goal
 
 abbrev pub invariant-loop-n : goal.invariant-loop-n
-invariant-loop-n l = Going l.initial.rec l.limit l.rec l.index l.top l.reach l.n
-
-abbrev pub decreases-loop-n : goal.decreases-loop-n
-decreases-loop-n l = l.limit - l.n
+invariant-loop-n l = Going l.initial.rec l.limit l.rec l.index l.reach l.n

@@ -1,10 +1,6 @@
 -- `bundle::strike_last` meets its contract. Assumes nothing.
-use Rattle.bundle.proofs.Tracks.{struck-out, struck-none}
+use Rattle.bundle.proofs.Tracks.{struck-out}
 use Rattle.bundle.proofs.strike_last.Goals as goal
 
 pub returns-then-last : goal.returns-then-last
-returns-then-last c =
-    struck-out c.requires.0 c.requires.1 c.if-last.true c.strike.ensures
-
-pub returns : goal.returns
-returns c = struck-none c.requires.0 c.requires.1 c.if-last.false c.requires.2
+returns-then-last c = struck-out c.requires.1 c.if-last.true c.strike.ensures

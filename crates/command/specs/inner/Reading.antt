@@ -1,40 +1,35 @@
--- What the functions below `parse` answer: the first of a line's fields, read as a number. Their contracts alone cite this; that of `parse`
--- cites Command and Answer. Assumes nothing.
-use Rattle.std.specs.Prelude.{ℕ, List, [], ◌∷◌, drop}
+-- What the functions below `parse` answer: the first of the fields that are left, read as a number. Their contracts alone cite this; that of
+-- `parse` cites Command and Answer. Assumes nothing.
+use Rattle.std.specs.Prelude.{ℕ, List, [], ◌∷◌, Option as Answer, Some, None}
+use Rattle.std.specs.Borrow.{Bor}
 use Rattle.std.proofs.Math.Option.{Option, none, some}
-use Rattle.command.specs.Command.{fields, fitting, digits_from}
-use Rattle.command.specs.declared.Number.{Number}
-use Rattle.command.specs.declared.Number.TheVariants as number
-use Rattle.command.specs.declared.Byte.{Byte}
-use Rattle.command.specs.declared.Byte.TheVariants as byte
+use Rattle.command.specs.Command.{Command, fields, fitting, digits_from}
 
--- no number, the number of the last field, or a number with the fields after it
-pub data Read : Type 0 where
-  wrong : Read
-  last : (n : ℕ) → Read
-  more : (n : ℕ) (after : List (List ℕ)) → Read
+-- the fields that are left: of a line, or none after the last
+abbrev pub fields_left : Answer (Bor (List ℕ)) → List (List ℕ)
+fields_left None = []
+fields_left (Some l) = fields l.now
 
-abbrev pub read_as : Option ℕ → (after : List (List ℕ)) → Read
-read_as none after = wrong
-read_as (some n) [] = last n
-read_as (some n) (f ∷ after) = more n (f ∷ after)
+-- a number, if there is one, with the fields after it
+abbrev pub with_rest : Option ℕ → (after : List (List ℕ)) → Option (ℕ × List (List ℕ))
+with_rest none after = none
+with_rest (some n) after = some (n, after)
 
 -- the first field, by what a field is as a number
-unfoldable pub read : (value : List ℕ → Option ℕ) → List (List ℕ) → Read
-read value [] = wrong
-read value (f ∷ after) = read_as (value f) after
+abbrev pub read : (value : List ℕ → Option ℕ) → List (List ℕ) → Option (ℕ × List (List ℕ))
+read value [] = none
+read value (f ∷ after) = with_rest (value f) after
+
+-- a command, if no field is left
+abbrev pub only : List (List ℕ) → Command → Option Command
+only [] c = some c
+only (f ∷ after) c = none
 
 -- digits that follow the number n, if the whole fits 64 bits; a leading zero is not looked at
 abbrev pub digits_field : (n : ℕ) → List ℕ → Option ℕ
 digits_field n f = fitting 64 (digits_from n f)
 
--- an answer about the line l
-abbrev pub number_read : (l : List ℕ) → Number → Read
-number_read l number.Wrong = wrong
-number_read l (number.Last n) = last n
-number_read l (number.More n at) = more n (fields (drop at l))
-
-abbrev pub byte_read : (l : List ℕ) → Byte → Read
-byte_read l byte.Wrong = wrong
-byte_read l (byte.Last n) = last n
-byte_read l (byte.More n at) = more n (fields (drop at l))
+-- the number that an answer is
+abbrev pub as_number : Answer ℕ → Option ℕ
+as_number None = none
+as_number (Some n) = some n

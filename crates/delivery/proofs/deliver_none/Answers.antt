@@ -1,6 +1,6 @@
 -- `delivery::deliver_none` meets its contract. Assumes nothing.
 use mathlib.Core.Path.{◌∙◌}
-use native.Mathlib.Omega.{arith}
+use borrow.Author.Rules.{rules}
 use Rattle.protocol.specs.Message.{name}
 use Rattle.delivery.proofs.ByKind.{none-kind, none_in}
 use Rattle.delivery.proofs.Steps.{sized, idle, fits, carried-out}
@@ -25,4 +25,4 @@ returns c =
     let a = c.args in
     let k = none-kind a.to a.about a.level a.side in
     carried-out a.rec.now c.requires k c.take_named.ensures c.if-not-take_named.false
-    (λ j. omega (arith, c.slice_known-1.given j)) c.none.ensures
+    (search rules) c.none.ensures

@@ -1,6 +1,6 @@
 -- `delivery::deliver_probe` meets its contract. Assumes nothing.
-use mathlib.Core.Path.{refl, ◌∙◌}
-use native.Mathlib.Omega.{arith}
+use mathlib.Core.Path.{◌∙◌}
+use borrow.Author.Rules.{rules}
 use Rattle.protocol.specs.Message.{name}
 use Rattle.delivery.proofs.ByKind.{probe-kind, probe-in}
 use Rattle.delivery.proofs.Steps.{sized, idle, fits, carried-noted}
@@ -18,11 +18,11 @@ probe-requires c =
     let f = fits a.rec.now c.requires k c.take_named.ensures c.if-not-take_named.false in
     let p = probe-in a.to a.about a.level a.side f.1 in
     let z = c.take_named.auto.rec ∙ sized a.rec.now c.requires in
-    (z, refl, p.0, p.1, p.2)
+    (z, p.0, p.1, p.2)
 
 pub returns : goal.returns
 returns c =
     let a = c.args in
     let k = probe-kind a.to a.about a.level a.side in
     carried-noted a.rec.now c.requires k c.take_named.ensures c.if-not-take_named.false
-    (λ j. omega (arith, c.slice_known-1.given j)) _ 0 c.probe.ensures
+    (search rules) _ c.probe.ensures

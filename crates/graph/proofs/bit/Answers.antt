@@ -8,4 +8,4 @@ use Rattle.graph.proofs.bit.Goals as goal
 pub returns : goal.returns
 unfolding bit
 returns c = let e : width - 1 - c.args.k ≡ width - suc c.args.k = omega arith in
-    (rw e, omega arith)
+    (rw (c.from.ensures, e), omega arith)

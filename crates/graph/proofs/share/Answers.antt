@@ -8,14 +8,8 @@ use Rattle.graph.specs.Vector.{width}
 use Rattle.graph.proofs.Leading.{leading-shared}
 use Rattle.graph.proofs.share.Goals as goal
 
-pub overflow_cast-zeros : goal.overflow_cast-zeros
-overflow_cast-zeros c = omega (arith, leading_le width (bit_xor c.args.a c.args.b))
-
-pub returns-then-zeros-lt-WIDTH : goal.returns-then-zeros-lt-WIDTH
-returns-then-zeros-lt-WIDTH c = leading-shared width c.args.a c.args.b (search rules) (search rules)
-
--- at the width: every bit is shared
-pub returns-else-zeros-lt-WIDTH : goal.returns-else-zeros-lt-WIDTH
-returns-else-zeros-lt-WIDTH c = let a = c.args.a in
+pub returns : goal.returns
+returns c =
+    let a = c.args.a in
     let b = c.args.b in
     omega (arith, leading_le width (bit_xor a b), leading-shared width a b (search rules) (search rules))

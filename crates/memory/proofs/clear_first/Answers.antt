@@ -1,8 +1,6 @@
 -- `memory::clear_first` meets its contract: the machine's count is the first set bit, and its power taken off clears it. Assumes nothing.
 use mathlib.Core.Path.{◌≡◌}
-use native.Mathlib.Omega.{arith}
 use mathlib.Core.Bool.{true}
-use lib.Count.{trailing_le}
 use borrow.Author.Rules.{rules}
 use Rattle.base.specs.Loops.{any}
 use Rattle.memory.specs.Bytes.{AreBytes}
@@ -14,10 +12,7 @@ use Rattle.memory.proofs.clear_first.Goals.{After-word-x}
 -- the word's number: a bit of it is set
 some : (c : After-word-x) → any 64 (has_bit c.word-x.result) ≡ true
 some c =
-    x-some c.args.rec.now c.args.base c.args.w (λ j. omega (arith, c.slice_known-1.given j)) (search rules) c.requires.1 c.word-x.ensures
-
-pub overflow_cast-z : goal.overflow_cast-z
-overflow_cast-z c = omega (arith, trailing_le 64 c.word-x.result)
+    x-some c.args.rec.now c.args.base c.args.w (search rules) (search rules) c.requires.1 c.word-x.ensures
 
 pub overflow_shl-rest : goal.overflow_shl-rest
 overflow_shl-rest c = count-below 64 c.word-x.result (some (goal.at.overflow_shl-rest c).After-word-x)
@@ -28,7 +23,7 @@ overflow_sub-rest c = first-within 64 c.word-x.result (some (goal.at.overflow_su
 pub returns : goal.returns
 returns c =
     let l = c.args.rec.now in
-    let known : AreBytes l = λ j. omega (arith, c.slice_known-1.given j) in record {
+    let known : AreBytes l = search rules in record {
       bit = word_first l c.args.base c.args.w known (search rules) c.requires.1 c.word-x.ensures;
       cleared = first-cleared l c.args.base c.args.w known (search rules) c.requires.1 c.word-x.ensures c.put_word.ensures;
       last = rest-none l c.args.base c.args.w known (search rules) c.requires.1 c.word-x.ensures c.put_word.ensures;

@@ -1,12 +1,13 @@
--- `memory::count_bits` meets its contract. The loop's invariant: n is the count of the set bits of the bytes before `at`. Assumes nothing.
+-- `memory::count_bits` meets its contract. The loop's invariant: n and the set bits of the bytes that are left are those of all. Assumes nothing.
 use mathlib.Core.Path.{◌≡◌}
-use Prim.Native.Nat.{◌+◌, ◌-◌, ◌*◌, ◌/◌, ◌≤◌}
-use Rattle.base.specs.Loops.{count as count_of}
-use Rattle.memory.specs.Bits.{bit_set}
+use Prim.Native.Nat.{◌+◌}
+use lib.Count.{ones}
+use lib.ListN.{length}
+use Rattle.std.specs.List.{sum_by}
 use Rattle.memory.proofs.count_bits.Given as goal
 
-abbrev pub invariant-loop-at : goal.invariant-loop-at
-invariant-loop-at l = (l.base ≤ l.at) × (l.at ≤ l.end) × (l.end ≡ l.base + l.count / 8) × (l.n ≡ count_of ((l.at - l.base) * 8) (bit_set l.rec l.base))
+abbrev pub invariant-loop-rest : goal.invariant-loop-rest
+invariant-loop-rest l = l.n + sum_by ones l.rest ≡ sum_by ones l.initial.rest
 
-abbrev pub decreases-loop-at : goal.decreases-loop-at
-decreases-loop-at l = l.end - l.at
+abbrev pub decreases-loop-rest : goal.decreases-loop-rest
+decreases-loop-rest l = length l.rest

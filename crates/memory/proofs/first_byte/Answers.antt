@@ -1,28 +1,28 @@
--- `memory::first_byte` meets its contract. The loop's invariant: the search has the same answer from i on. Assumes nothing.
-use mathlib.Core.Path.{◌≡◌, ap, sym, ◌∙◌}
-use mathlib.Core.Bool.{not}
-use native.Mathlib.Omega.{arith}
-use native.Mathlib.Nat.{sub_self}
-use lib.ListN.{get_or}
+-- `memory::first_byte` meets its contract: the first byte that is not 0 is the first of those that are left. Assumes nothing.
+use mathlib.Core.Path.{◌≡◌, sym, ap, ◌∙◌}
+use Prim.Native.Nat.{ℕ, ◌+◌}
+use mathlib.Core.Bool.{true, false}
+use lib.Dec.{eqb}
+use lib.ListN.{drop}
 use borrow.Author.Rules.{rules}
-use borrow.Author.Tests.{eq-eqb, ne_eqb}
-use Rattle.memory.specs.Bytes.{non_zero}
-use Rattle.base.proofs.First.{first-end, first-here, first_more}
+use borrow.Author.Tests.{tests}
+use Rattle.std.specs.List.{prefix_len}
+use Rattle.std.proofs.lemmas.Iterator.{IsFirst-from_position, YieldsList-from_slice}
+use Rattle.std.proofs.lemmas.List.{take_rest}
+use Rattle.std.proofs.lemmas.List.Sums.{prefix_len-le-length}
+use native.Mathlib.Omega.{arith}
+use Rattle.memory.proofs.Runs.{prefix-position}
 use Rattle.memory.proofs.first_byte.Goals as goal
 
-pub returns-then-rec-i-ne0 : goal.returns-then-rec-i-ne0
-returns-then-rec-i-ne0 c =
-    let s = c.args in
-    let t = ap not (ne_eqb (get_or s.rec.now c.loop-i.i 0) 0 c.if-rec-i-ne0.true) in
-    sym (c.loop-i.invariant.1 ∙ first-here s.end c.loop-i.i (non_zero s.rec.now) (omega arith) t)
+pub returns-clause-first : goal.returns-clause-first
+returns-clause-first c =
+    let z = λ (x : ℕ). eqb x 0 in
+    let rest = drop c.skip_zeros-at.result c.args.bytes.now in
+    let whole = take_rest c.args.bytes.now c.skip_zeros-at.result in
+    let r = IsFirst-from_position _ _ c.position.result (λ (x : ℕ). z x ≡ false) (λ x. z x ≡ true)
+    c.position.ensures.ran (YieldsList-from_slice rest cc) (λ x q k. search (rules, tests)) (λ x q k. search (rules, tests)) in
+    let k : prefix_len z rest ≡ c.unwrap_or.result = prefix-position z rest c.position.result r ∙ cc in
+    ap (λ (n : ℕ). c.skip_zeros-at.result + n) (sym k) ∙ sym c.skip_zeros-at.ensures.same
 
-pub loop-i-preserved : goal.loop-i-preserved
-loop-i-preserved c =
-    let s = c.args in
-    let f = ap not (eq-eqb (get_or s.rec.now c.loop-i.i 0) 0 c.if-rec-i-ne0.false) in
-    (search rules, c.loop-i.invariant.1 ∙ first_more s.end c.loop-i.i (non_zero s.rec.now) (omega arith) f)
-
-pub returns : goal.returns
-returns c = let s = c.args in
-    let e : c.loop-i.i ≡ s.end = omega arith in
-    sym (c.loop-i.invariant.1 ∙ rw (e, sub_self s.end) (first-end s.end (non_zero s.rec.now)))
+pub returns-clause-within : goal.returns-clause-within
+returns-clause-within c = omega (arith, returns-clause-first c, prefix_len-le-length (λ (x : ℕ). eqb x 0) c.args.bytes.now)

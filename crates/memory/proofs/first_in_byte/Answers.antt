@@ -1,21 +1,19 @@
 -- `memory::first_in_byte` meets its contract: the trailing zeros of the shifted byte are the clear bits before the first set bit.
 -- Assumes nothing.
 use mathlib.Core.Path.{sym}
-use Prim.Native.Nat.{◌/◌, ◌^◌}
+use Prim.Native.Nat.{◌-◌}
 use native.Mathlib.Omega.{arith}
-use lib.Count.{trailing_le}
 use borrow.Author.Rules.{rules}
+use Rattle.base.proofs.First.{first}
+use Rattle.memory.specs.Bits.{has_bit}
 use Rattle.memory.proofs.MachineCounts.{first-by-shift, first-of-none}
 use Rattle.memory.proofs.first_in_byte.Goals as goal
 
-pub returns-then-rest-eq0 : goal.returns-then-rest-eq0
-returns-then-rest-eq0 c = sym (first-of-none 8 c.args.from c.args.x (omega arith) (search rules) c.if-rest-eq0.true)
+pub returns-then-rest-eq0-clause-first : goal.returns-then-rest-eq0-clause-first
+returns-then-rest-eq0-clause-first c = sym (first-of-none 8 c.args.from c.args.x (omega arith) (search rules) c.if-rest-eq0.true)
 
-pub overflow_cast-result : goal.overflow_cast-result
-overflow_cast-result c = omega (arith, trailing_le 8 (c.args.x / 2 ^ c.args.from))
+pub returns-clause-first : goal.returns-clause-first
+returns-clause-first c = sym (first-by-shift 8 c.args.from c.args.x (omega arith) (search rules) c.if-rest-eq0.false)
 
-pub overflow_add-result : goal.overflow_add-result
-overflow_add-result c = omega (arith, trailing_le 8 (c.args.x / 2 ^ c.args.from))
-
-pub returns : goal.returns
-returns c = sym (first-by-shift 8 c.args.from c.args.x (omega arith) (search rules) c.if-rest-eq0.false)
+pub returns-clause-within : goal.returns-clause-within
+returns-clause-within c = omega (arith, returns-clause-first c, (first (8 - c.args.from) c.args.from (has_bit c.args.x)).high)

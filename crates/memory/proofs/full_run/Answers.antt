@@ -1,31 +1,44 @@
--- `memory::full_run` meets its contract. The loop's invariant: the bytes are all 255 exactly if those from i on are. Assumes nothing.
-use Prim.Native.Nat.{◌+◌}
-use mathlib.Core.Path.{◌≡◌, sym, ◌∙◌, ap}
-use mathlib.Core.Bool.{true, false, not}
+-- `memory::full_run` meets its contract: the words and the bytes that are left are all full exactly if the bytes are. Assumes nothing.
+use mathlib.Core.Path.{◌≡◌, ap, ◌∙◌}
+use mathlib.Core.Bool.{Bool, ◌&&◌}
+use mathlib.Core.List.{List}
+use Prim.Native.Nat.{ℕ, ◌+◌, ◌-◌, ◌*◌, ◌/◌}
 use native.Mathlib.Omega.{arith}
-use native.Mathlib.Nat.{sub-zero, add-zero}
+use lib.ListN.{length, take, drop}
 use borrow.Author.Rules.{rules}
-use borrow.Author.Tests.{not-true, not-false}
+use borrow.Author.Tests.{tests}
+use Rattle.std.specs.List.{list_all}
+use Rattle.std.specs.Simd.{first_chunks}
+use Rattle.std.proofs.lemmas.Iterator.{YieldsList-from_slice}
+use Rattle.std.proofs.lemmas.Iterator.Search.{all_from_yields_List}
 use Rattle.memory.specs.Bytes.{fulls}
-use Rattle.memory.proofs.Fulls.{fulls-part}
+use Rattle.memory.proofs.Search.{bytes-taken}
+use Rattle.memory.proofs.Fulls.{is_full, word_full, full-parts, fulls-taken}
 use Rattle.memory.proofs.full_run.Goals as goal
+use Rattle.memory.proofs.full_run.Goals.{After-all}
 
-pub loop-i-init : goal.loop-i-init
-loop-i-init c = (search rules, rw (sub-zero, add-zero))
-
-pub returns-then-not-full_word : goal.returns-then-not-full_word
-returns-then-not-full_word c =
+-- the test of the words, and that of the bytes that are left
+words : (c : After-all)
+    → let s = c.args in
+    let xs = take (s.at + s.n - s.at) (drop s.at s.rec.now) in
+    (c.all.result && list_all is_full (drop (length xs / 8 * 8) xs)) ≡ fulls s.rec.now s.at s.n
+words c =
     let s = c.args in
-    let r = c.full_word in
-    let f : fulls s.rec.now (s.at + c.loop-i.i) 8 ≡ false = sym r.ensures ∙ not-true r.result (ap not c.if-not-full_word.true) in
-    sym (c.loop-i.invariant.1 ∙ fulls-part s.rec.now s.at c.loop-i.i 8 s.n (omega arith) ∙ rw f)
+    let k : s.at + s.n - s.at ≡ s.n = omega arith in
+    let xs : List ℕ = take (s.at + s.n - s.at) (drop s.at s.rec.now) in
+    let first = all_from_yields_List word_full _ _ c.all.result c.all.ensures.ran (YieldsList-from_slice (first_chunks 8 (length xs / 8) xs) cc)
+    (λ x b q h. search (rules, tests)) in
+    ap (λ (t : Bool). t && list_all is_full (drop (length xs / 8 * 8) xs)) first
+    ∙ full-parts xs (bytes-taken s.rec.now s.at (s.at + s.n - s.at) (λ j. omega (arith, c.type_inv.rec j)))
+    ∙ rw k (fulls-taken s.rec.now s.at s.n (omega arith))
 
-pub loop-i-preserved : goal.loop-i-preserved
-loop-i-preserved c =
+pub returns-then-all : goal.returns-then-all
+returns-then-all c =
     let s = c.args in
-    let r = c.full_word in
-    let f : fulls s.rec.now (s.at + c.loop-i.i) 8 ≡ true = sym r.ensures ∙ not-false r.result (ap not c.if-not-full_word.false) in
-    (search rules, c.loop-i.invariant.1 ∙ fulls-part s.rec.now s.at c.loop-i.i 8 s.n (omega arith) ∙ rw f)
+    let xs : List ℕ = take (s.at + s.n - s.at) (drop s.at s.rec.now) in
+    let rest = all_from_yields_List is_full _ _ c.all-then-all.result c.all-then-all.ensures.ran
+    (YieldsList-from_slice (drop (length xs / 8 * 8) xs) cc) (λ x b q h. search (rules, tests)) in
+    rest ∙ rw c.if-all.true at (words (goal.at.returns-then-all c).After-all)
 
-pub returns : goal.returns
-returns c = c.full_bytes.ensures ∙ sym c.loop-i.invariant.1
+pub returns-else-all : goal.returns-else-all
+returns-else-all c = c.if-all.false ∙ rw c.if-all.false at (words (goal.at.returns-else-all c).After-all)

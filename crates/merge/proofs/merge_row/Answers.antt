@@ -2,6 +2,7 @@
 use mathlib.Core.Path.{refl, sym, ◌∙◌}
 use borrow.Author.Rules.{rules}
 use borrow.Author.Tests.{eq-eqb, ne_eqb}
+use native.Mathlib.Omega.{arith}
 use Rattle.protocol.specs.Calls.{rows, refusal}
 use Rattle.protocol.specs.Refusals.{first}
 use Rattle.protocol.proofs.Accepted.{two-seats}

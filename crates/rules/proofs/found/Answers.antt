@@ -8,4 +8,4 @@ use Rattle.rules.proofs.found.Goals as goal
 pub returns : goal.returns
 unfolding done sent_bits changed rule effect
 returns c =
-    rw (← c.side_of-d.ensures.0) c.write_link.ensures
+    rw (← c.side_of-d.ensures) c.write_link.ensures

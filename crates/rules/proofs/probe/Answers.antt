@@ -1,10 +1,9 @@
 -- `rules::probe` meets its contract. Assumes nothing.
 use native.Mathlib.Numerals.{add-one}
 use borrow.Author.Tests.{lt-ltb, le-ltb}
-use Rattle.protocol.specs.Rules.{effect, probing}
+use Rattle.protocol.specs.Rules.{effect, probing, to_link}
 use Rattle.protocol.specs.pages.Deliver.{rule}
 use Rattle.rules.specs.inner.Done.{changed, send_all, carried}
-use Rattle.record.proofs.Links.{side-opp}
 use Rattle.rules.proofs.probe.Goals as goal
 
 pub returns-then-level-share : goal.returns-then-level-share
@@ -17,13 +16,25 @@ returns-then-level-share c =
       ← c.meet_place.ensures.0,
     ) c.send.ensures
 
-pub returns : goal.returns
-unfolding carried send_all changed rule effect probing
-returns c =
+pub returns-in-Some : goal.returns-in-Some
+unfolding carried send_all changed rule effect probing to_link
+returns-in-Some c =
     rw (
       ← c.share.ensures,
       le-ltb _ _ c.if-level-share.false,
-      ← c.side_of-d.ensures.0,
-      ← side-opp _ c.side_of-d.ensures.1,
-      ← c.link-away.ensures,
-    ) c.probe_link.ensures
+      ← c.side_of-d.ensures,
+      ← c.opposite.ensures,
+      ← c.in-Some.ensures.link,
+      ← c.probe_place.ensures.0,
+    ) c.send-in-Some.ensures
+
+pub returns-in_default : goal.returns-in_default
+unfolding carried send_all changed rule effect probing to_link
+returns-in_default c =
+    rw (
+      ← c.share.ensures,
+      le-ltb _ _ c.if-level-share.false,
+      ← c.side_of-d.ensures,
+      ← c.opposite.ensures,
+      ← c.in_default.ensures.link,
+    )

@@ -2,42 +2,39 @@
 use Rattle.protocol.specs.Rules.{effect, seeking, passing}
 use Rattle.protocol.specs.pages.Deliver.{rule}
 use Rattle.rules.specs.inner.Done.{changed, send_all, carried}
-use Rattle.record.proofs.Links.{link_of-some, link_of-none}
 use Rattle.rules.proofs.Sides.{staying-in}
 use Rattle.rules.proofs.seek.Goals as goal
 
-pub returns-then-staying : goal.returns-then-staying
+pub returns-then-is_staying : goal.returns-then-is_staying
 unfolding carried send_all changed rule effect seeking
-returns-then-staying c =
+returns-then-is_staying c =
     rw (
       staying-in,
-      ← c.is_staying-staying.ensures,
-      c.if-staying.true,
+      ← c.is_staying.ensures,
+      c.if-is_staying.true,
       ← c.found_place.ensures.0,
     ) c.send.ensures
 
-pub returns-then-away-lt-SEATS : goal.returns-then-away-lt-SEATS
+pub returns-in-Some : goal.returns-in-Some
 unfolding carried send_all changed rule effect seeking passing
-returns-then-away-lt-SEATS c =
+returns-in-Some c =
     rw (
       staying-in,
-      ← c.is_staying-staying.ensures,
-      c.if-staying.false,
-      ← c.side_of-d.ensures.0,
-      ← c.link-away.ensures,
-      link_of-some _ c.if-away-lt-SEATS.true,
+      ← c.is_staying.ensures,
+      c.if-is_staying.false,
+      ← c.side_of-d.ensures,
+      ← c.in-Some.ensures.link,
       ← c.seek_place.ensures.0,
-    ) c.send-then-away-lt-SEATS.ensures
+    ) c.send-in-Some.ensures
 
-pub returns : goal.returns
+pub returns-in-None : goal.returns-in-None
 unfolding carried send_all changed rule effect seeking passing
-returns c =
+returns-in-None c =
     rw (
       staying-in,
-      ← c.is_staying-staying.ensures,
-      c.if-staying.false,
-      ← c.side_of-d.ensures.0,
-      ← c.link-away.ensures,
-      link_of-none _ c.if-away-lt-SEATS.false,
+      ← c.is_staying.ensures,
+      c.if-is_staying.false,
+      ← c.side_of-d.ensures,
+      ← c.in-None.ensures.link,
       ← c.none_place.ensures.0,
-    ) c.send-2.ensures
+    ) c.send-in-None.ensures

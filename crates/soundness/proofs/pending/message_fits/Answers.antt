@@ -4,11 +4,6 @@ use Rattle.messages.proofs.Standing.{stands-meet, stands-probe, stands-pull, sta
 use Rattle.messages.proofs.Standing.{stands-kind, probe-below, pull-below}
 use Rattle.soundness.proofs.pending.message_fits.Goals as goal
 
-pub probe_fits-requires : goal.probe_fits-requires
-probe_fits-requires c =
-    let h = probe-below c.message_at-m.ensures c.requires c.in-2.is in
-    search rules
-
 pub pull_fits-requires : goal.pull_fits-requires
 pull_fits-requires c =
     let h = pull-below c.message_at-m.ensures c.requires c.in-3.is in
@@ -16,11 +11,11 @@ pull_fits-requires c =
 
 pub returns-in-1 : goal.returns-in-1
 returns-in-1 c = let s = c.message_at-m.ensures in
-    rw (stands-meet s c.in-1.is) c.meet_fits.ensures
+    rw (stands-meet s c.in-1.is) c.pair_message_fits.ensures.meet
 
 pub returns-in-2 : goal.returns-in-2
 returns-in-2 c = let s = c.message_at-m.ensures in
-    rw (stands-probe s c.in-2.is) c.probe_fits.ensures
+    rw (stands-probe s c.in-2.is) (c.pair_message_fits-in-2.ensures.probe (probe-below s c.requires c.in-2.is))
 
 pub returns-in-3 : goal.returns-in-3
 returns-in-3 c = let s = c.message_at-m.ensures in
