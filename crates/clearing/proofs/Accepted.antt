@@ -10,14 +10,16 @@ use Rattle.memory.specs.Bits.{has_bit}
 use Rattle.graph.specs.Vector.{width}
 use Rattle.protocol.specs.Message.{Msg}
 use Rattle.base.specs.Loops.{any}
+use Rattle.base.proofs.Tests.{true-false}
 use Rattle.protocol.specs.Numbering.{message_at}
-use Rattle.protocol.specs.State.{Phase, open_phase, clearing, Meaning, leaves}
+use Rattle.protocol.specs.State.{Phase, open_phase, clearing, is_clearing, Meaning, leaves}
 use Rattle.protocol.specs.Calls.{turn, seats_after, links_after, sends, takes, accept}
 use Rattle.protocol.specs.pages.Turn.{farewells, after_turn, turn_sends, turn_links}
 use Rattle.protocol.specs.Page.{each, pending_after}
 use Rattle.protocol.specs.Freeing.{unlinked}
 use Rattle.record.specs.Layout.{seats, phase_at}
-use Rattle.record.specs.Meaning.{phase_byte, bytes_of}
+use Rattle.record.specs.Meaning.{phase_of, seats_in, bytes_of}
+use Rattle.record.proofs.Values.{phase_of-phase_byte}
 use Rattle.record.proofs.Round.{read-phase}
 use Rattle.protocol.proofs.Calls.{after_nothing}
 use Rattle.record.proofs.Frame.{bytes_same}
@@ -105,21 +107,22 @@ module _ (M : Meaning) where
     pending = λ i p. ap (λ (q : Msg → Bool). q (message_at seats width i)) (sym (nothing-sent t));
   }) ∙ in-phase open_phase e
 
--- the phase by its byte
+-- the phase, as the bytes have it
 module _ (M : Meaning) {l : List ℕ} (e : l ≡ bytes_of M) where
-  phase-byte : get_or l phase_at 0 ≡ phase_byte M.seats.phase
-  phase-byte = ap (λ (m : List ℕ). get_or m phase_at 0) e ∙ read-phase M
+  same-phase : (seats_in l).phase ≡ M.seats.phase
+  unfolding seats_in
+  same-phase = ap (λ (m : List ℕ). phase_of (get_or m phase_at 0)) e ∙ ap phase_of (read-phase M) ∙ phase_of-phase_byte M.seats.phase
 
-  pub phase-open : get_or l phase_at 0 ≡ 0 → M.seats.phase ≡ open_phase
-  phase-open q = by M.seats.phase (sym phase-byte ∙ q)
+  pub phase-open : is_clearing (seats_in l).phase ≡ false → M.seats.phase ≡ open_phase
+  phase-open q = by M.seats.phase (ap is_clearing (sym same-phase) ∙ q)
     where
-      by : (p : Phase) → phase_byte p ≡ 0 → p ≡ open_phase
+      by : (p : Phase) → is_clearing p ≡ false → p ≡ open_phase
       by open_phase z = refl
-      by clearing z = absurd (omega arith)
+      by clearing z = true-false refl z
 
-  pub phase-clearing : (get_or l phase_at 0 ≡ 0 → ⊥) → M.seats.phase ≡ clearing
-  phase-clearing q = by M.seats.phase (λ z. q (phase-byte ∙ z))
+  pub phase-clearing : is_clearing (seats_in l).phase ≡ true → M.seats.phase ≡ clearing
+  phase-clearing q = by M.seats.phase (ap is_clearing (sym same-phase) ∙ q)
     where
-      by : (p : Phase) → (phase_byte p ≡ 0 → ⊥) → p ≡ clearing
-      by open_phase z = absurd (z refl)
+      by : (p : Phase) → is_clearing p ≡ true → p ≡ clearing
+      by open_phase z = true-false z refl
       by clearing z = refl

@@ -1,27 +1,24 @@
 -- Which lots leave, as the bytes of a meaning say it, and the set of them as a number. Assumes nothing.
-use Prim.Native.Nat.{ℕ, suc, ◌+◌, ◌*◌, ◌%◌, ◌^◌, ◌≤◌, ◌<◌}
+use Prim.Native.Nat.{ℕ, ◌+◌, ◌*◌, ◌%◌, ◌^◌, ◌≤◌, ◌<◌}
 use mathlib.Core.Path.{◌≡◌, sym, ap, ◌∙◌}
 use mathlib.Core.Logic.{⊎_elim}
-use mathlib.Core.Bool.{Bool, true, false, not}
+use mathlib.Core.Bool.{Bool, true, false, ◌&&◌}
 use mathlib.Core.List.{List}
-use native.Mathlib.Nat.{div-eq_of_lt}
-use native.Mathlib.Numerals.{add-one}
 use native.Mathlib.Omega.{arith}
-use lib.Dec.{eqb}
-use lib.Pow.{pow_mono}
-use borrow.Author.Tests.{lt-ltb, le-ltb, eq-eqb, ne_eqb}
-use Rattle.base.specs.Loops.{one_if, any}
-use Rattle.base.proofs.Cases.{lt-or-ge, true-or-false}
-use Rattle.base.proofs.Tests.{true-T, T_true, true-false}
-use Rattle.base.proofs.Any.{any_out, any_here, any_same}
-use Rattle.memory.specs.Bits.{bit_of, has_bit, packed}
-use Rattle.memory.proofs.Bits.{has_bit-is, has_bit-none}
-use Rattle.memory.proofs.Packed.{packed_lt, packed-bits, packed-same, packed-is, packed_none}
+use lib.Bits.{bit_or}
+use lib.Dec.{ltb}
+use borrow.Author.Tests.{lt-ltb, le-ltb}
+use Rattle.base.specs.Loops.{any}
+use Rattle.base.proofs.Cases.{lt-or-ge, eq-or-ne, and-false}
+use Rattle.base.proofs.Any.{any_same}
+use Rattle.memory.specs.Bits.{has_bit}
+use Rattle.memory.proofs.Bits.{has_bit-none, has_bit-with_bit, has_bit-with_bit-other, one_shifted, mask-set}
 use Rattle.protocol.specs.State.{Meaning, is_leaving, leaves}
 use Rattle.record.specs.Layout.{seats}
 use Rattle.record.specs.Meaning.{state_of, seats_in, bytes_of}
 use Rattle.record.proofs.Values.{state_of-state_byte}
 use Rattle.record.proofs.Round.{read-state}
+use Rattle.clearing.proofs.Freed.{lt-more}
 
 module _ (M : Meaning) {l : List ℕ} (e : l ≡ bytes_of M) where
   -- a seat, and any
@@ -38,40 +35,29 @@ leaves-above : (l : List ℕ) (x : ℕ) → seats ≤ x → leaves (seats_in l) 
 unfolding seats_in
 leaves-above l x h = rw (le-ltb x seats h)
 
--- the tests from s on with the one before it are those from t on
-pub packed-before : (p : ℕ → Bool) (m n s t : ℕ) → m ≡ n + 1 → s ≡ t + 1
-    → packed n (λ j. p (s + j)) * 2 + one_if (p t) ≡ packed m (λ j. p (t + j))
-unfolding packed
-packed-before p m n s t a b =
-    let e = packed-same n (λ j. p (s + j)) (λ j. p (t + suc j)) (λ j h. ap p (omega arith)) in
-    let f : one_if (p (t + 0)) ≡ one_if (p t) = ap (λ (x : ℕ). one_if (p x)) (omega arith) in
-    rw (a, add-one) (omega (arith, e, f))
+-- a set gathered seat by seat: those below s that p takes
+module _ (p : ℕ → Bool) where
+  abbrev pub Gathered : (set s : ℕ) → Type 0
+  Gathered set s = (x : ℕ) → has_bit set x ≡ (ltb x s && p x)
 
--- none of the bits above
-bits_above : (n x k : ℕ) → x < 2 ^ n → n ≤ k → has_bit x k ≡ false
-unfolding bit_of
-bits_above n x k h g = has_bit-is x k false (ap (λ (y : ℕ). y % 2) (div-eq_of_lt (omega (arith, pow_mono g))))
+  pub Gathered-none : Gathered 0 0
+  Gathered-none x = has_bit-none x ∙ sym (rw (le-ltb x 0 (omega arith)))
 
--- the bits of the set are the leavers
-pub leavers-bits : (l : List ℕ) (x : ℕ) → has_bit (packed seats (leaves (seats_in l))) x ≡ leaves (seats_in l) x
-leavers-bits l x = ⊎_elim
-    (λ h. packed-bits seats (leaves (seats_in l)) x h)
-    (λ h. bits_above seats (packed seats (leaves (seats_in l))) x (packed_lt seats (leaves (seats_in l))) h ∙ sym (leaves-above l x h))
+  pub Gathered-more : (set s m : ℕ) → s < seats → Gathered set s → p s ≡ true → m ≡ bit_or set ((1 * 2 ^ s) % 2 ^ seats) → Gathered m (s + 1)
+  Gathered-more set s m h g t e x = rw (e, one_shifted seats s h, mask-set set s) (⊎_elim
+      (λ q. rw (q, has_bit-with_bit set s true, lt-ltb s (s + 1) (omega arith), t))
+      (λ q. has_bit-with_bit-other set s x true q ∙ g x ∙ sym (rw (lt-more x s q)))
+      (eq-or-ne x s))
+
+  pub Gathered-past : (set s m : ℕ) → Gathered set s → p s ≡ false → m ≡ set → Gathered m (s + 1)
+  Gathered-past set s m g t e x = rw e (g x ∙ ⊎_elim
+      (λ q. rw q (and-false (ltb s s) (p s) t ∙ sym (and-false (ltb s (s + 1)) (p s) t)))
+      (λ q. rw (lt-more x s q))
+      (eq-or-ne x s))
+
+-- all of them
+pub Gathered-all : (l : List ℕ) (set s : ℕ) → s ≡ seats → Gathered (leaves (seats_in l)) set s → (x : ℕ) → has_bit set x ≡ leaves (seats_in l) x
+Gathered-all l set s e g x = ⊎_elim
+    (λ h. g x ∙ rw (lt-ltb x s (omega (arith, e))))
+    (λ h. g x ∙ rw (le-ltb x s (omega (arith, e))) (sym (leaves-above l x h)))
     (lt-or-ge x seats)
-
--- a set is not empty exactly if a seat is in it
-pub any-set : (set : ℕ) (p : ℕ → Bool) → set < 2 ^ seats → ((x : ℕ) → has_bit set x ≡ p x) → not (eqb set 0) ≡ any seats p
-any-set set p h f = ⊎_elim
-    (λ t. rw t (ap not (ne_eqb set 0 (filled t))))
-    (λ t. rw t (ap not (eq-eqb set 0 (empty t))))
-    (true-or-false (any seats p))
-  where
-    filled : any seats p ≡ true → set ≡ 0 → ⊥
-    filled t z =
-        let i = any_out seats p (true-T {b = any seats p} t) in
-        true-false (T_true {b = p i.0} i.2) (sym (f i.0) ∙ rw z (has_bit-none i.0))
-
-    empty : any seats p ≡ false → set ≡ 0
-    empty t =
-        sym (packed-is seats set p h (λ j l. f j))
-        ∙ packed_none seats p (λ j l. ⊎_elim (λ q. true-false (any_here seats j p l q) t) (λ q. q) (true-or-false (p j)))

@@ -1,6 +1,6 @@
--- When a turn is refused, and that links name seats. Assumes nothing.
+-- Whether messages are left, as the look in front of a call answers it, and that links name seats. Assumes nothing.
 use Prim.Native.Nat.{ℕ, ◌<◌}
-use mathlib.Core.Path.{◌≡◌, refl, ◌∙◌}
+use mathlib.Core.Path.{◌≡◌, refl, sym}
 use mathlib.Core.Bool.{Bool, true, false, cond, ◌&&◌}
 use mathlib.Core.Option.{none, some}
 use mathlib.Core.List.{List}
@@ -8,23 +8,25 @@ use native.Mathlib.Omega.{arith}
 use lib.Dec.{ltb}
 use lib.ListN.{get_or}
 use borrow.Author.Tests.{ltb-true}
+use Rattle.std.specs.Prelude.{None, Some}
+use Rattle.std.specs.Prelude as code
+use Rattle.std.specs.Option.{is_some}
 use Rattle.graph.specs.Vector.{width}
 use Rattle.base.proofs.Tests.{some_inj, none-some}
 use Rattle.protocol.specs.Numbering.{some_pending}
-use Rattle.protocol.specs.Refusals.{first}
-use Rattle.protocol.specs.Calls.{rows, turn}
 use Rattle.record.specs.Layout.{seats, levels, link_at}
 use Rattle.record.specs.Meaning.{link_of, meaning}
-use Rattle.record.proofs.Refused.{Passed, record-goes}
-use Rattle.record.specs.Call.{call_refusal}
+use Rattle.messages.specs.inner.Numbers.{first_pending}
+use Rattle.messages.specs.inner.Places.{IsPlace}
+use Rattle.messages.proofs.First.{quiet-pending, some-pending}
 use Rattle.clearing.specs.inner.Steps.{Linked}
 
-module _ (l : List ℕ) where
-  -- the record is not refused: the turn's row
-  pub messages-left : Passed l → {b : Bool} → b ≡ some_pending seats width (meaning l).pending → call_refusal l turn ≡ cond b 11 0
-  unfolding call_refusal first rows
-  messages-left p e = record-goes l (rows seats width (meaning l).seats (meaning l).pending turn) (refl, refl) p ∙ rw (← e)
+-- something is pending exactly if there is a first pending place
+pub some-left : (l : List ℕ) (first : code.Option ℕ) → IsPlace first (first_pending l 0) → is_some first ≡ some_pending seats width (meaning l).pending
+some-left l None e = sym (quiet-pending l (sym e) (omega arith))
+some-left l (Some i) e = sym (some-pending l e.0 e.1)
 
+module _ (l : List ℕ) where
   -- links of any bytes name seats
   link_of-lt : (b y : ℕ) → link_of b ≡ some y → y < seats
   unfolding link_of

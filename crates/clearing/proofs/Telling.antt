@@ -1,34 +1,43 @@
--- Messages sent one after the other, to a link that the bytes have, and GOING from a lot. Assumes nothing.
-use Prim.Native.Nat.{ℕ, ◌+◌, ◌-◌, ◌≤◌, ◌<◌}
+-- Messages sent one after the other, links that the bytes have, and GOING from a lot. Assumes nothing.
+use Prim.Native.Nat.{ℕ, ◌+◌, ◌<◌}
 use mathlib.Core.Path.{◌≡◌, sym, ap, ◌∙◌}
-use mathlib.Core.Option.{none}
-use mathlib.Core.Bool.{true, false}
+use mathlib.Core.Option.{none, some}
+use mathlib.Core.Bool.{true, false, cond}
 use mathlib.Core.List.{List, [], ◌++◌}
 use native.Mathlib.Numerals.{add-one}
+use native.Mathlib.Omega.{arith}
 use lib.Dec.{T}
 use borrow.Author.Tests.{lt-ltb}
+use Rattle.base.specs.Loops.{all}
 use Rattle.memory.specs.Bits.{set_bit}
-use Rattle.graph.specs.Side.{Side, opp, side_of_number}
+use Rattle.graph.specs.Side.{Side, opp}
+use Rattle.graph.specs.Graph.{Links}
 use Rattle.graph.specs.Vector.{width}
 use Rattle.base.proofs.Tests.{true-T}
 use Rattle.protocol.specs.Message.{Msg, going}
 use Rattle.protocol.specs.Numbering.{exists, place}
 use Rattle.protocol.specs.Rules.{to_link}
-use Rattle.protocol.specs.State.{Meaning, leaves}
+use Rattle.protocol.specs.State.{Seats, Meaning, leaves}
 use Rattle.protocol.specs.Page.{each}
 use Rattle.protocol.specs.pages.Turn.{farewell}
-use Rattle.record.specs.Layout.{seats, levels, pending_from}
+use Rattle.record.specs.Layout.{seats, levels, no_link, pending_from}
 use Rattle.record.specs.Meaning.{link_of, seats_in, meaning, bytes_of}
-use Rattle.record.proofs.Values.{link_of-link_byte}
+use Rattle.record.specs.inner.Entry.{bare_at}
+use Rattle.record.proofs.Values.{NamesSeat, link_of-link_byte}
+use Rattle.record.proofs.Bare.{bare-byte}
 use Rattle.record.proofs.Form.{meaning-link}
-use Rattle.record.proofs.Links.{link_of-some, link_of-none, side-opp}
+use Rattle.record.proofs.Links.{link_of-none}
 use Rattle.record.proofs.Round.{read-link}
 use Rattle.protocol.proofs.Calls.{after_nothing}
 use Rattle.record.proofs.Pending.{after-append}
 use Rattle.record.proofs.Update.{with_pending}
 use Rattle.record.proofs.Sent.{bytes-with_message}
 use Rattle.clearing.proofs.Leaving.{leaves-bytes}
-use Rattle.clearing.specs.inner.Steps.{Linked, saying, lot_farewells, farewells_from}
+use Rattle.clearing.specs.inner.Steps.{Linked, Step, same, saying, lot_farewells, farewells_from}
+
+-- what the lot on seat y says if it leaves
+abbrev pub leavers_say : Seats → Links → (y : ℕ) → List Msg
+leavers_say s L y = cond (leaves s y) (lot_farewells L y) []
 
 -- GOING exists
 pub going-exists : (x k : ℕ) (d : Side) → x < seats → k < levels → T (exists seats width (going x k d))
@@ -43,42 +52,57 @@ module _ (M : Meaning) where
   saying-append a b = ap (with_pending M) (sym (after-append a b none M.pending))
 
 -- one list more
-pub each_more : (n : ℕ) (f : ℕ → List Msg) → each (n + 1) f ≡ each n f ++ f n
+each_more : (n : ℕ) (f : ℕ → List Msg) → each (n + 1) f ≡ each n f ++ f n
 unfolding each
 each_more n f = rw add-one
 
--- the next list, whole or in two parts
-module _ (M : Meaning) (n : ℕ) (f : ℕ → List Msg) where
-  pub saying-next : saying (saying M (each n f)) (f n) ≡ saying M (each (n + 1) f)
-  saying-next = saying-append M (each n f) (f n) ∙ ap (saying M) (sym (each_more n f))
+-- steps that send, by what they send from the seats and links: nothing, two after each other, and lists one after the other
+module _ {l m k : List ℕ} where
+  pub Step-then : (f g : Seats → Links → List Msg) → Step same (λ M. saying M (f M.seats M.link)) l m
+      → Step same (λ M. saying M (g M.seats M.link)) m k → Step same (λ M. saying M (f M.seats M.link ++ g M.seats M.link)) l k
+  Step-then f g a b = λ M c e.
+      let N = saying M (f M.seats M.link) in
+      b N c (a M c e) ∙ ap bytes_of (saying-append M (f M.seats M.link) (g M.seats M.link))
 
-  pub saying-parts : (a b : List Msg) → f n ≡ a ++ b → saying (saying (saying M (each n f)) a) b ≡ saying M (each (n + 1) f)
-  saying-parts a b e = saying-append (saying M (each n f)) a b ∙ ap (saying (saying M (each n f))) (sym e) ∙ saying-next
+  pub Step-next : (f : Seats → Links → ℕ → List Msg) (n : ℕ) → Step same (λ M. saying M (each n (f M.seats M.link))) l m
+      → Step same (λ M. saying M (f M.seats M.link n)) m k → Step same (λ M. saying M (each (n + 1) (f M.seats M.link))) l k
+  Step-next f n a b = λ M c e.
+      Step-then (λ s L. each n (f s L)) (λ s L. f s L n) a b M c e ∙ ap (λ (z : List Msg). bytes_of (saying M z)) (sym (each_more n (f M.seats M.link)))
 
-pub saying-none : (M : Meaning) (f : ℕ → List Msg) → saying M (each 0 f) ≡ M
+pub Step-none : (f : Seats → Links → ℕ → List Msg) (l : List ℕ) → Step same (λ M. saying M (each 0 (f M.seats M.link))) l l
 unfolding each
-saying-none M f = saying-nothing M
+Step-none f l = λ M c e. e ∙ sym (ap bytes_of (saying-nothing M))
 
--- a link that the bytes have is that of the meaning; its side is a number
-module _ (M : Meaning) (c : Linked M) (y k d b : ℕ) (h : y < seats) (g : k < levels) {l : List ℕ} (e : l ≡ bytes_of M)
-    (f : link_of b ≡ (meaning l).link y k (side_of_number d)) where
-  pub link-named : M.link y k (side_of_number d) ≡ link_of b
-  link-named =
-      let s = side_of_number d in
-      let byte = read-link M y h k s g (λ z q. c y k z s q) in
-      let back = link_of-link_byte (M.link y k s) (λ z q. c y k z s q) in
-      sym (f ∙ ap (λ (m : List ℕ). (meaning m).link y k s) e ∙ meaning-link (bytes_of M) y k s h g ∙ ap link_of byte ∙ back)
+pub Step-all : (f : Seats → Links → ℕ → List Msg) {n : ℕ} (m : ℕ) {l k : List ℕ} → n ≡ m
+    → Step same (λ M. saying M (each n (f M.seats M.link))) l k → Step same (λ M. saying M (each m (f M.seats M.link))) l k
+Step-all f m e a = λ M c h. a M c h ∙ ap (λ (i : ℕ). bytes_of (saying M (each i (f M.seats M.link)))) e
 
-  -- GOING from y to that link, and no link
-  pub tell-sent : d < 2 → b < seats
-      → set_bit l pending_from (place seats width (going b k (side_of_number (1 - d)))) ≡ bytes_of (saying M (farewell M.link y k (side_of_number d)))
+-- a link that the bytes of a meaning have is its link
+pub link-named : (M : Meaning) (x k : ℕ) (d : Side) → x < seats → k < levels → NamesSeat (M.link x k d) → {l : List ℕ} → l ≡ bytes_of M
+    → (meaning l).link x k d ≡ M.link x k d
+link-named M x k d h g n e =
+    ap (λ (m : List ℕ). (meaning m).link x k d) e
+    ∙ meaning-link (bytes_of M) x k d h g
+    ∙ ap link_of (read-link M x h k d g n)
+    ∙ link_of-link_byte (M.link x k d) n
+
+-- a seat whose links are all none
+pub bare-link : (l : List ℕ) (x : ℕ) → x < seats → all levels (bare_at l x) ≡ true → (k : ℕ) (d : Side) → k < levels → (meaning l).link x k d ≡ none
+bare-link l x h bare k d g = meaning-link l x k d h g ∙ ap link_of (bare-byte l x bare k d g) ∙ link_of-none no_link (omega arith)
+
+-- GOING from y to its link, as the bytes have it, and no link
+module _ (M : Meaning) (c : Linked M) (y k : ℕ) (d : Side) (h : y < seats) (g : k < levels) {l : List ℕ} (e : l ≡ bytes_of M) where
+  abbrev named : (meaning l).link y k d ≡ M.link y k d
+  named = link-named M y k d h g (λ z q. c y k z d q) e
+
+  pub tell-sent : (b : ℕ) → b < seats → some b ≡ (meaning l).link y k d
+      → set_bit l pending_from (place seats width (going b k (opp d))) ≡ bytes_of (saying M (farewell M.link y k d))
   unfolding farewell to_link
-  tell-sent n p = rw (side-opp d n, link-named, link_of-some b p, e)
-      (sym (bytes-with_message M (going b k (opp (side_of_number d))) (going-exists b k (opp (side_of_number d)) p g)))
+  tell-sent b p f = rw (← named, ← f, e) (sym (bytes-with_message M (going b k (opp d)) (going-exists b k (opp d) p g)))
 
-  pub tell_none : seats ≤ b → l ≡ bytes_of (saying M (farewell M.link y k (side_of_number d)))
+  pub tell_none : none ≡ (meaning l).link y k d → l ≡ bytes_of (saying M (farewell M.link y k d))
   unfolding farewell to_link
-  tell_none p = rw (link-named, link_of-none b p) (e ∙ sym (ap bytes_of (saying-nothing M)))
+  tell_none f = rw (← named, ← f) (e ∙ sym (ap bytes_of (saying-nothing M)))
 
 -- all GOING from y if it leaves, and none
 module _ (M : Meaning) (y : ℕ) (h : y < seats) {l : List ℕ} (e : l ≡ bytes_of M) where

@@ -3,15 +3,15 @@ use Prim.Native.Nat.{ℕ, zero, suc, ◌+◌, ◌*◌, ◌/◌, ◌≤◌, ◌<�
 use mathlib.Core.Path.{◌≡◌, refl, sym, ap, ◌∙◌}
 use mathlib.Core.Logic.{◌⊎◌, inl, inr, ⊎_elim}
 use mathlib.Core.Option.{Option, none, some}
-use mathlib.Core.Bool.{Bool, true, false, cond, ◌&&◌, ◌||◌}
+use mathlib.Core.Bool.{Bool, true, false, cond, ◌||◌}
 use mathlib.Core.List.{List}
 use native.Mathlib.Omega.{arith}
-use lib.Dec.{ltb}
-use lib.ListN.{get_or, set as put}
+use lib.ListN.{set as put}
 use lib.Seq.{set-get_or}
 use borrow.Author.Tests.{lt-ltb, le-ltb}
 use Rattle.base.specs.Loops.{all}
 use Rattle.base.proofs.Cases.{eq-or-ne}
+use Rattle.base.proofs.Tests.{none-some}
 use Rattle.memory.specs.Bits.{has_bit}
 use Rattle.graph.specs.Side.{Side, left, right, side_number, side_of_number}
 use Rattle.protocol.specs.Rules.{set as link_to}
@@ -20,17 +20,16 @@ use Rattle.protocol.specs.Freeing.{unlinked, unlinking}
 use Rattle.protocol.specs.pages.Deliver.{applied}
 use Rattle.protocol.proofs.Calls.{applied-at, applied-frame}
 use Rattle.protocol.proofs.Numbering.{side_number-lt}
-use Rattle.protocol.proofs.KeepFreeing.{unlinking-some}
 use Rattle.record.specs.Layout.{seats, levels, link_at, no_link}
-use Rattle.record.specs.Meaning.{link_byte, bytes_of}
+use Rattle.record.specs.Meaning.{link_byte, meaning, bytes_of}
 use Rattle.record.specs.inner.Entry.{bare_at}
-use Rattle.record.proofs.Bare.{bare-byte}
 use Rattle.record.proofs.Values.{NamesSeat}
 use Rattle.record.proofs.Places.{side-side_number}
 use Rattle.record.proofs.Round.{read-link}
 use Rattle.record.proofs.Frame.{same-links, bytes_same}
 use Rattle.record.proofs.Update.{bytes-with_link}
 use Rattle.clearing.proofs.Freed.{lt-more}
+use Rattle.clearing.proofs.Telling.{link-named, bare-link}
 use Rattle.clearing.specs.inner.Steps.{Linked, link_place, freed, freed_to}
 
 -- places are apart
@@ -47,22 +46,22 @@ place-once x k y j d e h g q =
     (z, omega arith, sym (side-side_number e) ∙ ap side_of_number o ∙ side-side_number d)
 
 module _ (set : ℕ) where
-  -- whether a link from x whose byte is b becomes none, as the code tests it
-  abbrev goes : (x b : ℕ) → Bool
-  goes x b = ltb b seats && (has_bit set x || has_bit set b)
+  -- whether a link from x becomes none, as the code tests it
+  abbrev goes : (x : ℕ) → Option ℕ → Bool
+  goes x none = false
+  goes x (some y) = has_bit set x || has_bit set y
 
-  -- a link of seat x as a byte, when the set is freed
-  unlinked-byte : (x : ℕ) (o : Option ℕ) → ((y : ℕ) → o ≡ some y → y < seats)
-      → link_byte (cond (has_bit set x) none (unlinked (has_bit set) o)) ≡ cond (goes x (link_byte o)) no_link (link_byte o)
+  -- a link of seat x when the set is freed
+  unlinked-link : (x : ℕ) (o : Option ℕ) → cond (has_bit set x) none (unlinked (has_bit set) o) ≡ cond (goes x o) none o
   unfolding unlinked
-  unlinked-byte x none f = by (has_bit set x)
+  unlinked-link x none = by (has_bit set x)
     where
-      by : (a : Bool) → link_byte (cond a none none) ≡ no_link
+      by : (a : Bool) → ◌≡◌ {A = Option ℕ} (cond a none none) none
       by true = refl
       by false = refl
-  unlinked-byte x (some y) f = rw (lt-ltb y seats (f y refl)) (by (has_bit set x) (has_bit set y))
+  unlinked-link x (some y) = by (has_bit set x) (has_bit set y)
     where
-      by : (a b : Bool) → link_byte (cond a none (cond b none (some y))) ≡ cond (a || b) no_link y
+      by : (a b : Bool) → cond a none (cond b none (some y)) ≡ cond (a || b) none (some y)
       by true b = refl
       by false true = refl
       by false false = refl
@@ -72,13 +71,13 @@ module _ (set : ℕ) where
     abbrev here : ℕ
     here = link_place x k (side_number d)
 
-    -- the link is still that of the meaning, and so is its byte
+    -- the link is still that of the meaning
     old-link : (freed_to set s here M).link x k d ≡ M.link x k d
     unfolding freed_to
     old-link = rw (le-ltb here here (omega arith))
 
-    old-byte : get_or (bytes_of (freed_to set s here M)) (link_at x k d) 0 ≡ link_byte (M.link x k d)
-    old-byte = read-link (freed_to set s here M) x h k d g (λ y q. c x k y d (sym old-link ∙ q)) ∙ ap link_byte old-link
+    old-seat : NamesSeat ((freed_to set s here M).link x k d)
+    old-seat y q = c x k y d (sym old-link ∙ q)
 
     -- one byte is set
     relink : (o : Option ℕ) → NamesSeat o → unlinking (has_bit set) M.link x k d ≡ o
@@ -109,51 +108,39 @@ module _ (set : ℕ) where
             absurd (f (rw (a, b, v))))
             (applied-frame x (link_to k d o) (freed_to set s here M).link y j c)))
 
-    module _ {l : List ℕ} (e : l ≡ bytes_of (freed_to set s here M)) (b : ℕ) (f : b ≡ get_or l (link_at x k d) 0) where
-      -- the byte as the test of the code has it
-      relinked : bytes_of (freed_to set s (here + 1) M) ≡ put l (link_at x k d) (cond (goes x b) no_link b)
-      relinked =
-          let v : b ≡ link_byte (M.link x k d) = f ∙ ap (λ (m : List ℕ). get_or m (link_at x k d) 0) e ∙ old-byte in
-          relink (unlinking (has_bit set) M.link x k d) (λ y q. c x k y d (unlinking-some (has_bit set) (M.link x k d) x y q).0) refl
-          ∙ rw (v, e) (ap (put (bytes_of (freed_to set s here M)) (link_at x k d)) (unlinked-byte x (M.link x k d) (λ y q. c x k y d q)))
+    -- the link as the bytes have it: it becomes none, or is kept
+    module _ {l : List ℕ} (e : l ≡ bytes_of (freed_to set s here M)) (o : Option ℕ) (f : o ≡ (meaning l).link x k d) where
+      link-is : M.link x k d ≡ o
+      link-is = sym (f ∙ link-named (freed_to set s here M) x k d h g old-seat e ∙ old-link)
 
-      -- none, and kept
-      cut : goes x b ≡ true → put l (link_at x k d) no_link ≡ bytes_of (freed_to set s (here + 1) M)
-      cut t = sym (relinked ∙ rw t)
+      pub cut-link : goes x o ≡ true → put l (link_at x k d) no_link ≡ bytes_of (freed_to set s (here + 1) M)
+      cut-link t =
+          let gone : unlinking (has_bit set) M.link x k d ≡ none = unlinked-link x (M.link x k d) ∙ rw (link-is, t) in
+          rw e (sym (relink none (λ y q. none-some refl q) gone))
 
-      uncut : goes x b ≡ false → l ≡ bytes_of (freed_to set s (here + 1) M)
-      uncut t = sym (relinked ∙ rw (t, f) (set-get_or l (link_at x k d) 0))
-
-  -- the same, the side as a number
-  module _ (s x k : ℕ) (h : x < seats) (g : k < levels) (M : Meaning) (c : Linked M) {l : List ℕ} where
-    pub cut-link : (d b : ℕ) → d < 2 → l ≡ bytes_of (freed_to set s (link_place x k d) M) → b ≡ get_or l (link_at x k (side_of_number d)) 0
-        → goes x b ≡ true → put l (link_at x k (side_of_number d)) no_link ≡ bytes_of (freed_to set s (link_place x k d + 1) M)
-    cut-link zero b q e f t = cut s x k left h g M c e b f t
-    cut-link (suc zero) b q e f t = cut s x k right h g M c e b f t
-    cut-link (suc (suc d)) b q e f t = absurd (omega arith)
-
-    pub uncut-link : (d b : ℕ) → d < 2 → l ≡ bytes_of (freed_to set s (link_place x k d) M) → b ≡ get_or l (link_at x k (side_of_number d)) 0
-        → goes x b ≡ false → l ≡ bytes_of (freed_to set s (link_place x k d + 1) M)
-    uncut-link zero b q e f t = uncut s x k left h g M c e b f t
-    uncut-link (suc zero) b q e f t = uncut s x k right h g M c e b f t
-    uncut-link (suc (suc d)) b q e f t = absurd (omega arith)
+      pub uncut-link : goes x o ≡ false → l ≡ bytes_of (freed_to set s (here + 1) M)
+      uncut-link t =
+          let kept : unlinking (has_bit set) M.link x k d ≡ M.link x k d = unlinked-link x (M.link x k d) ∙ rw (link-is, t) in
+          let byte = read-link (freed_to set s here M) x h k d g old-seat ∙ ap link_byte old-link in
+          e
+          ∙ sym (set-get_or (bytes_of (freed_to set s here M)) (link_at x k d) 0)
+          ∙ ap (put (bytes_of (freed_to set s here M)) (link_at x k d)) byte
+          ∙ sym (relink (M.link x k d) (λ y q. c x k y d q) kept)
 
   -- a lot without links: none of its bytes changes, level by level
   module _ (x : ℕ) (h : x < seats) (M : Meaning) (c : Linked M) (l : List ℕ) (bare : all levels (bare_at l x) ≡ true) where
-    none-goes : (k : ℕ) (d : Side) → k < levels → goes x (get_or l (link_at x k d) 0) ≡ false
-    none-goes k d g = rw (bare-byte l x bare k d g)
-
     unlinked-to : (k : ℕ) → k ≤ levels → l ≡ bytes_of (freed_to set (x + 1) (link_place x 0 0) M)
         → l ≡ bytes_of (freed_to set (x + 1) (link_place x k 0) M)
     unlinked-to zero g e = e
     unlinked-to (suc k) g e =
+        let to = λ (n : ℕ). bytes_of (freed_to set (x + 1) n M) in
+        let q : k < levels = omega arith in
         let a = unlinked-to k (omega arith) e in
-        let b = uncut-link (x + 1) x k h (omega arith) M c 0 (get_or l (link_at x k left) 0) (omega arith) a refl (none-goes k left (omega arith)) in
+        let b = uncut-link (x + 1) x k left h q M c a none (sym (bare-link l x h bare k left q)) refl in
         let n : link_place x k 0 + 1 ≡ link_place x k 1 = omega arith in
-        let d = uncut-link (x + 1) x k h (omega arith) M c 1 (get_or l (link_at x k right) 0) (omega arith)
-        (b ∙ ap (λ (i : ℕ). bytes_of (freed_to set (x + 1) i M)) n) refl (none-goes k right (omega arith)) in
+        let d = uncut-link (x + 1) x k right h q M c (b ∙ ap to n) none (sym (bare-link l x h bare k right q)) refl in
         let m : link_place x k 1 + 1 ≡ link_place x (suc k) 0 = omega arith in
-        d ∙ ap (λ (i : ℕ). bytes_of (freed_to set (x + 1) i M)) m
+        d ∙ ap to m
 
     pub unlinked-seat : l ≡ bytes_of (freed_to set (x + 1) (link_place x 0 0) M) → l ≡ bytes_of (freed_to set (x + 1) (link_place (x + 1) 0 0) M)
     unlinked-seat e =

@@ -1,13 +1,15 @@
 // Seats that become free (document 01, "Turn"): a set of seats, its links, and the links to it. Bit s of a set, the lowest is 0, is seat s.
-ghost use Rattle.std.specs.Prelude.{◌≡◌, ◌&&◌, ◌||◌, ◌+◌, ◌<◌, ltb, length};
+ghost use Rattle.std.specs.Prelude.{◌≡◌, ◌||◌, ◌+◌, ◌<◌};
 ghost use Rattle.memory.specs.Bits.{has_bit};
-ghost use Rattle.record.specs.Layout.{seats, levels, size};
+ghost use Rattle.graph.specs.Side.{side_number};
+ghost use Rattle.graph.specs.inner.Code.{as_side};
+ghost use Rattle.record.specs.Layout.{seats, levels};
 ghost use Rattle.clearing.specs.inner.Steps.{Step, same, link_place, freed_to, freed};
 
-use graph::{LEFT, RIGHT};
-use record::fields::Change;
-use record::lots::no_links;
-use record::{FREE, LEVELS, NONE, SEATS};
+use graph::Side;
+use record::lots::{link, no_links};
+use record::states::State;
+use record::{LEVELS, NONE, Record, SEATS};
 
 // Whether seat s is in the set.
 pub fn in_set(set: u64, s: usize) -> bool
@@ -17,60 +19,59 @@ pub fn in_set(set: u64, s: usize) -> bool
     (set >> s) % 2 == 1
 }
 
-// Whether a link from x that is y becomes none: it names a seat, and one of the two is freed.
+// Whether a link from x to y becomes none: one of the two is freed.
 fn parts(set: u64, x: usize, y: usize) -> bool
-    requires { x < seats }
-    ensures { result ≡ (ltb y seats && (has_bit set x || has_bit set y)) }
+    requires { (x < seats) × (y < seats) }
+    ensures { result ≡ has_bit set x || has_bit set y }
 {
-    y < SEATS && (in_set(set, x) || in_set(set, y))
+    in_set(set, x) || in_set(set, y)
 }
 
 // Makes the link of x at level k on side d none if x or the seat that it names is freed.
-fn unlink(rec: &mut [u8], set: u64, x: usize, k: usize, d: usize)
-    requires { (length rec.old ≡ size) × (x < seats) × (k < levels) × (d < 2) }
-    ensures { Step (freed_to set (x + 1) (link_place x k d)) (freed_to set (x + 1) (link_place x k d + 1)) rec.old rec.new }
+fn unlink(rec: &mut Record, set: u64, x: usize, k: usize, d: Side)
+    requires { (x < seats) × (k < levels) }
+    ensures { let n = link_place x k (side_number (as_side d)) in Step (freed_to set (x + 1) n) (freed_to set (x + 1) (n + 1)) rec.old rec.new }
 {
-    let y = record::link(rec, x, k, d) as usize;
-    if parts(set, x, y) {
-        record::write_link(rec, x, k, d, Change::Set(NONE));
+    if let Some(y) = link(rec, x, k, d)
+        && parts(set, x, y)
+    {
+        record::write_link(rec, x, k, d, Some(NONE));
     }
 }
 
 // The same for every link of x.
-fn unlink_lot(rec: &mut [u8], set: u64, x: usize)
-    requires { (length rec.old ≡ size) × (x < seats) }
+fn unlink_lot(rec: &mut Record, set: u64, x: usize)
+    requires { x < seats }
     ensures { Step (freed_to set (x + 1) (link_place x 0 0)) (freed_to set (x + 1) (link_place (x + 1) 0 0)) rec.old rec.new }
 {
     for k in 0..LEVELS {
-        unlink(rec, set, x, k, LEFT);
-        unlink(rec, set, x, k, RIGHT);
+        unlink(rec, set, x, k, Side::Left);
+        unlink(rec, set, x, k, Side::Right);
     }
 }
 
 // The same; a seat without links, as every free one is, is passed over at once.
-fn unlink_seat(rec: &mut [u8], set: u64, x: usize)
-    requires { (length rec.old ≡ size) × (x < seats) }
+fn unlink_seat(rec: &mut Record, set: u64, x: usize)
+    requires { x < seats }
     ensures { Step (freed_to set (x + 1) (link_place x 0 0)) (freed_to set (x + 1) (link_place (x + 1) 0 0)) rec.old rec.new }
 {
-    if no_links(rec, x) {
-        return;
+    if !no_links(rec, x) {
+        unlink_lot(rec, set, x);
     }
-    unlink_lot(rec, set, x);
 }
 
 // State, number and vector of seat s as opened if it is freed.
-fn clear_seat(rec: &mut [u8], set: u64, s: usize)
-    requires { (length rec.old ≡ size) × (s < seats) }
+fn clear_seat(rec: &mut Record, set: u64, s: usize)
+    requires { s < seats }
     ensures { Step (freed_to set s (link_place s 0 0)) (freed_to set (s + 1) (link_place s 0 0)) rec.old rec.new }
 {
     if in_set(set, s) {
-        record::fill(rec, s, FREE, 0, 0);
+        record::fill(rec, s, State::Free, 0, 0);
     }
 }
 
 // The seats of the set become free as opened, and links of them and to them become none. The phase and the pending messages stay.
-pub fn free_seats(rec: &mut [u8], set: u64)
-    requires { length rec.old ≡ size }
+pub fn free_seats(rec: &mut Record, set: u64)
     ensures { Step same (freed set) rec.old rec.new }
 {
     for s in 0..SEATS {

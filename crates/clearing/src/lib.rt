@@ -1,84 +1,72 @@
 // Turn (document 01, "Calls"): into phase clearing, or out of it.
 #![tactic(auto)]
 
-ghost use Rattle.std.specs.Prelude.{◌≡◌, ℕ, ◌<◌, length};
+ghost use Rattle.std.specs.Prelude.{◌≡◌, ℕ, ◌<◌};
 ghost use Rattle.graph.specs.Vector.{width};
+ghost use Rattle.graph.specs.inner.Code.{as_side};
 ghost use Rattle.memory.specs.Bits.{has_bit};
-ghost use Rattle.base.specs.Loops.{one_if, any};
+ghost use Rattle.base.specs.Loops.{any};
 ghost use Rattle.protocol.specs.Calls.{turn as turning, accept};
 ghost use Rattle.protocol.specs.State.{leaves};
 ghost use Rattle.protocol.specs.pages.Turn.{farewell, farewells};
-ghost use Rattle.record.specs.Layout.{seats, levels, size};
+ghost use Rattle.record.specs.Layout.{seats, levels};
 ghost use Rattle.record.specs.Meaning.{seats_in};
-ghost use Rattle.graph.specs.Side.{side_of_number};
 ghost use Rattle.record.specs.Call.{call_refusal, called};
-ghost use Rattle.record.specs.Answer.{outcome, Numbered};
+ghost use Rattle.record.specs.Answer.{number_of, outcome};
 ghost use Rattle.clearing.specs.inner.Steps.{Step, same, saying, lot_farewells, farewells_from, begun, ended};
 
 pub mod freeing;
 
-use graph::{LEFT, RIGHT};
+use graph::Side;
 use messages::going_place;
-use record::lots::{is_leaving, link};
-use record::refusals::MESSAGES_LEFT;
-use record::{Answer, CLEARING, LEVELS, MESSAGES, OPEN, SEATS};
+use record::lots::{is_clearing, is_leaving, link};
+use record::refusals::Refusal;
+use record::states::Phase;
+use record::{LEVELS, Record, SEATS};
 use soundness::look;
 
-// A test as a bit.
-fn one_if(b: bool) -> u64
-    ensures { result ≡ one_if b }
-{
-    if b {
-        return 1;
-    }
-    0
-}
-
 // The set of leavers: bit s, the lowest is 0, is 1 exactly if the lot on seat s leaves.
-fn leavers(rec: &[u8]) -> u64
-    requires { length rec.now ≡ size }
+fn leavers(rec: &Record) -> u64
     ensures { (x : ℕ) → has_bit result x ≡ leaves (seats_in rec.now) x }
 {
-    let mut set: u64 = 0;
-    let mut s = SEATS;
-    while s > 0 {
-        s -= 1;
-        set = set * 2 + one_if(is_leaving(rec, s));
+    let mut set = 0;
+    for s in 0..SEATS {
+        if is_leaving(rec, s) {
+            set |= 1 << s;
+        }
     }
     set
 }
 
 // Whether a lot leaves.
-fn has_leaver(rec: &[u8]) -> bool
-    requires { length rec.now ≡ size }
+fn has_leaver(rec: &Record) -> bool
     ensures { result ≡ any seats (leaves (seats_in rec.now)) }
 {
-    leavers(rec) != 0
+    (0..SEATS).any(|s| is_leaving(rec, s))
 }
 
 // Sends GOING from y to its link at level k on side d, if there is one, with the side on which the receiver has y.
-fn tell(rec: &mut [u8], y: usize, k: usize, d: usize)
-    requires { (length rec.old ≡ size) × (y < seats) × (k < levels) × (d < 2) }
-    ensures { Step same (λ M. saying M (farewell M.link y k (side_of_number d))) rec.old rec.new }
+fn tell(rec: &mut Record, y: usize, k: usize, d: Side)
+    requires { (y < seats) × (k < levels) }
+    ensures { Step same (λ M. saying M (farewell M.link y k (as_side d))) rec.old rec.new }
 {
-    let to = link(rec, y, k, d);
-    if to < SEATS {
-        record::send(rec, going_place(to, k, 1 - d));
+    if let Some(to) = link(rec, y, k, d) {
+        record::send(rec, going_place(to, k, d.opposite()));
     }
 }
 
-fn tell_links(rec: &mut [u8], y: usize)
-    requires { (length rec.old ≡ size) × (y < seats) }
+fn tell_links(rec: &mut Record, y: usize)
+    requires { y < seats }
     ensures { Step same (λ M. saying M (lot_farewells M.link y)) rec.old rec.new }
 {
     for k in 0..LEVELS {
-        tell(rec, y, k, LEFT);
-        tell(rec, y, k, RIGHT);
+        tell(rec, y, k, Side::Left);
+        tell(rec, y, k, Side::Right);
     }
 }
 
-fn tell_if_leaving(rec: &mut [u8], y: usize)
-    requires { (length rec.old ≡ size) × (y < seats) }
+fn tell_if_leaving(rec: &mut Record, y: usize)
+    requires { y < seats }
     ensures { Step same (λ M. saying M (farewells_from M y)) rec.old rec.new }
 {
     if is_leaving(rec, y) {
@@ -87,8 +75,7 @@ fn tell_if_leaving(rec: &mut [u8], y: usize)
 }
 
 // Every leaver sends GOING to each of its links.
-fn tell_all(rec: &mut [u8])
-    requires { length rec.old ≡ size }
+fn tell_all(rec: &mut Record)
     ensures { Step same (λ M. saying M (farewells seats width M.seats M.link)) rec.old rec.new }
 {
     for y in 0..SEATS {
@@ -97,61 +84,52 @@ fn tell_all(rec: &mut [u8])
 }
 
 // Into phase clearing: GOING to the links of the leavers.
-fn begin_clearing(rec: &mut [u8])
-    requires { length rec.old ≡ size }
+fn begin_clearing(rec: &mut Record)
     ensures { Step same begun rec.old rec.new }
 {
     tell_all(rec);
-    record::set_phase(rec, CLEARING);
+    record::set_phase(rec, Phase::Clearing);
 }
 
 // Out of it: the leavers' seats become free.
-fn end_clearing(rec: &mut [u8])
-    requires { length rec.old ≡ size }
+fn end_clearing(rec: &mut Record)
     ensures { Step same ended rec.old rec.new }
 {
     let set = leavers(rec);
     freeing::free_seats(rec, set);
-    record::set_phase(rec, OPEN);
+    record::set_phase(rec, Phase::Open);
 }
 
 // What an accepted turn does.
-fn carry_out(rec: &mut [u8])
-    requires { length rec.old ≡ size }
+fn carry_out(rec: &mut Record)
     ensures { Step same (λ M. accept seats width M turning) rec.old rec.new }
 {
-    if record::phase(rec) != OPEN {
+    if is_clearing(rec) {
         end_clearing(rec);
-        return;
-    }
-    if has_leaver(rec) {
+    } else if has_leaver(rec) {
         begin_clearing(rec);
     }
 }
 
-// The refusal number of a turn, 0 if it is accepted. The pending bytes are looked at once.
-fn turn_refusal(rec: &[u8]) -> u8
-    ensures { result ≡ call_refusal rec.now turning }
+// The refusal of a turn, if it is refused. The pending bytes are looked at once.
+fn turn_refusal(rec: &Record) -> Result<(), Refusal>
+    ensures { number_of result ≡ call_refusal rec.now turning }
 {
-    let seen = look(rec);
-    if seen.refused != 0 {
-        return seen.refused;
+    match look(rec)? {
+        Some(_) => Err(Refusal::MessagesLeft),
+        None => Ok(()),
     }
-    if seen.first < MESSAGES {
-        return MESSAGES_LEFT;
-    }
-    0
 }
 
 // In phase open with leavers: phase clearing, and every leaver sends GOING to each of its links; without leavers nothing changes. In phase
 // clearing: the leavers' seats become free, a link to one becomes none, phase open. Refused by 1, 2, 11, in this order.
-pub fn turn(rec: &mut [u8]) -> Answer
-    ensures { (outcome result rec.new ≡ called rec.old turning) × Numbered result }
+pub fn turn(rec: &mut [u8]) -> Result<(), Refusal>
+    ensures { outcome result rec.new ≡ called rec.old turning }
 {
-    let n = turn_refusal(rec);
-    if n != 0 {
-        return record::answer_of(n);
-    }
+    let Some(rec) = rec.as_mut_array() else {
+        return Err(Refusal::WrongSize);
+    };
+    turn_refusal(rec)?;
     carry_out(rec);
-    Answer::Done
+    Ok(())
 }

@@ -1,14 +1,13 @@
 -- MEET between the two ends of a link, that a seat without links sends none, and that links still name seats once some are freed. Assumes nothing.
-use Prim.Native.Nat.{ℕ, suc, ◌≤◌, ◌<◌}
-use mathlib.Core.Path.{◌≡◌, refl, sym, ap, ◌∙◌}
-use mathlib.Core.Option.{Option, none, some}
+use Prim.Native.Nat.{ℕ, suc, ◌<◌}
+use mathlib.Core.Path.{◌≡◌, sym, ap, ◌∙◌}
+use mathlib.Core.Option.{none, some}
 use mathlib.Core.Bool.{true}
 use mathlib.Core.List.{List, [], ◌∷◌}
 use native.Mathlib.Omega.{arith}
-use lib.ListN.{get_or}
 use Rattle.base.specs.Loops.{all}
 use Rattle.memory.specs.Bits.{has_bit, set_bit}
-use Rattle.graph.specs.Side.{Side, left, right, side_of_number}
+use Rattle.graph.specs.Side.{Side, left, right}
 use Rattle.graph.specs.Vector.{width}
 use Rattle.protocol.specs.Message.{meet}
 use Rattle.protocol.specs.Numbering.{place}
@@ -17,15 +16,12 @@ use Rattle.protocol.specs.State.{Meaning}
 use Rattle.protocol.specs.pages.Crash.{introduced}
 use Rattle.protocol.proofs.KeepFreeing.{unlinking-some}
 use Rattle.protocol.proofs.ReachedTurn.{each-nothing}
-use Rattle.record.specs.Layout.{seats, levels, no_link, link_at, pending_from}
-use Rattle.record.specs.Meaning.{link_of, link_byte, meaning, bytes_of}
+use Rattle.record.specs.Layout.{seats, levels, pending_from}
+use Rattle.record.specs.Meaning.{meaning, bytes_of}
 use Rattle.record.specs.inner.Entry.{bare_at}
-use Rattle.record.proofs.Bare.{bare-byte}
-use Rattle.record.proofs.Round.{read-link}
-use Rattle.record.proofs.Links.{link_of-some, link_of-none}
 use Rattle.record.proofs.Sent.{meet-exists, bytes-with_message}
 use Rattle.clearing.specs.inner.Steps.{Linked, saying, freed}
-use Rattle.clearing.proofs.Telling.{saying-nothing, saying-append, link-named}
+use Rattle.clearing.proofs.Telling.{saying-nothing, saying-append, link-named, bare-link}
 use Rattle.crash.specs.inner.Steps.{level_introductions, lot_introductions}
 
 -- one to each end
@@ -40,34 +36,31 @@ module _ (M : Meaning) (x y : ℕ) (h : x < seats) (g : y < seats) where
       ∙ bytes-with_message met (meet y x 0) (meet-exists y x g h)
       ∙ ap (λ (l : List ℕ). set_bit l pending_from (place seats width (meet y x 0))) (bytes-with_message M (meet x y 0) (meet-exists x y h g))
 
--- the link of x that the bytes have, and no link
-module _ (M : Meaning) (c : Linked M) (x k d y : ℕ) (h : x < seats) (g : k < levels) {l : List ℕ} (e : l ≡ bytes_of M)
-    (f : link_of y ≡ (meaning l).link x k (side_of_number d)) where
-  pub introduce-ends : y < seats
-      → set_bit (set_bit l pending_from (place seats width (meet x y 0))) pending_from (place seats width (meet y x 0))
-      ≡ bytes_of (saying M (introduced M.link x k (side_of_number d)))
-  unfolding introduced to_link
-  introduce-ends p = rw (link-named M c x k d y h g e f, link_of-some y p, e) (sym (two_meets M x y h p))
+-- the link of x as the bytes have it, and no link
+module _ (M : Meaning) (c : Linked M) (x k : ℕ) (d : Side) (h : x < seats) (g : k < levels) {l : List ℕ} (e : l ≡ bytes_of M) where
+  abbrev named : (meaning l).link x k d ≡ M.link x k d
+  named = link-named M x k d h g (λ y q. c x k y d q) e
 
-  pub introduce-none : seats ≤ y → l ≡ bytes_of (saying M (introduced M.link x k (side_of_number d)))
+  pub introduce-ends : (y : ℕ) → y < seats → some y ≡ (meaning l).link x k d
+      → set_bit (set_bit l pending_from (place seats width (meet x y 0))) pending_from (place seats width (meet y x 0))
+      ≡ bytes_of (saying M (introduced M.link x k d))
   unfolding introduced to_link
-  introduce-none p = rw (link-named M c x k d y h g e f, link_of-none y p) (e ∙ sym (ap bytes_of (saying-nothing M)))
+  introduce-ends y p f = rw (← named, ← f, e) (sym (two_meets M x y h p))
+
+  pub introduce-none : none ≡ (meaning l).link x k d → l ≡ bytes_of (saying M (introduced M.link x k d))
+  unfolding introduced to_link
+  introduce-none f = rw (← named, ← f) (e ∙ sym (ap bytes_of (saying-nothing M)))
 
 -- a seat without links has nobody to introduce
 module _ (M : Meaning) (c : Linked M) (x : ℕ) (h : x < seats) {l : List ℕ} (e : l ≡ bytes_of M) (bare : all levels (bare_at l x) ≡ true) where
-  bare-link : (k : ℕ) (d : Side) → k < levels → M.link x k d ≡ none
-  bare-link k d g = by (M.link x k d) (λ y q. c x k y d q)
-      (sym (read-link M x h k d g (λ y q. c x k y d q)) ∙ ap (λ (m : List ℕ). get_or m (link_at x k d) 0) (sym e) ∙ bare-byte l x bare k d g)
-    where
-      by : (o : Option ℕ) → ((y : ℕ) → o ≡ some y → y < seats) → link_byte o ≡ no_link → o ≡ none
-      by none f q = refl
-      by (some y) f q = absurd (omega (arith, f y refl))
+  no-link : (k : ℕ) (d : Side) → k < levels → M.link x k d ≡ none
+  no-link k d g = sym (named M c x k d h g e) ∙ bare-link l x h bare k d g
 
   pub introduce-bare : l ≡ bytes_of (saying M (lot_introductions M.link x))
   unfolding introduced to_link
   introduce-bare =
       let none_sent = each-nothing width (level_introductions M.link x) (λ k g.
-      rw (bare-link (suc k) left (omega arith), bare-link (suc k) right (omega arith))) in
+      rw (no-link (suc k) left (omega arith), no-link (suc k) right (omega arith))) in
       e ∙ sym (ap bytes_of (ap (saying M) none_sent ∙ saying-nothing M))
 
 -- links name seats once those of a set are freed

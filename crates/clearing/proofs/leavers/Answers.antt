@@ -1,50 +1,23 @@
--- `clearing::leavers` meets its contract: the set has the leavers from `s` on, that of `s` lowest. Assumes nothing.
-use Prim.Native.Nat.{ℕ, ◌+◌, ◌-◌, ◌^◌, ◌≤◌, ◌<◌}
-use mathlib.Core.Path.{◌≡◌, refl, ap, ◌∙◌}
-use native.Mathlib.Nat.{zero-add}
+-- `clearing::leavers` meets its contract: the set has the leavers below `s`. Assumes nothing.
+use mathlib.Core.Path.{sym, ◌∙◌}
 use native.Mathlib.Omega.{arith}
-use lib.Pow.{pow_mono}
-use borrow.Author.Rules.{rules}
-use Rattle.base.specs.Loops.{one_if}
-use Rattle.base.proofs.Count.{one_if-le}
-use Rattle.memory.specs.Bits.{has_bit, packed}
-use Rattle.memory.proofs.Packed.{packed_lt, packed-same}
 use Rattle.protocol.specs.State.{leaves}
-use Rattle.record.specs.Layout.{seats}
 use Rattle.record.specs.Meaning.{seats_in}
-use Rattle.clearing.proofs.Leaving.{packed-before, leavers-bits}
+use Rattle.clearing.proofs.Leaving.{Gathered-none, Gathered-more, Gathered-past, Gathered-all}
 use Rattle.clearing.proofs.leavers.Goals as goal
-use Rattle.clearing.proofs.leavers.Goals.{In-loop-s}
+use Rattle.clearing.proofs.leavers.Goals.{then-is_leaving, else-is_leaving}
 
 pub loop-s-init : goal.loop-s-init
-unfolding packed
-loop-s-init c = (search rules, refl)
-
--- the set has room for one seat more
-room : (c : In-loop-s) → c.loop-s.set < 2 ^ (seats - 1)
-room c =
-    let s = c.loop-s.s in
-    let g : 2 ^ (seats - s) ≤ 2 ^ (seats - 1) = pow_mono {i = seats - s} {j = seats - 1} (omega arith) in
-    let h = packed_lt (seats - s) (λ j. leaves (seats_in c.args.rec.now) (s + j)) in
-    omega (arith, g, h, c.loop-s.invariant.1)
-
-pub overflow_mul-set : goal.overflow_mul-set
-overflow_mul-set c = omega (arith, room (goal.at.overflow_mul-set c).In-loop-s)
-
-pub overflow_add-set : goal.overflow_add-set
-overflow_add-set c = omega (arith, room (goal.at.overflow_add-set c).In-loop-s, c.one_if.ensures, one_if-le c.is_leaving.result)
+loop-s-init c = Gathered-none (leaves (seats_in c.args.rec.now))
 
 pub loop-s-preserved : goal.loop-s-preserved
 loop-s-preserved c =
-    let s = c.loop-s.s in
     let p = leaves (seats_in c.args.rec.now) in
-    let e : c.one_if.result ≡ one_if (p (s - 1)) = c.one_if.ensures ∙ ap one_if c.is_leaving.ensures in
-    (search rules, rw (e, c.loop-s.invariant.1) (packed-before p (seats - (s - 1)) (seats - s) s (s - 1) (omega arith) (omega arith)))
+    elim c.if-is_leaving.branch [
+      | then-is_leaving w ↦
+          Gathered-more p c.loop-s.set c.loop-s.s _ c.loop-s-test.true c.loop-s.invariant (sym c.is_leaving.ensures ∙ w.if-is_leaving.true) w.set-is
+      | else-is_leaving w ↦ Gathered-past p c.loop-s.set c.loop-s.s _ c.loop-s.invariant (sym c.is_leaving.ensures ∙ w.if-is_leaving.false) w.set-is
+    ]
 
 pub returns : goal.returns
-returns c = λ x.
-    let l = c.args.rec.now in
-    let n : c.loop-s.s ≡ 0 = omega arith in
-    let e : c.loop-s.set ≡ packed seats (leaves (seats_in l)) = c.loop-s.invariant.1
-    ∙ rw n (packed-same seats (λ j. leaves (seats_in l) (0 + j)) (leaves (seats_in l)) (λ j h. rw zero-add)) in
-    ap (λ (y : ℕ). has_bit y x) e ∙ leavers-bits l x
+returns c = Gathered-all c.args.rec.now c.loop-s.set c.loop-s.s (omega arith) c.loop-s.invariant

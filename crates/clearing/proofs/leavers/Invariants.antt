@@ -1,14 +1,8 @@
--- `clearing::leavers` meets its contract: the set has the leavers from `s` on, that of `s` lowest. Assumes nothing.
-use Prim.Native.Nat.{◌+◌, ◌-◌, ◌≤◌}
-use mathlib.Core.Path.{◌≡◌}
-use Rattle.memory.specs.Bits.{packed}
+-- `clearing::leavers` meets its contract: the set has the leavers below `s`. Assumes nothing.
 use Rattle.protocol.specs.State.{leaves}
-use Rattle.record.specs.Layout.{seats}
 use Rattle.record.specs.Meaning.{seats_in}
+use Rattle.clearing.proofs.Leaving.{Gathered}
 use Rattle.clearing.proofs.leavers.Given as goal
 
 abbrev pub invariant-loop-s : goal.invariant-loop-s
-invariant-loop-s l = (l.s ≤ seats) × (l.set ≡ packed (seats - l.s) (λ j. leaves (seats_in l.rec) (l.s + j)))
-
-abbrev pub decreases-loop-s : goal.decreases-loop-s
-decreases-loop-s l = l.s
+invariant-loop-s l = Gathered (leaves (seats_in l.rec)) l.set l.s

@@ -1,32 +1,22 @@
 -- `clearing::turn` meets its contract. Assumes nothing.
-use mathlib.Core.Path.{sym, ◌∙◌}
-use native.Mathlib.Omega.{arith}
-use Rattle.protocol.specs.Calls.{turn}
+use mathlib.Core.Path.{sym}
+use borrow.Author.Rules.{rules}
 use Rattle.record.specs.Meaning.{meaning}
-use Rattle.record.proofs.Form.{Form}
 use Rattle.record.proofs.Round.{bytes-meaning}
-use Rattle.record.specs.Answer.{number_of}
-use Rattle.record.proofs.Accepted.{accepted, outcome-refused, outcome-done}
+use Rattle.record.proofs.Answered.{answered-size, answered-refused, answered-accepted, answered-done}
 use Rattle.clearing.proofs.Refused.{meaning-linked}
 use Rattle.clearing.proofs.turn.Goals as goal
-use Rattle.clearing.proofs.turn.Goals.{Else-n-ne0}
 
-pub returns-then-n-ne0 : goal.returns-then-n-ne0
-returns-then-n-ne0 c =
-    let l = c.args.rec.now in
-    let e = outcome-refused l turn _ c.turn_refusal-n.ensures c.if-n-ne0.true c.answer_of.ensures.0 in
-    (e, c.answer_of.ensures.1)
+pub returns-in_default : goal.returns-in_default
+returns-in_default c = answered-size _ _ c.in_default.ensures.cases
 
-known : (c : Else-n-ne0) → Form c.args.rec.now
-known c =
-    (accepted c.args.rec.now turn (λ i. omega (arith, c.slice_known-1.given i)) (sym c.turn_refusal-n.ensures ∙ c.if-n-ne0.false)).form
-
-pub carry_out-requires : goal.carry_out-requires
-carry_out-requires c = (known (goal.at.carry_out-requires c).Else-n-ne0).sized
+pub returns-in_err-turn_refusal : goal.returns-in_err-turn_refusal
+returns-in_err-turn_refusal c =
+    rw (← c.in-Some.ensures.cases.same) (answered-refused _ _ _ c.from_residual.result _ c.from_residual.ensures.1 c.in_err-turn_refusal.ensures)
 
 pub returns : goal.returns
-unfolding number_of
 returns c =
-    let l = c.args.rec.now in
-    let z = sym c.turn_refusal-n.ensures ∙ c.if-n-ne0.false in
-    (outcome-done l turn z (c.carry_out.ensures (meaning l) (meaning-linked l) (sym (bytes-meaning (known (goal.at.returns c).Else-n-ne0)))), tt)
+    let l = c.in-Some.rec.now in
+    let t = answered-accepted _ _ _ (λ i. search rules) c.in_ok-turn_refusal.ensures in
+    rw (← c.in-Some.ensures.cases.same)
+    (answered-done _ _ _ tt c.in_ok-turn_refusal.ensures (c.carry_out.ensures (meaning l) (meaning-linked l) (sym (bytes-meaning t.form))))

@@ -1,26 +1,29 @@
--- `clearing::turn_refusal` meets its contract. Assumes nothing.
-use mathlib.Core.Path.{sym}
-use Rattle.protocol.specs.Calls.{turn}
-use Rattle.record.proofs.Refused.{Passed, record-passed}
-use Rattle.record.proofs.Accepted.{refused-early}
-use Rattle.messages.proofs.First.{quiet-pending, some-pending}
-use Rattle.clearing.proofs.Refused.{messages-left}
+-- `clearing::turn_refusal` meets its contract: the record's rows, then the table's. Assumes nothing.
+use mathlib.Core.Path.{refl, ap}
+use Rattle.std.specs.Prelude.{Result, Ok, Err}
+use Rattle.std.specs.Option.{is_some}
+use Rattle.protocol.specs.Calls.{rows, refusal}
+use Rattle.protocol.specs.Refusals.{first}
+use Rattle.record.specs.Answer.{number_of}
+use Rattle.record.specs.declared.refusals.Refusal.{Refusal}
+use Rattle.record.specs.declared.refusals.Refusal.TheVariants.{MessagesLeft}
+use Rattle.record.proofs.Answered.{answered-early, answered-late}
+use Rattle.record.proofs.Rows.{row_here, row_next}
+use Rattle.clearing.proofs.Refused.{some-left}
 use Rattle.clearing.proofs.turn_refusal.Goals as goal
-use Rattle.clearing.proofs.turn_refusal.Goals.{Else-seen-ne0}
 
--- past 1 and 2
-passed : (c : Else-seen-ne0) → Passed c.args.rec.now
-passed c = record-passed _ c.look-seen.ensures.refused c.if-seen-ne0.false
+pub returns-in_err-look : goal.returns-in_err-look
+returns-in_err-look c = answered-early _ _ _ c.from_residual.result _ c.from_residual.ensures.1 c.in_err-look.ensures.refused
 
-pub returns-then-seen-ne0 : goal.returns-then-seen-ne0
-returns-then-seen-ne0 c = refused-early _ turn c.look-seen.ensures.refused c.if-seen-ne0.true
+pub returns-in-Some : goal.returns-in-Some
+unfolding refusal rows first number_of
+returns-in-Some c =
+    let no : Result (Unit {0}) Refusal = Err MessagesLeft in
+    answered-late _ _ c.in_ok-look.field-0 no c.in_ok-look.ensures.refused
+    (row_here 11 _ (some-left _ c.in_ok-look.field-0 c.in_ok-look.ensures.first) (ap is_some c.in-Some.is))
 
-pub returns-then-seen-lt-MESSAGES : goal.returns-then-seen-lt-MESSAGES
-returns-then-seen-lt-MESSAGES c =
-    let p = passed (goal.at.returns-then-seen-lt-MESSAGES c).Else-seen-ne0 in
-    sym (messages-left _ p (sym (some-pending _ (c.look-seen.ensures.first c.if-seen-ne0.false) c.if-seen-lt-MESSAGES.true)))
-
-pub returns : goal.returns
-returns c =
-    let p = passed (goal.at.returns c).Else-seen-ne0 in
-    sym (messages-left _ p (sym (quiet-pending _ (c.look-seen.ensures.first c.if-seen-ne0.false) c.if-seen-lt-MESSAGES.false)))
+pub returns-in-None : goal.returns-in-None
+unfolding refusal rows first number_of
+returns-in-None c =
+    answered-late _ _ c.in_ok-look.field-0 (Ok (tt {0})) c.in_ok-look.ensures.refused
+    (row_next 11 (some-left _ c.in_ok-look.field-0 c.in_ok-look.ensures.first) (ap is_some c.in-None.is) refl)

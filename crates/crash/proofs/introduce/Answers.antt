@@ -1,18 +1,14 @@
 -- `crash::introduce` meets its contract. Assumes nothing.
 use mathlib.Core.Path.{◌∙◌}
-use native.Mathlib.Omega.{arith}
 use Rattle.crash.proofs.Introducing.{introduce-ends, introduce-none}
 use Rattle.crash.proofs.introduce.Goals as goal
 
-pub returns-then-y-lt-SEATS : goal.returns-then-y-lt-SEATS
-returns-then-y-lt-SEATS c = λ M f e.
-    let s = c.args in
-    let y = c.link-y.result in
-    c.send-then-y-lt-SEATS.ensures
-    ∙ rw (c.meet_place-then-y-lt-SEATS.ensures.0, c.send.ensures, c.meet_place.ensures.0)
-    (introduce-ends M f s.x s.k s.d y (omega arith) (omega arith) e c.link-y.ensures (omega arith))
+pub returns-in-Some : goal.returns-in-Some
+returns-in-Some c = λ M f e.
+    let a = c.args in
+    c.send-in-Some.ensures
+    ∙ rw (c.meet_place-in-Some.ensures.0, c.send.ensures, c.meet_place.ensures.0)
+    (introduce-ends M f a.x a.k _ c.requires.0 c.requires.1 e c.in-Some.y c.in-Some.ensures.seat c.in-Some.ensures.link)
 
-pub returns-else-y-lt-SEATS : goal.returns-else-y-lt-SEATS
-returns-else-y-lt-SEATS c = λ M f e.
-    let s = c.args in
-    introduce-none M f s.x s.k s.d c.link-y.result (omega arith) (omega arith) e c.link-y.ensures c.if-y-lt-SEATS.false
+pub returns-in_default : goal.returns-in_default
+returns-in_default c = λ M f e. let a = c.args in introduce-none M f a.x a.k _ c.requires.0 c.requires.1 e c.in_default.ensures.link

@@ -1,12 +1,7 @@
 -- `clearing::freeing::unlink_lot` meets its contract: the levels below `k` are done. Assumes nothing.
-use Prim.Native.Nat.{◌≤◌, ◌+◌}
-use mathlib.Core.Path.{◌≡◌}
-use lib.ListN.{length}
-use Rattle.record.specs.Layout.{levels}
+use Prim.Native.Nat.{◌+◌}
 use Rattle.clearing.specs.inner.Steps.{Step, link_place, freed_to}
 use Rattle.clearing.proofs.freeing.unlink_lot.Given as goal
 
 abbrev pub invariant-loop-k : goal.invariant-loop-k
-invariant-loop-k l = (l.k ≤ levels)
-    × (length l.rec ≡ length l.initial.rec)
-    × Step (freed_to l.set (l.x + 1) (link_place l.x 0 0)) (freed_to l.set (l.x + 1) (link_place l.x l.k 0)) l.initial.rec l.rec
+invariant-loop-k l = Step (freed_to l.set (l.x + 1) (link_place l.x 0 0)) (freed_to l.set (l.x + 1) (link_place l.x l.k 0)) l.initial.rec l.rec
