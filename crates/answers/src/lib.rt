@@ -3,9 +3,17 @@
 #![tactic(auto)]
 
 ghost use Rattle.std.proofs.Math.Option.{none, some};
-ghost use Rattle.std.specs.Prelude.{◌≡◌, ◌≤◌, ◌++◌, length};
-ghost use Rattle.record.specs.Answer.{number_of, Numbered};
-ghost use Rattle.find.specs.Answer.{found_numbers, FoundNumbered};
+ghost use Rattle.std.specs.Prelude.{◌≡◌, ◌≤◌, ◌++◌, true, cond, length, Ok};
+ghost use Rattle.graph.specs.Vector.{width};
+ghost use Rattle.record.specs.Layout.{seats, size};
+ghost use Rattle.record.specs.Meaning.{meaning, phase_byte};
+ghost use Rattle.record.specs.Sound.{sound};
+ghost use Rattle.record.specs.Answer.{number_of};
+ghost use Rattle.record.specs.inner.Code.{as_phase};
+ghost use Rattle.reading.specs.Answer.{count_numbers};
+ghost use Rattle.check_links.specs.Check.{members_in, check_in};
+ghost use Rattle.find.specs.Answer.{found_numbers};
+ghost use Rattle.listing.specs.Text.{lists_text};
 ghost use Rattle.text.specs.inner.Written.{written};
 ghost use Rattle.program.specs.Text.{bad_text, refused_text, done_text, holder_text, hops_text, found_text};
 ghost use Rattle.program.specs.Text.{phase_text, counts_text};
@@ -16,8 +24,9 @@ ghost use Rattle.answers.specs.inner.Whole.{Whole};
 mod lists;
 
 use find::Found;
-use reading::CountsRead;
-use record::{Answer, OPEN};
+use reading::Counts;
+use record::refusals::Refusal;
+use record::states::Phase;
 use text::Writer;
 
 // The largest number of digits of a lot's number, and the space before it.
@@ -48,14 +57,13 @@ fn refused(n: u8, w: &mut Writer<'_>)
 }
 
 // `ok`, or a refusal.
-pub fn changed(answer: Answer, out: &mut [u8]) -> usize
-    requires { Numbered answer }
+pub fn changed(answer: Result<(), Refusal>, out: &mut [u8]) -> usize
     ensures { Whole out.old (done_text (number_of answer)) out.new result }
 {
     let mut w = Writer::new(out);
     match answer {
-        Answer::Done => w.bytes(b"ok\n"),
-        Answer::Refused(n) => refused(n, &mut w),
+        Ok(()) => w.bytes(b"ok\n"),
+        Err(refusal) => refused(u8::from(refusal), &mut w),
     }
     w.position()
 }
@@ -92,39 +100,56 @@ fn nobody(h: u64, w: &mut Writer<'_>)
 }
 
 // A holder, nobody, or a refusal.
-pub fn searched(answer: Found, out: &mut [u8]) -> usize
-    requires { FoundNumbered answer }
+pub fn searched(answer: Result<Found, Refusal>, out: &mut [u8]) -> usize
     ensures { Whole out.old (found_text (found_numbers answer)) out.new result }
 {
     let mut w = Writer::new(out);
     match answer {
-        Found::Refused(n) => refused(n, &mut w),
-        Found::Holder(seat, h) => holder(seat, h, &mut w),
-        Found::Nobody(h) => nobody(h, &mut w),
+        Err(refusal) => refused(u8::from(refusal), &mut w),
+        Ok(found) => match found.holder {
+            Some(seat) => holder(seat, found.hops, &mut w),
+            None => nobody(found.hops, &mut w),
+        },
     }
     w.position()
 }
 
 // The phase by its name.
 #[tactic(auto, using(crate::proofs::Words::words), unfolding(program::specs::Text::phase_text))]
-fn phase_name(phase: u8, w: &mut Writer<'_>)
-    ensures { w.new ≡ written w.old (phase_text phase) }
+fn phase_name(phase: Phase, w: &mut Writer<'_>)
+    ensures { w.new ≡ written w.old (phase_text (phase_byte (as_phase phase))) }
 {
-    w.bytes(if phase == OPEN { b"open" } else { b"clearing" });
+    w.bytes(match phase {
+        Phase::Open => b"open",
+        Phase::Clearing => b"clearing",
+    });
 }
 
 // The first line of P.
 #[tactic(auto, using(crate::proofs::Words::words), unfolding(program::specs::Text::counts_text))]
-fn counts(lots: u8, phase: u8, pending: u32, w: &mut Writer<'_>)
-    ensures { w.new ≡ written w.old (counts_text (record { refused = 0; lots = lots; phase = phase; pending = pending })) }
+fn counts(counts: Counts, w: &mut Writer<'_>)
+    ensures { w.new ≡ written w.old (counts_text (count_numbers (Ok counts))) }
 {
     w.bytes(b"lots ");
-    w.decimal(u64::from(lots));
+    w.decimal(u64::from(counts.lots));
     w.bytes(b" phase ");
-    phase_name(phase, w);
+    phase_name(counts.phase, w);
     w.bytes(b" pending ");
-    w.decimal(u64::from(pending));
+    w.decimal(u64::from(counts.pending));
     w.bytes(b"\n");
+}
+
+// The lists of a sound record, if its links are right.
+fn fit_lists(rec: &[u8], w: &mut Writer<'_>)
+    requires { (length rec.now ≡ size) × (sound rec.now ≡ true) }
+    ensures { let l = rec.now in w.new ≡ cond (check_in l).yes
+        (written w.old (lists_text seats width (members_in l) (meaning l).link)) w.old }
+{
+    if let Some(rec) = rec.as_array() {
+        if check_links::links_fit(rec) {
+            lists::lists(rec, w);
+        }
+    }
 }
 
 // The text of P: the counts, and with nothing pending the lists, or a refusal.
@@ -133,11 +158,11 @@ pub fn print(rec: &[u8], out: &mut [u8]) -> usize
 {
     let mut w = Writer::new(out);
     match reading::read_counts(rec) {
-        CountsRead::Refused(n) => refused(n, &mut w),
-        CountsRead::Counted(lots, phase, pending) => {
-            counts(lots, phase, pending, &mut w);
-            if pending == 0 && check_links::links_fit(rec) {
-                lists::lists(rec, &mut w);
+        Err(refusal) => refused(u8::from(refusal), &mut w),
+        Ok(read) => {
+            counts(read, &mut w);
+            if read.pending == 0 {
+                fit_lists(rec, &mut w);
             }
         }
     }

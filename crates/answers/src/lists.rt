@@ -2,12 +2,11 @@
 // above its own, or of the same bits and a larger first number.
 #![tactic(auto, using(crate::proofs::Parts::lots))]
 
-ghost use Rattle.std.specs.Prelude.{◌≡◌, ◌++◌, map, ◌<◌, length};
+ghost use Rattle.std.specs.Prelude.{◌≡◌, ◌++◌, map, ◌<◌};
 ghost use Rattle.std.specs.Option.{ForSome};
 ghost use Rattle.std.proofs.Math.Option.{some};
-ghost use Rattle.graph.specs.Side.{side_of_number};
 ghost use Rattle.graph.specs.Vector.{width};
-ghost use Rattle.record.specs.Layout.{seats, levels, size};
+ghost use Rattle.record.specs.Layout.{seats, levels};
 ghost use Rattle.record.specs.Meaning.{seats_in, meaning};
 ghost use Rattle.command.specs.Text.{shown, spaced};
 ghost use Rattle.check_links.specs.Check.{members_in};
@@ -15,19 +14,18 @@ ghost use Rattle.listing.specs.Lists.{begins as begins_at, right_from, shared_bi
 ghost use Rattle.listing.specs.Lists.{earlier as earlier_of, first_of, next_first};
 ghost use Rattle.listing.specs.Text.{bits_text, list_text, level_text, lists_text};
 ghost use Rattle.text.specs.inner.Written.{written};
-ghost use Rattle.answers.specs.inner.Seat.{as_link};
+ghost use Rattle.record.specs.inner.Code.{as_link};
 
-use graph::{LEFT, RIGHT};
+use graph::Side;
 use record::lots::{is_member, link};
-use record::{LEVELS, SEATS, WIDTH};
+use record::{LEVELS, Record, SEATS, WIDTH};
 use text::Writer;
 
 // A level of a record.
 #[derive(Clone, Copy)]
 struct Level<'a> {
-    rec: &'a [u8],
+    rec: &'a Record,
     k: usize,
-    ghost sized: { length rec.now ≡ size },
     ghost level: { k < levels },
 }
 
@@ -40,17 +38,6 @@ impl Level<'_> {
         usize::from(record::vector(self.rec, s)) >> (WIDTH - self.k)
     }
 
-    // The neighbour of seat s on side d, if there is one.
-    #[tactic(auto, using(crate::proofs::Parts::lots), unfolding(record::specs::Meaning::link_of))]
-    fn neighbour(&self, s: usize, d: usize) -> Option<usize>
-        requires { (s < seats) × (d < 2) }
-        ensures seat { ForSome result (λ y. y < seats) }
-        ensures link { let l = self.now.rec.now in as_link result ≡ (meaning l).link s self.now.k (side_of_number d) }
-    {
-        let seat = link(self.rec, s, self.k, d);
-        (seat < SEATS).then_some(seat)
-    }
-
     // Whether a list begins on seat s and goes on.
     #[tactic(auto, using(crate::proofs::Parts::lots), unfolding(listing::specs::Lists::begins))]
     fn begins(&self, s: usize) -> bool
@@ -58,8 +45,8 @@ impl Level<'_> {
         ensures { let l = self.now.rec.now in result ≡ begins_at width (members_in l) (meaning l).link self.now.k s }
     {
         is_member(self.rec, s)
-            && self.neighbour(s, LEFT).is_none()
-            && self.neighbour(s, RIGHT).is_some()
+            && link(self.rec, s, self.k, Side::Left).is_none()
+            && link(self.rec, s, self.k, Side::Right).is_some()
     }
 
     // Whether the list that begins on seat x comes before that on seat y.
@@ -143,7 +130,7 @@ impl Level<'_> {
             };
             w.bytes(b" ");
             w.decimal(record::number(self.rec, seat));
-            next = self.neighbour(seat, RIGHT);
+            next = link(self.rec, seat, self.k, Side::Right);
         }
     }
 
@@ -191,8 +178,7 @@ fn bits(vector: u8, k: usize, w: &mut Writer<'_>)
 
 // The lists of all levels.
 #[tactic(auto, using(crate::proofs::Parts::lots), unfolding(listing::specs::Text::lists_text))]
-pub fn lists(rec: &[u8], w: &mut Writer<'_>)
-    requires { length rec.now ≡ size }
+pub fn lists(rec: &Record, w: &mut Writer<'_>)
     ensures { let l = rec.now in w.new ≡ written w.old (lists_text seats width (members_in l) (meaning l).link) }
 {
     for k in 0..LEVELS {

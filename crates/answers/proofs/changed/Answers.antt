@@ -1,18 +1,18 @@
 -- `changed` meets its contract, case by case. Assumes nothing.
 use Rattle.std.proofs.Common.{arith, subst}
-use Rattle.record.specs.Answer.{number_of, Numbered}
+use Rattle.record.specs.Answer.{number_of}
+use Rattle.record.proofs.Determined.{refusal_number-positive}
 use Rattle.program.specs.Text.{done_text}
 use Rattle.program.proofs.Long.{ok-length}
 use Rattle.program.proofs.Texts.{done_refused}
 use Rattle.answers.proofs.Words.{words}
 use Rattle.answers.proofs.changed.Goals as goal
-use Rattle.answers.proofs.changed.Goals.{in-Done, in-Refused}
+use Rattle.answers.proofs.changed.Goals.{in-Ok, in-Err}
 
 pub returns : goal.returns
 unfolding done_text number_of
 returns c = elim c.match-answer.branch [
-  | in-Done w ↦ rw w.in-Done.is (record { put = grind (arith, words); fits = ok-length })
-  | in-Refused w ↦
-      let e = w.in-Refused.is in
-      rw (e, done_refused _ (subst Numbered e c.requires)) (record { put = grind (arith, words); fits = w.refused.ensures.fits })
+  | in-Ok w ↦ rw w.in-Ok.is (record { put = grind (arith, words); fits = ok-length })
+  | in-Err w ↦
+      rw (w.in-Err.is, done_refused _ (refusal_number-positive w.in-Err.refusal), ← w.from.ensures) (record { put = grind (arith, words); fits = w.refused.ensures.fits })
 ]

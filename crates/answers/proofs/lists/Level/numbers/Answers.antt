@@ -3,7 +3,7 @@ use Rattle.std.proofs.Common.{arith, ◌-◌, ◌<◌}
 use Rattle.record.specs.Layout.{seats}
 use Rattle.record.specs.Meaning.{seats_in, meaning}
 use Rattle.listing.proofs.Steps.{numbers-zero, numbers-none}
-use Rattle.answers.specs.inner.Seat.{as_link}
+use Rattle.record.specs.inner.Code.{as_link}
 use Rattle.answers.proofs.Parts.{lots}
 use Rattle.answers.proofs.Turns.{numbers-turn}
 use Rattle.answers.proofs.lists.Level.numbers.Goals as goal
@@ -14,7 +14,7 @@ loop-preserved c =
     let s = c.in-Some.seat in
     let h : s < seats = c.loop.invariant.seat s c.in-Some.is in
     let e = numbers-turn seats c.loop.counter (omega arith) (seats_in l).number (meaning l).link c.args.self.now.k s in
-    record { turns = omega arith; seat = c.neighbour-next.ensures.seat; left = grind (arith, lots) }
+    record { turns = omega arith; seat = (λ x e. rw e at c.link-next.ensures.seat); left = grind (arith, lots) }
 
 pub returns-after-loop : goal.returns-after-loop
 returns-after-loop c =
