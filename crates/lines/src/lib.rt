@@ -8,6 +8,7 @@ ghost use Rattle.program.specs.Pieces.{Takes, fed_byte, ended};
 mod settle;
 
 use command::Command;
+use messages::Message;
 
 // Room for the text of every answer.
 pub const ROOM: usize = answers::ROOM;
@@ -42,7 +43,16 @@ pub fn answer(rec: &mut [u8], line: &[u8], out: &mut [u8; ROOM]) -> usize
             level,
             side,
         } => {
-            let a = delivery::deliver(rec, kind, to, about, level, side);
+            let a = delivery::deliver(
+                rec,
+                Message {
+                    kind,
+                    to,
+                    about,
+                    level,
+                    side,
+                },
+            );
             answers::changed(a, out)
         }
         Command::Turn => {

@@ -1,11 +1,11 @@
 // Line A: bundles of deliveries, until none is pending.
-ghost use Rattle.std.specs.Prelude.{◌≡◌, List, eqb};
+ghost use Rattle.std.specs.Prelude.{◌≡◌, eqb};
 ghost use Rattle.record.specs.Bundle.{bundled};
-ghost use Rattle.record.specs.Answer.{number_of, Numbered};
+ghost use Rattle.record.specs.Answer.{number_of};
 ghost use Rattle.program.specs.Line.{settled};
 
-use bundle::{Bundled, bundle};
-use record::Answer;
+use bundle::bundle;
+use record::refusals::Refusal;
 
 // The largest limit of a bundle.
 const LIMIT: u16 = u16::MAX;
@@ -15,8 +15,8 @@ fn deliver_bundle(rec: &mut [u8]) -> bool
     ensures { let o = bundled rec.old 65535 in (result ≡ eqb o.delivered 65535) × (rec.new ≡ o.after) }
 {
     match bundle(rec, LIMIT) {
-        Bundled::Delivered(n) => n == LIMIT,
-        Bundled::Refused(_) => false,
+        Ok(n) => n == LIMIT,
+        Err(_) => false,
     }
 }
 
@@ -28,16 +28,12 @@ fn deliver_rest(rec: &mut [u8])
 }
 
 // Delivers all messages. Refused: 1, 2.
-pub fn settle(rec: &mut [u8]) -> Answer
-    ensures { (number_of result ≡ (settled rec.old).refused) × (rec.new ≡ (settled rec.old).after) × Numbered result }
+pub fn settle(rec: &mut [u8]) -> Result<(), Refusal>
+    ensures { (number_of result ≡ (settled rec.old).refused) × (rec.new ≡ (settled rec.old).after) }
 {
-    match bundle(rec, LIMIT) {
-        Bundled::Refused(n) => Answer::Refused(n),
-        Bundled::Delivered(n) => {
-            if n == LIMIT {
-                deliver_rest(rec);
-            }
-            Answer::Done
-        }
+    let n = bundle(rec, LIMIT)?;
+    if n == LIMIT {
+        deliver_rest(rec);
     }
+    Ok(())
 }

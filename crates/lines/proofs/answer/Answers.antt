@@ -9,24 +9,6 @@ use Rattle.lines.proofs.Arms.{gives, call-gives}
 use borrow.Author.Rules.{rules}
 use Rattle.lines.proofs.answer.Goals as goal
 
-pub changed-requires : goal.changed-requires
-changed-requires c = c.join-a.ensures.1
-
-pub changed-requires-in-Leave : goal.changed-requires-in-Leave
-changed-requires-in-Leave c = c.leave-a.ensures.1
-
-pub changed-requires-in-Deliver : goal.changed-requires-in-Deliver
-changed-requires-in-Deliver c = c.deliver-a.ensures.1
-
-pub changed-requires-in-Turn : goal.changed-requires-in-Turn
-changed-requires-in-Turn c = c.turn-a.ensures.1
-
-pub changed-requires-in-Settle : goal.changed-requires-in-Settle
-changed-requires-in-Settle c = c.settle-a.ensures.2
-
-pub searched-requires : goal.searched-requires
-searched-requires c = c.find-a.ensures.1
-
 pub returns-in_default : goal.returns-in_default
 unfolding answer_to
 returns-in_default c = let s = c.args in
@@ -38,28 +20,28 @@ unfolding answer_to
 returns-in-Join c = let s = c.args in
     let e = ap (λ d. some (command_as d)) (sym c.in-Join.is) ∙ c.in-Some.ensures in
     let z : length s.out.now ≡ room = search rules in
-    call-gives s.rec.now s.line.now e z _ refl c.join-a.ensures.0 c.changed.ensures
+    call-gives s.rec.now s.line.now e z _ refl c.join-a.ensures c.changed.ensures
 
 pub returns-in-Leave : goal.returns-in-Leave
 unfolding answer_to
 returns-in-Leave c = let s = c.args in
     let e = ap (λ d. some (command_as d)) (sym c.in-Leave.is) ∙ c.in-Some.ensures in
     let z : length s.out.now ≡ room = search rules in
-    call-gives s.rec.now s.line.now e z _ refl c.leave-a.ensures.0 c.changed-in-Leave.ensures
+    call-gives s.rec.now s.line.now e z _ refl c.leave-a.ensures c.changed-in-Leave.ensures
 
 pub returns-in-Deliver : goal.returns-in-Deliver
 unfolding answer_to
 returns-in-Deliver c = let s = c.args in
     let e = ap (λ d. some (command_as d)) (sym c.in-Deliver.is) ∙ c.in-Some.ensures in
     let z : length s.out.now ≡ room = search rules in
-    call-gives s.rec.now s.line.now e z _ refl c.deliver-a.ensures.0 c.changed-in-Deliver.ensures
+    call-gives s.rec.now s.line.now e z _ refl c.deliver-a.ensures c.changed-in-Deliver.ensures
 
 pub returns-in-Turn : goal.returns-in-Turn
 unfolding answer_to
 returns-in-Turn c = let s = c.args in
     let e = ap (λ d. some (command_as d)) (sym c.in-Turn.is) ∙ c.in-Some.ensures in
     let z : length s.out.now ≡ room = search rules in
-    call-gives s.rec.now s.line.now e z _ refl c.turn-a.ensures.0 c.changed-in-Turn.ensures
+    call-gives s.rec.now s.line.now e z _ refl c.turn-a.ensures c.changed-in-Turn.ensures
 
 pub returns-in-Settle : goal.returns-in-Settle
 unfolding answer_to
@@ -74,7 +56,7 @@ unfolding answer_to
 returns-in-Find c = let s = c.args in
     let e = ap (λ d. some (command_as d)) (sym c.in-Find.is) ∙ c.in-Some.ensures in
     let z : length s.out.now ≡ room = search rules in
-    gives s.rec.now s.line.now e z (rw (← c.find-a.ensures.0)) c.searched.ensures
+    gives s.rec.now s.line.now e z (rw (← c.find-a.ensures)) c.searched.ensures
 
 pub returns-in-Print : goal.returns-in-Print
 unfolding answer_to
