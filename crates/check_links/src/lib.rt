@@ -38,7 +38,7 @@ fn back_fits(rec: &Record, x: usize, k: usize, d: Side) -> bool
     ensures { let l = rec.now in result ≡ back_of (members_in l) (meaning l).link x k (as_side d) ((meaning l).link x k (as_side d)) }
 {
     match link(rec, x, k, d) {
-        // by the byte: an option compared makes a fifth more instructions of the whole check
+        // by the byte: with options compared the check takes a third more instructions
         Some(y) => seated_is_member(rec, y) && record::link(rec, y, k, d.opposite()) as usize == x,
         None => true,
     }
@@ -97,7 +97,7 @@ fn above_fits(rec: &Record, x: usize, k: usize) -> bool
     requires { (sound rec.now ≡ true) × (x < seats) × (k < width) }
     ensures { let l = rec.now in result ≡ above_ok seats width (members_in l) (meaning l).link x k }
 {
-    // by the bytes: options compared make a fifth more instructions of the whole check
+    // by the bytes: with options compared the check takes a sixth more instructions
     let y = record::link(rec, x, k + 1, Side::Right) as usize;
     if record::link(rec, x, k, Side::Right) as usize == y {
         return true;

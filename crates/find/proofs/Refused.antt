@@ -19,7 +19,7 @@ use Rattle.protocol.proofs.Calls.{no_row}
 use Rattle.record.specs.Layout.{seats, size}
 use Rattle.record.specs.Meaning.{seats_in, meaning}
 use Rattle.record.specs.Reading.{size_row, sound_row, seat_row, empty_row, record_refusal}
-use Rattle.record.specs.Answer.{refusal_number, number_of}
+use Rattle.record.specs.Answer.{number_of}
 use Rattle.record.specs.declared.refusals.Refusal.{Refusal}
 use Rattle.record.proofs.Answered.{refusal-on}
 use Rattle.record.proofs.Determined.{refusal_number-positive}

@@ -12,8 +12,9 @@ seated_is_member-requires c =
 
 pub returns-then-seated_is_member : goal.returns-then-seated_is_member
 returns-then-seated_is_member c =
+    let z = c.link-then-seated_is_member in
     and-go c.seated_is_member.ensures c.if-seated_is_member.true
-    (back_same _ _ _ _ c.in-Some.y c.link-then-seated_is_member.result c.requires.1 c.in-Some.ensures.seat c.requires.2 c.opposite.ensures c.link-then-seated_is_member.ensures)
+    (back_same _ _ _ _ c.in-Some.y z.result c.requires.1 c.in-Some.ensures.seat c.requires.2 c.opposite.ensures z.ensures)
     ∙ sym (back_some _ _ _ _ c.in-Some.y c.in-Some.ensures.link)
 
 pub returns-else-seated_is_member : goal.returns-else-seated_is_member

@@ -1,5 +1,4 @@
 -- `check_links::check` meets its contract. Assumes nothing.
-use mathlib.Core.Path.{sym}
 use Rattle.check_links.proofs.Whole.{refused-answer, answered-sound, answer}
 use Rattle.check_links.proofs.check.Goals as goal
 

@@ -1,7 +1,7 @@
 -- `find::find_refusal` meets its contract: each return is the first row that applies. Assumes nothing.
 use mathlib.Core.Path.{sym, ◌∙◌}
 use Rattle.record.specs.Answer.{number_of}
-use Rattle.record.proofs.Refused.{Passed, record-passed}
+use Rattle.record.proofs.Refused.{Passed}
 use Rattle.find.proofs.Refused.{stops, no-seat, no-lot, waits, answers, looked}
 use Rattle.find.proofs.find_refusal.Goals as goal
 use Rattle.find.proofs.find_refusal.Goals.{In_ok-first}

@@ -15,7 +15,8 @@ returns-then-is_none c =
 pub returns-else-is_none : goal.returns-else-is_none
 unfolding settled
 returns-else-is_none c =
-    and-go (ap not c.is_clearing.ensures) (ap not c.if-not-is_clearing.true) (and-stop _ (none-pending _ c.args.first c.requires.1 c.is_none.ensures) c.if-is_none.false)
+    let q = none-pending _ c.args.first c.requires.1 c.is_none.ensures in
+    and-go (ap not c.is_clearing.ensures) (ap not c.if-not-is_clearing.true) (and-stop _ q c.if-is_none.false)
 
 pub returns-else-not-is_clearing : goal.returns-else-not-is_clearing
 unfolding settled

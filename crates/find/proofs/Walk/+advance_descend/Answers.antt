@@ -3,11 +3,8 @@ use mathlib.Core.Path.{sym, ◌∙◌}
 use native.Mathlib.Omega.{arith}
 use Rattle.find.proofs.Read.{number_read}
 use Rattle.find.proofs.Steps.{lot-seat, stop-walked, move-ready, move-less, move-fits, move-walked}
-use Rattle.find.proofs.Steps.{end-walked, drop-ready, drop-walked}
+use Rattle.find.proofs.Steps.{end-walked, drop-walked}
 use Rattle.find.proofs.Walk.+advance_descend.Goals as goal
-
-pub advance-number-requires : goal.advance-number-requires
-advance-number-requires t c = lot-seat c.args.rec.now c.args.x c.args.self c.requires
 
 pub advance-returns-then-number-x : goal.advance-returns-then-number-x
 advance-returns-then-number-x t c =
@@ -38,26 +35,12 @@ advance-advance-requires t c =
     let d = move-less l x w h c.in-Some.y c.in-Some.ensures in
     (omega arith, move-ready l x w h c.in-Some.y c.in-Some.ensures _ (omega arith))
 
-pub advance-descend-requires : goal.advance-descend-requires
-advance-descend-requires t c = (omega arith, (c.requires, c.in-None.ensures))
-
 pub advance-returns-in-Some : goal.advance-returns-in-Some
 advance-returns-in-Some t c =
     move-walked c.args.rec.now c.args.x c.args.self c.requires c.in-Some.y c.in-Some.ensures c.advance.result c.advance.ensures
 
-pub advance-returns-in-None : goal.advance-returns-in-None
-advance-returns-in-None t c = c.descend.ensures
-
 pub descend-returns-then-self-eq0 : goal.descend-returns-then-self-eq0
 descend-returns-then-self-eq0 t c = let h = c.requires in end-walked c.args.rec.now c.args.x c.args.self h.0 h.1 c.if-self-eq0.true
-
-pub descend-overflow_sub-w : goal.descend-overflow_sub-w
-descend-overflow_sub-w t c = omega arith
-
-pub descend-advance-requires : goal.descend-advance-requires
-descend-advance-requires t c =
-    let h = c.requires in
-    (omega (arith, c.if-self-eq0.false), drop-ready c.args.rec.now c.args.x c.args.self h.0 h.1 c.if-self-eq0.false)
 
 pub descend-returns : goal.descend-returns
 descend-returns t c =

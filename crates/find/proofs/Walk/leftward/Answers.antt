@@ -2,7 +2,7 @@
 -- left of it. Assumes nothing.
 use mathlib.Core.Path.{sym, ◌∙◌}
 use native.Mathlib.Omega.{arith}
-use Rattle.find.proofs.Leftward.{left-seat, sets-out, ends-here, hop-fits, hop-less, ends_there, goes-past}
+use Rattle.find.proofs.Leftward.{ends-here, hop-fits, hop-less, ends_there, goes-past}
 use Rattle.find.proofs.Walk.leftward.Goals as goal
 
 pub overflow_add-self : goal.overflow_add-self

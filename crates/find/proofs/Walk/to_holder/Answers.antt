@@ -1,10 +1,7 @@
 -- `Walk::to_holder` meets its contract. Assumes nothing.
 use mathlib.Core.Path.{sym, ◌∙◌}
-use Rattle.find.proofs.Leftward.{left-seat, stays-there, goes_on}
+use Rattle.find.proofs.Leftward.{stays-there, goes_on}
 use Rattle.find.proofs.Walk.to_holder.Goals as goal
-
-pub is_printable-requires : goal.is_printable-requires
-is_printable-requires c = left-seat c.requires
 
 pub returns-then-is_printable : goal.returns-then-is_printable
 returns-then-is_printable c =
