@@ -59,10 +59,6 @@ unfolding all
 all_append m zero p = rw (add-zero, and-true)
 all_append m (suc n) p = rw (add-suc, all_append m n p) (and_assoc (all m p) (all n (λ j. p (m + j))) (p (m + n)))
 
--- the same of ranges from a on
-pub all-range : (a m n : ℕ) (p : ℕ → Bool) → all (m + n) (λ j. p (a + j)) ≡ all m (λ j. p (a + j)) && all n (λ j. p (a + m + j))
-all-range a m n p = all_append m n (λ j. p (a + j)) ∙ simp add_assoc
-
 -- m ranges of n each
 pub all-product : (m n : ℕ) (p : ℕ → Bool) → all (m * n) p ≡ all m (λ i. all n (λ j. p (i * n + j)))
 unfolding all

@@ -102,18 +102,10 @@ first-skip e i k p a b h =
       found = λ l. f.found (omega arith);
     })
 
--- i fails
-pub first_more : (e i : ℕ) (p : ℕ → Bool) → i < e → p i ≡ false → first_from (e - i) i p ≡ first_from (e - (i + 1)) (i + 1) p
-first_more e i p l f = first-skip e i (i + 1) p (omega arith) (omega arith) (λ j a b. let q : j ≡ i = omega arith in rw q f)
-
 -- k passes, and none before it
 pub first_found : (e i k : ℕ) (p : ℕ → Bool) → i ≤ k → k < e → ((j : ℕ) → i ≤ j → j < k → p j ≡ false) → p k ≡ true
     → first_from (e - i) i p ≡ k
 first_found e i k p a b h t = first-is (e - i) i p k (record { low = a; high = omega arith; before = h; found = λ l. t })
-
--- i passes
-pub first-here : (e i : ℕ) (p : ℕ → Bool) → i < e → p i ≡ true → first_from (e - i) i p ≡ i
-first-here e i p l t = first_found e i i p (omega arith) l (λ j a b. absurd (omega arith)) t
 
 -- one passes: it is found
 pub first_any : (n : ℕ) (p : ℕ → Bool) → any n p ≡ true → first_from n 0 p < n

@@ -1,5 +1,4 @@
 -- The check on the bytes: what its parts read, that on sound bytes the test of the links is the check of specs/, and what the answer says.
-pub mod Ranges
 pub mod Parts
 pub mod Runs
 pub mod Whole

@@ -1,12 +1,11 @@
 -- Links of the meaning, from their bytes and the numbers of sides. Assumes nothing.
-use Prim.Native.Nat.{ℕ, zero, suc, ◌-◌, ◌≤◌, ◌<◌}
-use mathlib.Core.Path.{◌≡◌, refl, sym, ap, ◌∙◌}
+use Prim.Native.Nat.{ℕ, ◌≤◌, ◌<◌}
+use mathlib.Core.Path.{◌≡◌, sym, ap, ◌∙◌}
 use mathlib.Core.Option.{none, some}
 use mathlib.Core.List.{List}
-use native.Mathlib.Omega.{arith}
 use lib.ListN.{get_or}
 use borrow.Author.Tests.{lt-ltb, le-ltb}
-use Rattle.graph.specs.Side.{Side, opp, side_of_number}
+use Rattle.graph.specs.Side.{Side}
 use Rattle.record.specs.Layout.{seats, levels, link_at}
 use Rattle.record.specs.Meaning.{link_of, meaning}
 use Rattle.record.proofs.Form.{meaning-link}
@@ -19,12 +18,6 @@ link_of-some y q = rw (lt-ltb y seats q)
 pub link_of-none : (y : ℕ) → seats ≤ y → link_of y ≡ none
 unfolding link_of
 link_of-none y q = rw (le-ltb y seats q)
-
--- the other side, by number
-pub side-opp : (d : ℕ) → d < 2 → side_of_number (1 - d) ≡ opp (side_of_number d)
-side-opp zero h = refl
-side-opp (suc zero) h = refl
-side-opp (suc (suc d)) h = absurd (omega arith)
 
 -- y is the byte of a link
 pub link-read : (l : List ℕ) (s k : ℕ) (d : Side) (y : ℕ) → s < seats → k < levels → y ≡ get_or l (link_at s k d) 0

@@ -1,6 +1,6 @@
 -- The size of a record, places of messages among the pending bits, sides by their numbers, and the list of a meaning's bytes. Assumes nothing.
-use Prim.Native.Nat.{ℕ, zero, suc, ◌+◌, ◌*◌, ◌≤◌, ◌<◌}
-use mathlib.Core.Path.{◌≡◌, refl, sym, ap}
+use Prim.Native.Nat.{ℕ, zero, suc, ◌*◌, ◌≤◌, ◌<◌}
+use mathlib.Core.Path.{◌≡◌, refl}
 use native.Mathlib.Omega.{arith}
 use lib.Dec.{T}
 use lib.ListN.{length, get_or}
@@ -11,7 +11,7 @@ use Rattle.protocol.specs.Message.{Msg}
 use Rattle.protocol.specs.Numbering.{exists, place, message_at}
 use Rattle.protocol.specs.State.{Meaning}
 use Rattle.protocol.proofs.Numbering.{place-lt, exists-message_at, place-message_at}
-use Rattle.record.specs.Layout.{seats, byte_bits, messages, links_offset, link_offset, pending_size, size, links_from, link_at}
+use Rattle.record.specs.Layout.{seats, byte_bits, messages, pending_size, size}
 use Rattle.record.specs.Meaning.{byte_of, bytes_of}
 
 -- places of messages that exist, and messages at places
@@ -41,13 +41,6 @@ pub side_number-side : (n : ℕ) → n < 2 → side_number (side_of_number n) �
 side_number-side zero h = refl
 side_number-side (suc zero) h = refl
 side_number-side (suc (suc n)) h = absurd (omega arith)
-
--- where a link stands in its entry and in the record, by the number of its side
-pub link_offset-number : (k d : ℕ) → d < 2 → links_offset + 2 * k + d ≡ link_offset k (side_of_number d)
-link_offset-number k d h = ap (λ (n : ℕ). links_offset + 2 * k + n) (sym (side_number-side d h))
-
-pub link_at-number : (s k d : ℕ) → d < 2 → links_from s + 2 * k + d ≡ link_at s k (side_of_number d)
-link_at-number s k d h = let e = link_offset-number k d h in omega arith
 
 -- the bytes of a meaning as a list
 module _ (M : Meaning) where

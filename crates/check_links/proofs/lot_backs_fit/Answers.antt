@@ -2,7 +2,7 @@
 use borrow.Author.Rules.{rules}
 use borrow.Author.Tests.{tests}
 use Rattle.search.specs.inner.LinkCheck.{lot_backs}
-use Rattle.check_links.proofs.Ranges.{all-over}
+use Rattle.base.proofs.Ranges.{all-over}
 use Rattle.check_links.proofs.Parts.{when-out, when-in}
 use Rattle.check_links.proofs.lot_backs_fit.Goals as goal
 
