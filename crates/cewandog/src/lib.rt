@@ -1,6 +1,7 @@
 // What other languages call, by the static library over this crate (crates/cewandog_c): one function for each public call, over lent bytes and
 // numbers. Each gives the refusal number, 0 if the call is accepted, and writes every value of the answer, 0 where the call is refused. The
 // contracts cite the definitions that the public calls' own contracts cite.
+// By numbers, where the public calls answer by results, structs and options: the C interface has numbers alone.
 #![tactic(auto)]
 
 ghost use Rattle.std.specs.Prelude.{◌≡◌};
@@ -17,19 +18,18 @@ ghost use Rattle.cewandog.specs.Numbers.{find_numbers, check_numbers};
 
 pub mod next;
 
-use bundle::Bundled;
-use check_links::Verdict;
-use find::Found;
-use reading::{CountsRead, LinkRead, LotRead, MessageRead};
-use record::{Answer, NONE};
+use messages::Message;
+use record::NONE;
+use record::refusals::Refusal;
 
-// The number of an answer: 0 done, else the refusal.
-fn number_of(answer: Answer) -> u8
+// The number of an answer: 0 done, else the refusal's.
+#[tactic(auto, unfolding(record::specs::Answer::number_of))]
+fn number_of<T: Drop>(answer: Result<T, Refusal>) -> u8
     ensures { result ≡ number_of answer }
 {
     match answer {
-        Answer::Done => 0,
-        Answer::Refused(n) => n,
+        Ok(_) => 0,
+        Err(refusal) => u8::from(refusal),
     }
 }
 
@@ -79,7 +79,14 @@ pub fn lots_leave(rec: &mut [u8], seat: u8) -> u8
 pub fn lots_deliver(rec: &mut [u8], kind: u8, to: u8, about: u8, level: u8, side: u8) -> u8
     ensures { record { refused = result; after = rec.new } ≡ called rec.old (delivering (name kind to about level side)) }
 {
-    number_of(delivery::deliver(rec, kind, to, about, level, side))
+    let message = Message {
+        kind,
+        to,
+        about,
+        level,
+        side,
+    };
+    number_of(delivery::deliver(rec, message))
 }
 
 // Delivers the smallest pending message by its five numbers, again and again, until none is pending or the limit is reached, and says how many it
@@ -87,16 +94,12 @@ pub fn lots_deliver(rec: &mut [u8], kind: u8, to: u8, about: u8, level: u8, side
 pub fn lots_bundle(rec: &mut [u8], limit: u16, delivered: &mut u16) -> u8
     ensures { record { refused = result; delivered = delivered.new; after = rec.new } ≡ bundled rec.old limit }
 {
-    match bundle::bundle(rec, limit) {
-        Bundled::Delivered(n) => {
-            *delivered = n;
-            0
-        }
-        Bundled::Refused(n) => {
-            *delivered = 0;
-            n
-        }
-    }
+    let refused;
+    (refused, *delivered) = match bundle::bundle(rec, limit) {
+        Ok(n) => (0, n),
+        Err(refusal) => (u8::from(refusal), 0),
+    };
+    refused
 }
 
 // Goes on from open with leavers to clearing, and from clearing to open. Refused: 1, 2, 11.
@@ -122,47 +125,30 @@ pub fn lots_merge(rec: &mut [u8], first: u8, second: u8) -> u8
 
 // The staying lot that a scanned number belongs to, searched from the lot on a seat among those of its component: its seat, or 255 for none, and the
 // hops. Refused: 1, 2, 3, 8, 13.
+#[tactic(auto, using(crate::proofs::Numbers::refused_numbers), unfolding(crate::specs::Numbers::find_numbers))]
 pub fn lots_find(rec: &[u8], seat: u8, number: u64, holder: &mut u8, hops: &mut u64) -> u8
     ensures { record { refused = result; holder = holder.new; hops = hops.new }
         ≡ find_numbers (find_in rec.now seat number) }
 {
-    match find::find(rec, seat, number) {
-        Found::Refused(n) => {
-            *holder = 0;
-            *hops = 0;
-            n
-        }
-        Found::Holder(s, h) => {
-            *holder = s;
-            *hops = h;
-            0
-        }
-        Found::Nobody(h) => {
-            *holder = NONE;
-            *hops = h;
-            0
-        }
-    }
+    let refused;
+    (refused, *holder, *hops) = match find::find(rec, seat, number) {
+        Ok(found) => (0, found.holder.unwrap_or(NONE), found.hops),
+        Err(refusal) => (u8::from(refusal), 0, 0),
+    };
+    refused
 }
 
 // Whether every component of the links is the skip graph of its own lots: 1 yes, 0 no. Refused: 1, 2.
+#[tactic(auto, unfolding(crate::specs::Numbers::check_numbers))]
 pub fn lots_check(rec: &[u8], yes: &mut u8) -> u8
     ensures { record { refused = result; yes = yes.new } ≡ check_numbers (check_in rec.now) }
 {
-    match check_links::check(rec) {
-        Verdict::Refused(n) => {
-            *yes = 0;
-            n
-        }
-        Verdict::Yes => {
-            *yes = 1;
-            0
-        }
-        Verdict::No => {
-            *yes = 0;
-            0
-        }
-    }
+    let refused;
+    (refused, *yes) = match check_links::check(rec) {
+        Ok(y) => (0, y as u8),
+        Err(refusal) => (u8::from(refusal), 0),
+    };
+    refused
 }
 
 // State, number and vector of a seat with a lot or a reservation. Refused: 1, 2, 3, 8.
@@ -170,36 +156,24 @@ pub fn lots_read_lot(rec: &[u8], seat: u8, state: &mut u8, number: &mut u64, vec
     ensures { record { refused = result; state = state.new; number = number.new; vector = vector.new }
         ≡ read_lot rec.now seat }
 {
-    match reading::read_lot(rec, seat) {
-        LotRead::Refused(n) => {
-            *state = 0;
-            *number = 0;
-            *vector = 0;
-            n
-        }
-        LotRead::Taken(s, n, v) => {
-            *state = s;
-            *number = n;
-            *vector = v;
-            0
-        }
-    }
+    let refused;
+    (refused, *state, *number, *vector) = match reading::read_lot(rec, seat) {
+        Ok(lot) => (0, u8::from(lot.state), lot.number, lot.vector),
+        Err(refusal) => (u8::from(refusal), 0, 0, 0),
+    };
+    refused
 }
 
 // The link of a lot at a level, on side 0 left or 1 right: a seat, or 255 for none. Refused: 1, 2, 3, 12, 8.
 pub fn lots_read_link(rec: &[u8], seat: u8, level: u8, side: u8, link: &mut u8) -> u8
     ensures { record { refused = result; seat = link.new } ≡ read_link rec.now seat level side }
 {
-    match reading::read_link(rec, seat, level, side) {
-        LinkRead::Refused(n) => {
-            *link = 0;
-            n
-        }
-        LinkRead::Link(s) => {
-            *link = s;
-            0
-        }
-    }
+    let refused;
+    (refused, *link) = match reading::read_link(rec, seat, level, side) {
+        Ok(named) => (0, named.unwrap_or(NONE)),
+        Err(refusal) => (u8::from(refusal), 0),
+    };
+    refused
 }
 
 // Whether five numbers are a pending message: 1 or 0. Refused: 1, 2.
@@ -214,16 +188,19 @@ pub fn lots_read_message(
 ) -> u8
     ensures { record { refused = result; pending = pending.new } ≡ read_message rec.now (name kind to about level side) }
 {
-    match reading::read_message(rec, kind, to, about, level, side) {
-        MessageRead::Refused(n) => {
-            *pending = 0;
-            n
-        }
-        MessageRead::Pending(p) => {
-            *pending = p as u8;
-            0
-        }
-    }
+    let message = Message {
+        kind,
+        to,
+        about,
+        level,
+        side,
+    };
+    let refused;
+    (refused, *pending) = match reading::read_message(rec, message) {
+        Ok(p) => (0, p as u8),
+        Err(refusal) => (u8::from(refusal), 0),
+    };
+    refused
 }
 
 // Seated lots, phase and pending messages. Refused: 1, 2.
@@ -231,25 +208,17 @@ pub fn lots_read_counts(rec: &[u8], lots: &mut u8, phase: &mut u8, pending: &mut
     ensures { record { refused = result; lots = lots.new; phase = phase.new; pending = pending.new }
         ≡ read_counts rec.now }
 {
-    match reading::read_counts(rec) {
-        CountsRead::Refused(n) => {
-            *lots = 0;
-            *phase = 0;
-            *pending = 0;
-            n
-        }
-        CountsRead::Counted(l, p, m) => {
-            *lots = l;
-            *phase = p;
-            *pending = m;
-            0
-        }
-    }
+    let refused;
+    (refused, *lots, *phase, *pending) = match reading::read_counts(rec) {
+        Ok(counts) => (0, counts.lots, u8::from(counts.phase), counts.pending),
+        Err(refusal) => (u8::from(refusal), 0, 0, 0),
+    };
+    refused
 }
 
 // 1 wrong size, 2 unsound, or 0: the test in front of every call but open.
 pub fn lots_validate(rec: &[u8]) -> u8
     ensures { result ≡ record_refusal rec.now }
 {
-    soundness::record_refusal(rec)
+    number_of(soundness::sound_record(rec))
 }

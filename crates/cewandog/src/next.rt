@@ -3,7 +3,16 @@ ghost use Rattle.std.specs.Prelude.{◌≡◌};
 ghost use Rattle.protocol.specs.Message.{name};
 ghost use Rattle.record.specs.Reading.{read_next};
 
-use reading::next::NextRead;
+use messages::Message;
+
+// The five numbers where there is no message.
+const NOTHING: Message = Message {
+    kind: 0,
+    to: 0,
+    about: 0,
+    level: 0,
+    side: 0,
+};
 
 // The smallest pending message, by its five numbers in order, that is not smaller than five given numbers; kind 0 if there is none. Refused: 1, 2.
 pub fn lots_next_message(
@@ -28,30 +37,21 @@ pub fn lots_next_message(
       side = next_side.new;
     } ≡ read_next rec.now (name kind to about level side) }
 {
-    match reading::next::read_next(rec, kind, to, about, level, side) {
-        NextRead::Refused(n) => {
-            *next_kind = 0;
-            *next_to = 0;
-            *next_about = 0;
-            *next_level = 0;
-            *next_side = 0;
-            n
-        }
-        NextRead::Next(k, t, a, l, s) => {
-            *next_kind = k;
-            *next_to = t;
-            *next_about = a;
-            *next_level = l;
-            *next_side = s;
-            0
-        }
-        NextRead::Nothing => {
-            *next_kind = 0;
-            *next_to = 0;
-            *next_about = 0;
-            *next_level = 0;
-            *next_side = 0;
-            0
-        }
-    }
+    let from = Message {
+        kind,
+        to,
+        about,
+        level,
+        side,
+    };
+    let (refused, m) = match reading::next::read_next(rec, from) {
+        Ok(next) => (0, next.unwrap_or(NOTHING)),
+        Err(refusal) => (u8::from(refusal), NOTHING),
+    };
+    *next_kind = m.kind;
+    *next_to = m.to;
+    *next_about = m.about;
+    *next_level = m.level;
+    *next_side = m.side;
+    refused
 }
