@@ -3,11 +3,12 @@
 // record that it has.
 #![tactic(auto)]
 
-ghost use Rattle.std.specs.Prelude.{◌≡◌, ◌&&◌, ◌*◌, ◌/◌, ◌%◌, ◌≤◌, ◌<◌, eqb, ltb};
+ghost use Rattle.std.specs.Prelude.{◌≡◌, ◌&&◌, ◌+◌, ◌*◌, ◌/◌, ◌%◌, ◌≤◌, ◌<◌, eqb, ltb};
 ghost use Rattle.graph.specs.Vector.{width};
 ghost use Rattle.protocol.specs.Message.{name, named, meet, probe, pull, going, seek, found, none_found};
 ghost use Rattle.protocol.specs.Numbering.{place, pulls, sides};
 ghost use Rattle.record.specs.Layout.{seats, levels, messages};
+ghost use Rattle.graph.specs.Side.{side_number};
 ghost use Rattle.graph.specs.inner.Code.{as_side};
 ghost use Rattle.messages.specs.inner.Places.{place_of, IsPlace};
 ghost use Rattle.messages.specs.inner.Numbers.{numbers, Stands, first_pending};
@@ -45,18 +46,34 @@ pub struct Message {
     pub side: u8,
 }
 
+// A place in a block whose messages name two lots and a level.
+fn pair_place(block: usize, levels: usize, to: usize, about: usize, level: usize) -> usize
+    requires { (block ≤ messages) × (levels ≤ seats) × (to < seats) × (about < seats) × (level < levels) }
+    ensures { result ≡ block + ((to * seats + about) * levels + level) }
+{
+    block + ((to * SEATS + about) * levels + level)
+}
+
+// A place in a block whose messages name a lot, a level and a side.
+fn side_place(block: usize, to: usize, level: usize, side: Side) -> usize
+    requires { (block ≤ messages) × (to < seats) × (level < levels) }
+    ensures { result ≡ block + ((to * levels + level) * 2 + side_number (as_side side)) }
+{
+    block + ((to * LEVELS + level) * 2 + usize::from(side))
+}
+
 pub fn meet_place(to: usize, about: usize, level: usize) -> usize
     requires { (to < seats) × (about < seats) × (level < levels) }
     ensures { (result ≡ place seats width (meet to about level)) × (result < messages) }
 {
-    (to * SEATS + about) * LEVELS + level
+    pair_place(0, LEVELS, to, about, level)
 }
 
 pub fn probe_place(to: usize, about: usize, level: usize) -> usize
     requires { (to < seats) × (about < seats) × (level < width) }
     ensures { (result ≡ place seats width (probe to about level)) × (result < messages) }
 {
-    PROBES + ((to * SEATS + about) * WIDTH + level)
+    pair_place(PROBES, WIDTH, to, about, level)
 }
 
 pub fn pull_place(to: usize, want: usize, level: usize, side: Side) -> usize
@@ -70,28 +87,28 @@ pub fn going_place(to: usize, level: usize, side: Side) -> usize
     requires { (to < seats) × (level < levels) }
     ensures { (result ≡ place seats width (going to level (as_side side))) × (result < messages) }
 {
-    GOINGS + ((to * LEVELS + level) * 2 + usize::from(side))
+    side_place(GOINGS, to, level, side)
 }
 
 pub fn seek_place(to: usize, about: usize, level: usize) -> usize
     requires { (to < seats) × (about < seats) × (level < levels) }
     ensures { (result ≡ place seats width (seek to about level)) × (result < messages) }
 {
-    SEEKS + ((to * SEATS + about) * LEVELS + level)
+    pair_place(SEEKS, LEVELS, to, about, level)
 }
 
 pub fn found_place(to: usize, about: usize, level: usize) -> usize
     requires { (to < seats) × (about < seats) × (level < levels) }
     ensures { (result ≡ place seats width (found to about level)) × (result < messages) }
 {
-    FOUNDS + ((to * SEATS + about) * LEVELS + level)
+    pair_place(FOUNDS, LEVELS, to, about, level)
 }
 
 pub fn none_place(to: usize, level: usize, side: Side) -> usize
     requires { (to < seats) × (level < levels) }
     ensures { (result ≡ place seats width (none_found to level (as_side side))) × (result < messages) }
 {
-    NONES + ((to * LEVELS + level) * 2 + usize::from(side))
+    side_place(NONES, to, level, side)
 }
 
 // Whether the numbers fit a kind that names two lots and a level below the bound.

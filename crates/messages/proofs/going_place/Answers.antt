@@ -9,4 +9,4 @@ pub returns : goal.returns
 unfolding place
 returns c =
     let h = side_number-lt (as_side c.args.side) in
-    (omega (arith, c.from.ensures), omega (arith, c.from.ensures, h))
+    (omega (arith, c.side_place.ensures), omega (arith, c.side_place.ensures, h))

@@ -5,4 +5,4 @@ use Rattle.messages.proofs.seek_place.Goals as goal
 
 pub returns : goal.returns
 unfolding place
-returns c = (omega arith, omega arith)
+returns c = (omega (arith, c.pair_place.ensures), omega (arith, c.pair_place.ensures))
