@@ -45,7 +45,7 @@ impl Session {
     // A record just opened.
     fn new() -> Session {
         let mut rec = [0u8; record::SIZE];
-        reading::open(&mut rec);
+        let _ = reading::open(&mut rec);
         Session {
             rec,
             line: [0; LINE],
