@@ -17,6 +17,7 @@ mod links;
 mod pending;
 
 use entries::Buckets;
+use links::Lots;
 use messages::first_pending;
 use record::refusals::Refusal;
 use record::{MESSAGES, Record};
@@ -25,9 +26,15 @@ use record::{MESSAGES, Record};
 fn lots_fit(rec: &Record) -> bool
     ensures { let l = rec.now in result ≡ all seats (seat_fits l) && (numbers_differ l && links_fit l) }
 {
-    let mut lots = Buckets::new();
-    match entries::seats_fit(rec, &mut lots) {
-        Some(top) => links::links_fit(rec, &lots.numbers, top),
+    let mut kept = Buckets::new();
+    match entries::seats_fit(rec, &mut kept) {
+        Some(top) => {
+            let lots = Lots {
+                rec,
+                numbers: &kept.numbers,
+            };
+            lots.links_fit(top)
+        }
         None => false,
     }
 }

@@ -15,63 +15,70 @@ use graph::{Side, on_side};
 use record::lots::{is_seated, no_links, shares};
 use record::{LEVELS, NONE, Record, SEATS};
 
-// Whether seat y may be the link of the lot on seat x at level k on side d. That y is another seat shows by its number.
-fn may_link(rec: &Record, numbers: &[u64; SEATS], x: usize, k: usize, d: Side, y: usize) -> bool
-    requires { HasNumbers rec.now numbers.now × (x < seats) × (y < seats)
-        × (seated (seats_in rec.now) x ≡ true) }
-    ensures { result ≡ link_ok width (seats_in rec.now) x k (as_side d) y }
-{
-    is_seated(rec, y) && (shares(rec, k, x, y) && on_side(d, numbers[x], numbers[y]))
+// A record and the numbers of its taken seats, which the links are tested with.
+#[derive(Clone, Copy)]
+pub struct Lots<'a> {
+    pub rec: &'a Record,
+    pub numbers: &'a [u64; SEATS],
+    ghost numbered: { HasNumbers rec.now numbers.now },
 }
 
-// The link of the lot on seat x at level k on side d.
-fn link_fits(rec: &Record, numbers: &[u64; SEATS], x: usize, k: usize, d: Side) -> bool
-    requires { HasNumbers rec.now numbers.now × (x < seats) × (k < levels)
-        × (seated (seats_in rec.now) x ≡ true) }
-    ensures { result ≡ link_fits rec.now x k (as_side d) }
-{
-    let b = record::link(rec, x, k, d);
-    if b == NONE {
-        return true;
+impl Lots<'_> {
+    // Whether seat y may be the link of the lot on seat x at level k on side d. That y is another seat shows by its number.
+    fn may_link(&self, x: usize, k: usize, d: Side, y: usize) -> bool
+        requires { (x < seats) × (y < seats) × (seated (seats_in self.now.rec.now) x ≡ true) }
+        ensures { result ≡ link_ok width (seats_in self.now.rec.now) x k (as_side d) y }
+    {
+        is_seated(self.rec, y)
+            && (shares(self.rec, k, x, y) && on_side(d, self.numbers[x], self.numbers[y]))
     }
-    let y = b as usize;
-    y < SEATS && may_link(rec, numbers, x, k, d, y)
-}
 
-// Both links of the lot on seat x at level k.
-fn level_fits(rec: &Record, numbers: &[u64; SEATS], x: usize, k: usize) -> bool
-    requires { HasNumbers rec.now numbers.now × (x < seats) × (k < levels)
-        × (seated (seats_in rec.now) x ≡ true) }
-    ensures { result ≡ link_fits rec.now x k left && link_fits rec.now x k right }
-{
-    link_fits(rec, numbers, x, k, Side::Left) && link_fits(rec, numbers, x, k, Side::Right)
-}
-
-// All links of the lot on seat x.
-fn lot_fits(rec: &Record, numbers: &[u64; SEATS], x: usize) -> bool
-    requires { HasNumbers rec.now numbers.now × (x < seats)
-        × (seated (seats_in rec.now) x ≡ true) }
-    ensures { result ≡ all levels (λ k. link_fits rec.now x k left && link_fits rec.now x k right) }
-{
-    (0..LEVELS).all(|k| level_fits(rec, numbers, x, k))
-}
-
-// All links of seat x: a seat without a lot has none, reserved or free.
-fn seat_fits(rec: &Record, numbers: &[u64; SEATS], x: usize) -> bool
-    requires { HasNumbers rec.now numbers.now × (x < seats) }
-    ensures { result ≡ all levels (λ k. link_fits rec.now x k left && link_fits rec.now x k right) }
-{
-    if !is_seated(rec, x) {
-        return no_links(rec, x);
+    // The link of the lot on seat x at level k on side d.
+    fn link_fits(&self, x: usize, k: usize, d: Side) -> bool
+        requires { (x < seats) × (k < levels) × (seated (seats_in self.now.rec.now) x ≡ true) }
+        ensures { result ≡ link_fits self.now.rec.now x k (as_side d) }
+    {
+        let b = record::link(self.rec, x, k, d);
+        if b == NONE {
+            return true;
+        }
+        let y = b as usize;
+        y < SEATS && self.may_link(x, k, d, y)
     }
-    lot_fits(rec, numbers, x)
-}
 
-// All links: those of the first `top` seats, above which all are free.
-pub fn links_fit(rec: &Record, numbers: &[u64; SEATS], top: usize) -> bool
-    requires { HasNumbers rec.now numbers.now × (all seats (seat_fits rec.now) ≡ true) × (top ≤ seats)
-        × ((s : ℕ) → s < seats → top ≤ s → taken (seats_in rec.now) s ≡ false) }
-    ensures { result ≡ links_fit rec.now }
-{
-    (0..top).all(|x| seat_fits(rec, numbers, x))
+    // Both links of the lot on seat x at level k.
+    fn level_fits(&self, x: usize, k: usize) -> bool
+        requires { (x < seats) × (k < levels) × (seated (seats_in self.now.rec.now) x ≡ true) }
+        ensures { let l = self.now.rec.now in result ≡ link_fits l x k left && link_fits l x k right }
+    {
+        self.link_fits(x, k, Side::Left) && self.link_fits(x, k, Side::Right)
+    }
+
+    // All links of the lot on seat x.
+    fn lot_fits(&self, x: usize) -> bool
+        requires { (x < seats) × (seated (seats_in self.now.rec.now) x ≡ true) }
+        ensures { let l = self.now.rec.now in result ≡ all levels (λ k. link_fits l x k left && link_fits l x k right) }
+    {
+        (0..LEVELS).all(|k| self.level_fits(x, k))
+    }
+
+    // All links of seat x: a seat without a lot has none, reserved or free.
+    fn seat_fits(&self, x: usize) -> bool
+        requires { x < seats }
+        ensures { let l = self.now.rec.now in result ≡ all levels (λ k. link_fits l x k left && link_fits l x k right) }
+    {
+        if !is_seated(self.rec, x) {
+            return no_links(self.rec, x);
+        }
+        self.lot_fits(x)
+    }
+
+    // All links: those of the first `top` seats, above which all are free.
+    pub fn links_fit(&self, top: usize) -> bool
+        requires { (all seats (seat_fits self.now.rec.now) ≡ true) × (top ≤ seats)
+            × ((s : ℕ) → s < seats → top ≤ s → taken (seats_in self.now.rec.now) s ≡ false) }
+        ensures { result ≡ links_fit self.now.rec.now }
+    {
+        (0..top).all(|x| self.seat_fits(x))
+    }
 }
