@@ -9,7 +9,7 @@ ghost use Rattle.record.specs.Layout.{seats, size};
 ghost use Rattle.record.specs.Meaning.{meaning, phase_byte};
 ghost use Rattle.record.specs.Sound.{sound};
 ghost use Rattle.record.specs.Answer.{number_of};
-ghost use Rattle.record.specs.inner.Code.{as_phase};
+ghost use Rattle.record.specs.Code.{as_phase};
 ghost use Rattle.reading.specs.Answer.{count_numbers};
 ghost use Rattle.check_links.specs.Check.{members_in, check_in};
 ghost use Rattle.find.specs.Answer.{found_numbers};

@@ -14,7 +14,7 @@ ghost use Rattle.listing.specs.Lists.{begins as begins_at, right_from, shared_bi
 ghost use Rattle.listing.specs.Lists.{earlier as earlier_of, first_of, next_first};
 ghost use Rattle.listing.specs.Text.{bits_text, list_text, level_text, lists_text};
 ghost use Rattle.text.specs.inner.Written.{written};
-ghost use Rattle.record.specs.inner.Code.{as_link};
+ghost use Rattle.record.specs.Code.{as_link};
 
 use graph::Side;
 use record::lots::{is_member, link};

@@ -12,7 +12,7 @@ ghost use Rattle.protocol.specs.State.{seated, member};
 ghost use Rattle.record.specs.Layout.{seats, levels};
 ghost use Rattle.record.specs.Meaning.{seats_in, meaning};
 ghost use Rattle.record.specs.Sound.{sound};
-ghost use Rattle.record.specs.inner.Code.{as_link};
+ghost use Rattle.record.specs.Code.{as_link};
 ghost use Rattle.base.specs.Loops.{one_if, all};
 ghost use Rattle.search.specs.inner.LinkCheck.{back_of, backs_ok, ahead_of, above_ok, lot_backs, lot_aboves};
 ghost use Rattle.check_links.specs.Check.{members_in, check_in};

@@ -13,7 +13,7 @@ ghost use Rattle.record.specs.Reading.{record_refusal};
 ghost use Rattle.record.specs.Call.{called};
 ghost use Rattle.record.specs.Answer.{outcome};
 ghost use Rattle.record.specs.declared.refusals.Refusal.TheVariants.{NoSuchMessage};
-ghost use Rattle.messages.specs.inner.Numbers.{numbers};
+ghost use Rattle.messages.specs.Numbers.{numbers};
 ghost use Rattle.messages.specs.inner.Places.{place_of};
 
 use index::Index;

@@ -12,7 +12,8 @@ use Rattle.record.specs.Layout.{seats, messages}
 use Rattle.record.proofs.Places.{exists-at, place_at}
 use Rattle.messages.specs.declared.Message.{Message}
 use Rattle.messages.specs.inner.Places.{is_message, place_of}
-use Rattle.messages.specs.inner.Numbers.{numbers, Stands}
+use Rattle.messages.specs.Numbers.{numbers}
+use Rattle.messages.specs.inner.Numbers.{Stands}
 use Rattle.messages.proofs.Placed.{placed}
 use Rattle.messages.proofs.Standing.{stands-named}
 

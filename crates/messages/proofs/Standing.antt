@@ -17,7 +17,8 @@ use Rattle.protocol.proofs.Numbering.{bit_number-lt, side_number-lt}
 use Rattle.record.specs.Layout.{seats, levels, messages}
 use Rattle.record.proofs.Places.{side_number-side, exists-at}
 use Rattle.messages.specs.declared.Message.{Message}
-use Rattle.messages.specs.inner.Numbers.{numbers, InRange, Stands}
+use Rattle.messages.specs.Numbers.{numbers}
+use Rattle.messages.specs.inner.Numbers.{InRange, Stands}
 use Rattle.messages.proofs.Blocks.{IsAt, at_place, probes_from, pulls_from, goings_from, seeks_from, founds_from, nones_from}
 use Rattle.messages.proofs.Blocks.{meet-at, probe-at, pull-at, going-at, seek-at, found_at, none-at}
 use Rattle.messages.proofs.Named.{when, named-meet, named-probe, named-pull, named-going, named-seek, named-found, named_none}

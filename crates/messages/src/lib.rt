@@ -11,7 +11,8 @@ ghost use Rattle.record.specs.Layout.{seats, levels, messages};
 ghost use Rattle.graph.specs.Side.{side_number};
 ghost use Rattle.graph.specs.inner.Code.{as_side};
 ghost use Rattle.messages.specs.inner.Places.{place_of, IsPlace};
-ghost use Rattle.messages.specs.inner.Numbers.{numbers, Stands, first_pending};
+ghost use Rattle.messages.specs.Numbers.{numbers};
+ghost use Rattle.messages.specs.inner.Numbers.{Stands, first_pending};
 
 pub mod next;
 

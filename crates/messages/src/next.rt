@@ -5,7 +5,8 @@ ghost use Rattle.protocol.specs.Order.{smallest_from};
 ghost use Rattle.protocol.specs.inner.PlaceFrom.{below as first_below, digits_from, place_from};
 ghost use Rattle.record.specs.Layout.{seats, levels, messages};
 ghost use Rattle.record.specs.Meaning.{meaning};
-ghost use Rattle.messages.specs.inner.Numbers.{numbers, IsNamed};
+ghost use Rattle.messages.specs.Numbers.{numbers};
+ghost use Rattle.messages.specs.inner.Numbers.{IsNamed};
 
 use super::{FOUNDS, GOINGS, Message, NONES, PROBES, PULLS, SEEKS, first_pending, message_at};
 use record::{LEVELS, MESSAGES, Record, SEATS, WIDTH};

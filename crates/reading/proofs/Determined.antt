@@ -11,7 +11,7 @@ use Rattle.record.specs.declared.states.Phase.{Phase}
 use Rattle.record.specs.declared.states.Phase.TheVariants.{Open, Clearing}
 use Rattle.record.specs.declared.states.State.{State}
 use Rattle.record.specs.declared.states.State.TheVariants.{Free, Staying, Leaving, Reserved}
-use Rattle.record.specs.inner.Code.{as_phase, as_state}
+use Rattle.record.specs.Code.{as_phase, as_state}
 use Rattle.record.proofs.Determined.{refusal_number-positive, refusal-determined}
 use Rattle.messages.specs.declared.Message.{Message}
 use Rattle.reading.specs.declared.Lot.{Lot}

@@ -23,7 +23,7 @@ use Rattle.record.specs.Answer.{refusal_number}
 use Rattle.record.specs.Reading.{record_refusal, lot_refusal, link_refusal, read_lot, read_link, read_message, read_counts, read_next}
 use Rattle.record.specs.declared.refusals.Refusal.{Refusal}
 use Rattle.record.specs.declared.refusals.Refusal.TheVariants as refused
-use Rattle.record.specs.inner.Code.{as_link, as_phase, as_state}
+use Rattle.record.specs.Code.{as_link, as_phase, as_state}
 use Rattle.record.proofs.Refused.{wrong_size_lem}
 use Rattle.record.proofs.Form.{meaning-number, meaning-vector}
 use Rattle.messages.specs.declared.Message.{Message}

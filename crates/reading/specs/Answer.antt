@@ -7,10 +7,10 @@ use Rattle.record.specs.Layout.{no_link, seats}
 use Rattle.record.specs.Meaning.{phase_byte, state_byte}
 use Rattle.record.specs.Answer.{refusal_number}
 use Rattle.record.specs.Reading.{LotAnswer, LinkAnswer, MessageAnswer, CountAnswer, NextAnswer, next_answer}
-use Rattle.record.specs.inner.Code.{as_phase, as_state}
+use Rattle.record.specs.Code.{as_phase, as_state}
 use Rattle.record.specs.declared.refusals.Refusal.{Refusal}
 use Rattle.messages.specs.declared.Message.{Message}
-use Rattle.messages.specs.inner.Numbers.{numbers}
+use Rattle.messages.specs.Numbers.{numbers}
 use Rattle.reading.specs.declared.Lot.{Lot}
 use Rattle.reading.specs.declared.Counts.{Counts}
 

@@ -11,7 +11,7 @@ ghost use Rattle.record.specs.Meaning.{seats_in};
 ghost use Rattle.record.specs.Answer.{number_of};
 ghost use Rattle.record.specs.Reading.{size_row, sound_row, seat_row};
 ghost use Rattle.record.specs.Reading.{lot_refusal, link_refusal, open_refusal, open_bytes, read_lot, read_link, read_message, read_counts};
-ghost use Rattle.messages.specs.inner.Numbers.{numbers};
+ghost use Rattle.messages.specs.Numbers.{numbers};
 ghost use Rattle.reading.specs.Answer.{lot_numbers, link_numbers, LinkNumbered, message_numbers, count_numbers};
 
 pub mod next;

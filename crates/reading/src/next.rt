@@ -1,7 +1,7 @@
 // Reading the pending messages one after the other (document 01, "Calls" and "The program"): the smallest at or after five numbers.
 ghost use Rattle.std.specs.Prelude.{◌≡◌};
 ghost use Rattle.record.specs.Reading.{read_next};
-ghost use Rattle.messages.specs.inner.Numbers.{numbers};
+ghost use Rattle.messages.specs.Numbers.{numbers};
 ghost use Rattle.reading.specs.Answer.{next_numbers, NextNumbered};
 
 use messages::Message;

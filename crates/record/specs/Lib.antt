@@ -8,4 +8,5 @@ pub mod Call
 pub mod Bundle
 pub mod Local
 pub mod Answer
+pub mod Code
 pub mod inner

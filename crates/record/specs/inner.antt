@@ -3,4 +3,3 @@ pub mod Cell
 pub mod Sent
 pub mod Opened
 pub mod Entry
-pub mod Code

@@ -9,7 +9,7 @@ ghost use Rattle.graph.specs.inner.Code.{as_side};
 ghost use Rattle.record.specs.Layout.{seats, levels, messages, states, number_size, vector_size};
 ghost use Rattle.record.specs.Meaning.{phase_byte, state_byte, seats_in};
 ghost use Rattle.record.specs.Sound.{phase_fits};
-ghost use Rattle.record.specs.inner.Code.{as_phase, as_state};
+ghost use Rattle.record.specs.Code.{as_phase, as_state};
 ghost use Rattle.record.specs.Layout.{phase_at, state_at, number_from, vector_from, link_at, pending_from};
 ghost use Rattle.record.specs.inner.Entry.{filled, written};
 

@@ -9,7 +9,7 @@ ghost use Rattle.protocol.specs.State.{is_clearing, taken, seated, stays, leaves
 ghost use Rattle.protocol.specs.Sound.{pair_ok};
 ghost use Rattle.record.specs.Layout.{seats, levels};
 ghost use Rattle.record.specs.Meaning.{seats_in, meaning};
-ghost use Rattle.record.specs.inner.Code.{as_link};
+ghost use Rattle.record.specs.Code.{as_link};
 ghost use Rattle.record.specs.inner.Entry.{bare_at};
 
 use crate::states::{Phase, State};

@@ -1,7 +1,7 @@
 // The phase of a record and the state of a seat, a byte each.
 ghost use Rattle.std.specs.Prelude.{◌≡◌};
 ghost use Rattle.record.specs.Meaning.{phase_of, state_of, phase_byte, state_byte};
-ghost use Rattle.record.specs.inner.Code.{as_phase, as_state};
+ghost use Rattle.record.specs.Code.{as_phase, as_state};
 
 #[derive(Clone, Copy, Debug, PartialEq, Eq)]
 pub enum Phase {

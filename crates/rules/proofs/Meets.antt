@@ -26,7 +26,7 @@ use Rattle.record.specs.Layout.{seats, levels, vector_size, link_at, vector_from
 use Rattle.record.specs.Meaning.{meaning, link_of}
 use Rattle.record.proofs.Form.{meaning-vector, meaning-link}
 use Rattle.record.specs.inner.Entry.{written}
-use Rattle.record.specs.inner.Code.{as_link}
+use Rattle.record.specs.Code.{as_link}
 use Rattle.rules.specs.inner.Done.{changed, Indexed, indexed, send_at, send_all, carried}
 use Rattle.rules.specs.inner.Told.{told}
 use Rattle.rules.proofs.Sends.{send-more, send-append}

@@ -21,7 +21,7 @@ ghost use Rattle.record.specs.Layout.{seats, levels, messages};
 ghost use Rattle.record.specs.Meaning.{meaning};
 ghost use Rattle.graph.specs.Side.{on_side};
 ghost use Rattle.graph.specs.inner.Code.{as_side};
-ghost use Rattle.record.specs.inner.Code.{as_link};
+ghost use Rattle.record.specs.Code.{as_link};
 ghost use Rattle.rules.specs.inner.Done.{done, indexed, send_at, send_all, carried};
 ghost use Rattle.rules.specs.inner.Told.{told};
 

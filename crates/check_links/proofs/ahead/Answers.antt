@@ -8,7 +8,7 @@ use borrow.Author.Rules.{rules}
 use Rattle.graph.specs.Vector.{width, bit}
 use Rattle.record.specs.Layout.{seats}
 use Rattle.record.specs.Meaning.{seats_in}
-use Rattle.record.specs.inner.Code.{as_link}
+use Rattle.record.specs.Code.{as_link}
 use Rattle.check_links.proofs.Runs.{run_of, run_none, run-found, run_on, run_end}
 use Rattle.check_links.proofs.ahead.Goals as goal
 

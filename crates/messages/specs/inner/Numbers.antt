@@ -1,5 +1,4 @@
--- The five numbers of a message as the code carries them, when they are those of the message at a place, and the first place whose message
--- is pending. Assumes nothing.
+-- When the five numbers that the code carries are those of the message at a place, and the first place whose message is pending. Assumes nothing.
 use Rattle.std.specs.Prelude.{ℕ, ◌-◌, ◌≤◌, ◌<◌, ◌≡◌, false, List, None, Some}
 use Rattle.std.specs.Prelude as code
 use Rattle.std.proofs.Math.Option.{Option, none}
@@ -12,10 +11,7 @@ use Rattle.protocol.specs.Order.{name_or_zeros}
 use Rattle.record.specs.Layout.{seats, levels, messages, pending_from}
 use Rattle.record.specs.Meaning.{meaning}
 use Rattle.messages.specs.declared.Message.{Message}
-
--- five numbers as a name
-abbrev pub numbers : Message → Name
-numbers m = name m.kind m.to m.about m.level m.side
+use Rattle.messages.specs.Numbers.{numbers}
 
 -- each number in its range
 pub record InRange (n : Name) : Type 0 where

@@ -3,7 +3,7 @@ use mathlib.Core.Path.{◌≡◌}
 use Rattle.protocol.specs.Message.{meet}
 use Rattle.protocol.specs.Rules.{to_link}
 use Rattle.rules.specs.inner.Done.{indexed, send_all}
-use Rattle.record.specs.inner.Code.{as_link}
+use Rattle.record.specs.Code.{as_link}
 use Rattle.graph.specs.inner.Code.{as_side}
 use Rattle.rules.proofs.Meets.{told-sent}
 use Rattle.rules.proofs.Sends.{send-link, send-no-link}

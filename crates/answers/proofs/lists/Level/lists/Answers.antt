@@ -6,7 +6,7 @@ use Rattle.record.specs.Meaning.{meaning}
 use Rattle.check_links.specs.Check.{members_in}
 use Rattle.listing.specs.Text.{level_text}
 use Rattle.listing.proofs.Steps.{lists-zero, lists-none}
-use Rattle.record.specs.inner.Code.{as_link}
+use Rattle.record.specs.Code.{as_link}
 use Rattle.answers.proofs.Words.{words}
 use Rattle.answers.proofs.Turns.{lists-turn}
 use Rattle.answers.proofs.lists.Level.lists.Goals as goal

@@ -8,7 +8,7 @@ use Rattle.record.specs.Meaning.{meaning}
 use Rattle.check_links.specs.Check.{members_in}
 use Rattle.listing.proofs.Steps.{lists_after}
 use Rattle.text.specs.inner.Written.{written}
-use Rattle.record.specs.inner.Code.{as_link}
+use Rattle.record.specs.Code.{as_link}
 use Rattle.answers.proofs.lists.Level.lists.Given as goal
 
 abbrev pub invariant-loop : goal.invariant-loop

@@ -6,7 +6,7 @@ use Rattle.record.specs.Layout.{seats}
 use Rattle.record.specs.Meaning.{meaning}
 use Rattle.check_links.specs.Check.{members_in}
 use Rattle.listing.specs.Lists.{next_first}
-use Rattle.record.specs.inner.Code.{as_link}
+use Rattle.record.specs.Code.{as_link}
 use Rattle.answers.proofs.lists.Level.next_first.Given as goal
 
 abbrev pub invariant-loop-s : goal.invariant-loop-s

@@ -3,7 +3,7 @@ use Rattle.std.proofs.Common.{arith, ◌-◌, ◌<◌}
 use Rattle.record.specs.Layout.{seats}
 use Rattle.record.specs.Meaning.{seats_in, meaning}
 use Rattle.listing.proofs.Steps.{numbers-zero, numbers-none}
-use Rattle.record.specs.inner.Code.{as_link}
+use Rattle.record.specs.Code.{as_link}
 use Rattle.answers.proofs.Parts.{lots}
 use Rattle.answers.proofs.Turns.{numbers-turn}
 use Rattle.answers.proofs.lists.Level.numbers.Goals as goal

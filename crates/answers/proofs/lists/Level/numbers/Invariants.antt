@@ -6,7 +6,7 @@ use Rattle.record.specs.Layout.{seats}
 use Rattle.record.specs.Meaning.{seats_in, meaning}
 use Rattle.listing.proofs.Steps.{numbers_from}
 use Rattle.text.specs.inner.Written.{written}
-use Rattle.record.specs.inner.Code.{as_link}
+use Rattle.record.specs.Code.{as_link}
 use Rattle.answers.proofs.lists.Level.numbers.Given as goal
 
 abbrev pub invariant-loop : goal.invariant-loop
