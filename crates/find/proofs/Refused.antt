@@ -56,10 +56,15 @@ module _ (l : List ℕ) (s : ℕ) where
   unfolding find_refusal
   no-record h = record-stops l later (wrong_size_lem l h) (λ z. absurd (omega (arith, z)))
 
-  pub stops : {A : Type 0} (B : Type 0) (a : Result A Refusal) (r : Refusal) → IsErrAnd a (λ q. q ≡ r)
+  pub stops : {n : ℕ} → n ≡ record_refusal l → n ≢ 0 → n ≡ find_refusal l s
+  unfolding find_refusal
+  stops e h = record-stops l later e h
+
+  -- by a refusal that is handed on
+  pub stops-on : {A : Type 0} (B : Type 0) (a : Result A Refusal) (r : Refusal) → IsErrAnd a (λ q. q ≡ r)
       → number_of {A = B} (Err r) ≡ record_refusal l → number_of a ≡ find_refusal l s
-  unfolding find_refusal number_of
-  stops B a r e h = refusal-on B a r e (record-stops l later h (λ z. omega (arith, z, refusal_number-positive r)))
+  unfolding number_of
+  stops-on B a r e h = refusal-on B a r e (stops h (λ z. omega (arith, z, refusal_number-positive r)))
 
   pub accepted : find_refusal l s ≡ 0 → Accepted l s
   unfolding find_refusal

@@ -2,7 +2,7 @@
 use mathlib.Core.Path.{sym, ◌∙◌}
 use Rattle.record.specs.Answer.{number_of}
 use Rattle.record.proofs.Refused.{Passed}
-use Rattle.find.proofs.Refused.{stops, no-seat, no-lot, waits, answers, looked}
+use Rattle.find.proofs.Refused.{stops-on, no-seat, no-lot, waits, answers, looked}
 use Rattle.find.proofs.find_refusal.Goals as goal
 use Rattle.find.proofs.find_refusal.Goals.{In_ok-first}
 
@@ -11,7 +11,7 @@ passed : (c : In_ok-first) → Passed c.args.rec.now
 passed c = looked _ _ c.in_ok-first.ensures.refused
 
 pub returns-in_err-first : goal.returns-in_err-first
-returns-in_err-first c = stops _ _ _ c.from_residual.result _ c.from_residual.ensures.1 c.in_err-first.ensures.refused
+returns-in_err-first c = stops-on _ _ _ c.from_residual.result _ c.from_residual.ensures.1 c.in_err-first.ensures.refused
 
 pub returns-then-s-ge-SEATS : goal.returns-then-s-ge-SEATS
 unfolding number_of
