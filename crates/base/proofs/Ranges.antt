@@ -56,9 +56,11 @@ module _ {F : Type 0} {g : Mut F (ℕ × Unit {0}) Bool} (n : ℕ) (test : ℕ �
   pub all-over : (xs : List ℕ) × (o : Option ℕ) × (j : F) × YieldsThen nat_range_steps (record { start = 0; end = n }) xs o u
       × FoldsTo (λ p x q. Called g p (x, tt) true q) f xs j × MatchOption o (r ≡ true) (λ x. (r ≡ false) × ((h : F) × Called g j (x, tt) false h))
       → ((x : ℕ) (b : Bool) (q : F) → Called g f (x, tt) b q → (q ≡ f) × (b ≡ test x)) → r ≡ all n test
-  all-over d k = all_from_yields_List test u f r d (YieldsList-from_range 0 n n refl (omega arith)) k ∙ list_all-range n 0 test ∙ all_same n _ _ (λ j h. ap test (omega arith))
+  all-over d k = all_from_yields_List test u f r d (YieldsList-from_range 0 n n refl (omega arith)) k
+      ∙ list_all-range n 0 test ∙ all_same n _ _ (λ j h. ap test (omega arith))
 
   pub any-over : (xs : List ℕ) × (o : Option ℕ) × (j : F) × YieldsThen nat_range_steps (record { start = 0; end = n }) xs o u
       × FoldsTo (λ p x q. Called g p (x, tt) false q) f xs j × MatchOption o (r ≡ false) (λ x. (r ≡ true) × ((h : F) × Called g j (x, tt) true h))
       → ((x : ℕ) (b : Bool) (q : F) → Called g f (x, tt) b q → (q ≡ f) × (b ≡ test x)) → r ≡ any n test
-  any-over d k = any_from_yields_List test u f r d (YieldsList-from_range 0 n n refl (omega arith)) k ∙ list_any-range n 0 test ∙ any_same n _ _ (λ j h. ap test (omega arith))
+  any-over d k = any_from_yields_List test u f r d (YieldsList-from_range 0 n n refl (omega arith)) k
+      ∙ list_any-range n 0 test ∙ any_same n _ _ (λ j h. ap test (omega arith))

@@ -27,7 +27,8 @@ use record::{LEVELS, PENDING, Record, SEATS, WIDTH};
 use rules::{found, going, meet, none, probe, pull, seek};
 use soundness::look;
 
-// Does the rule of the message at place i: its kind by the block that holds i, its numbers by the digits of its place there.
+// Does the rule of the message at place i: its kind by the block that holds i, its numbers by the digits of its place there. An `if` for each block, since
+// each takes away where its own block starts.
 fn carry_out(rec: &mut Record, index: &mut Index, i: usize)
     requires { i < messages }
     ensures { let m = message_at seats width i in indexed rec.new index.new
@@ -46,12 +47,25 @@ fn carry_out(rec: &mut Record, index: &mut Index, i: usize)
         let j = i - PULLS;
         let level = j / 2;
         let bit = level / WIDTH;
-        return pull(rec, index, bit / 2, bit % 2, level % WIDTH, Side::of_number(j % 2));
+        return pull(
+            rec,
+            index,
+            bit / 2,
+            bit % 2,
+            level % WIDTH,
+            Side::of_number(j % 2),
+        );
     }
     if i < SEEKS {
         let j = i - GOINGS;
         let level = j / 2;
-        return going(rec, index, level / LEVELS, level % LEVELS, Side::of_number(j % 2));
+        return going(
+            rec,
+            index,
+            level / LEVELS,
+            level % LEVELS,
+            Side::of_number(j % 2),
+        );
     }
     if i < FOUNDS {
         let j = i - SEEKS;

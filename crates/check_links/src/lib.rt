@@ -83,6 +83,7 @@ fn ahead(rec: &Record, x: usize, k: usize) -> Option<usize>
 {
     let b = bit_of(rec, x, k);
     let mut y = link(rec, x, k, Side::Right)?;
+    // SEATS turns at most: the links may lead round
     for _ in 0..SEATS {
         if bit_of(rec, y, k) == b {
             break;

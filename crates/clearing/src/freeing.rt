@@ -11,7 +11,7 @@ use record::lots::{link, no_links};
 use record::states::State;
 use record::{LEVELS, NONE, Record, SEATS};
 
-// Whether seat s is in the set.
+// Whether seat s is in the set, a plain number, as C hands it to a crash: every number is a set.
 pub fn in_set(set: u64, s: usize) -> bool
     requires { s < seats }
     ensures { result ≡ has_bit set s }

@@ -16,8 +16,8 @@ ghost use Rattle.record.specs.declared.refusals.Refusal.TheVariants.{NoSuchMessa
 ghost use Rattle.messages.specs.Numbers.{numbers};
 ghost use Rattle.messages.specs.inner.Places.{place_of};
 
-use index::Index;
 use graph::Side;
+use index::Index;
 use messages::{Message, place_of};
 use record::Record;
 use record::refusals::Refusal;
@@ -47,7 +47,13 @@ fn deliver_meet(rec: &mut Record, m: Message) -> Result<(), Refusal>
     ensures { outcome result rec.new ≡ called rec.old (delivering (name 1 m.to m.about m.level m.side)) }
 {
     take_named(rec, Message { kind: 1, ..m })?;
-    meet(rec, &mut Index::new(), m.to as usize, m.about as usize, m.level as usize);
+    meet(
+        rec,
+        &mut Index::new(),
+        m.to as usize,
+        m.about as usize,
+        m.level as usize,
+    );
     Ok(())
 }
 
@@ -56,7 +62,13 @@ fn deliver_probe(rec: &mut Record, m: Message) -> Result<(), Refusal>
     ensures { outcome result rec.new ≡ called rec.old (delivering (name 2 m.to m.about m.level m.side)) }
 {
     take_named(rec, Message { kind: 2, ..m })?;
-    probe(rec, &mut Index::new(), m.to as usize, m.about as usize, m.level as usize);
+    probe(
+        rec,
+        &mut Index::new(),
+        m.to as usize,
+        m.about as usize,
+        m.level as usize,
+    );
     Ok(())
 }
 
@@ -65,7 +77,14 @@ fn deliver_pull(rec: &mut Record, m: Message) -> Result<(), Refusal>
     ensures { outcome result rec.new ≡ called rec.old (delivering (name 3 m.to m.about m.level m.side)) }
 {
     take_named(rec, Message { kind: 3, ..m })?;
-    pull(rec, &mut Index::new(), m.to as usize, m.about as usize, m.level as usize, Side::of_number(m.side as usize));
+    pull(
+        rec,
+        &mut Index::new(),
+        m.to as usize,
+        m.about as usize,
+        m.level as usize,
+        Side::of_number(m.side as usize),
+    );
     Ok(())
 }
 
@@ -74,7 +93,13 @@ fn deliver_going(rec: &mut Record, m: Message) -> Result<(), Refusal>
     ensures { outcome result rec.new ≡ called rec.old (delivering (name 4 m.to m.about m.level m.side)) }
 {
     take_named(rec, Message { kind: 4, ..m })?;
-    going(rec, &mut Index::new(), m.to as usize, m.level as usize, Side::of_number(m.side as usize));
+    going(
+        rec,
+        &mut Index::new(),
+        m.to as usize,
+        m.level as usize,
+        Side::of_number(m.side as usize),
+    );
     Ok(())
 }
 
@@ -83,7 +108,13 @@ fn deliver_seek(rec: &mut Record, m: Message) -> Result<(), Refusal>
     ensures { outcome result rec.new ≡ called rec.old (delivering (name 5 m.to m.about m.level m.side)) }
 {
     take_named(rec, Message { kind: 5, ..m })?;
-    seek(rec, &mut Index::new(), m.to as usize, m.about as usize, m.level as usize);
+    seek(
+        rec,
+        &mut Index::new(),
+        m.to as usize,
+        m.about as usize,
+        m.level as usize,
+    );
     Ok(())
 }
 
@@ -101,7 +132,12 @@ fn deliver_none(rec: &mut Record, m: Message) -> Result<(), Refusal>
     ensures { outcome result rec.new ≡ called rec.old (delivering (name 7 m.to m.about m.level m.side)) }
 {
     take_named(rec, Message { kind: 7, ..m })?;
-    none(rec, m.to as usize, m.level as usize, Side::of_number(m.side as usize));
+    none(
+        rec,
+        m.to as usize,
+        m.level as usize,
+        Side::of_number(m.side as usize),
+    );
     Ok(())
 }
 

@@ -81,8 +81,8 @@ fn answer_kept(rec: &mut [u8], line: &[u8], n: usize, out: &mut [u8; ROOM]) -> u
     answer(rec, line, out)
 }
 
-// How many bytes of an unfinished line are kept, and how many bytes the answer to the line has that ended, 0 if none did.
-#[derive(Drop)]
+// How many bytes of an unfinished line are kept, and how many bytes the answer to the line has that ended: 0 if none did, for no answer is empty.
+#[derive(Clone, Copy, Debug, PartialEq, Eq)]
 pub struct Taken {
     pub kept: usize,
     pub answer: usize,

@@ -109,7 +109,7 @@ pub fn clear_bit(rec: &mut [u8], base: usize, i: usize)
 }
 
 // A bit of a word that was cleared, and whether it was the last.
-#[derive(Drop)]
+#[derive(Clone, Copy, Debug, PartialEq, Eq)]
 pub struct Cleared {
     pub bit: usize,
     pub last: bool,
@@ -212,7 +212,7 @@ fn first_in_bytes(bytes: &[u8]) -> usize
     at * BITS + first_in_byte(bytes[at], 0)
 }
 
-// The first set bit at or after `from` of the bitmap of `count` bits at `base`, else `count`. The bitmap is whole bytes.
+// The first set bit at or after `from` of the bitmap of `count` bits at `base`, else `count`, where a search goes on or ends. The bitmap is whole bytes.
 pub fn first_bit(rec: &[u8], base: usize, from: usize, count: usize) -> usize
     requires { (from ≤ count) × (count % 8 ≡ 0) × (base + count / 8 ≤ length rec.now) }
     ensures { result ≡ first_from (count - from) from (bit_set rec.now base) }

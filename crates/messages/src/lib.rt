@@ -37,7 +37,8 @@ pub const FOUNDS: usize = SEEKS + PAIRS;
 
 pub const NONES: usize = FOUNDS + PAIRS;
 
-// The five numbers of a message, or any five numbers.
+// The five numbers of a message, or any five numbers. A kind is a number here, and not an enum: any number may be asked for, and document 01 has a
+// delivery decide over the kind number.
 #[derive(Clone, Copy, Debug, PartialEq, Eq)]
 pub struct Message {
     pub kind: u8,

@@ -22,7 +22,8 @@ use Rattle.record.proofs.Refused.{wrong_size_lem}
 use Rattle.record.proofs.Accepted.{Accepted, accepted, refused-early, refused-late, outcome-refused, outcome-done}
 
 -- an answer that `?` makes of a refusal has its number
-pub refusal-on : {A : Type 0} (B : Type 0) (a : Result A Refusal) (r : Refusal) {n : ℕ} → IsErrAnd a (λ q. q ≡ r) → number_of {A = B} (Err r) ≡ n → number_of a ≡ n
+pub refusal-on : {A : Type 0} (B : Type 0) (a : Result A Refusal) (r : Refusal) {n : ℕ} → IsErrAnd a (λ q. q ≡ r)
+    → number_of {A = B} (Err r) ≡ n → number_of a ≡ n
 unfolding number_of
 refusal-on B (Ok x) r e h = absurd e
 refusal-on B (Err q) r e h = ap refusal_number e ∙ h

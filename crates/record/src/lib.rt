@@ -17,6 +17,7 @@ pub mod fields;
 pub mod lots;
 pub mod refusals;
 pub mod states;
+
 use graph::Side;
 use states::{PHASES, Phase, STATES, State};
 

@@ -80,11 +80,7 @@ fn change_to(about: usize, stays: bool) -> Option<u8>
     requires { about < seats }
     ensures { result ≡ cond stays None (Some about) }
 {
-    if stays {
-        None
-    } else {
-        Some(about as u8)
-    }
+    if stays { None } else { Some(about as u8) }
 }
 
 // 1 MEET, the link was `old` and is set to `about`: what is sent. The rest of the entry is as it was.

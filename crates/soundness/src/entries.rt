@@ -17,7 +17,7 @@ use record::{ENTRIES, ENTRY, NUMBER_AT, Record, SEATS};
 const BUCKETS: usize = 509;
 
 // The lots below a seat, kept by the remainders of their numbers: their numbers, the last lot of each bucket, and the one before each. A lot is its seat
-// and 1 there, and 0 is none.
+// and 1 there, and 0 is none: a byte each, in fixed memory.
 #[derive(Drop)]
 pub struct Buckets {
     pub numbers: [u64; SEATS],

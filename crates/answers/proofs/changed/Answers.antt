@@ -14,5 +14,6 @@ unfolding done_text number_of
 returns c = elim c.match-answer.branch [
   | in-Ok w ↦ rw w.in-Ok.is (record { put = grind (arith, words); fits = ok-length })
   | in-Err w ↦
-      rw (w.in-Err.is, done_refused _ (refusal_number-positive w.in-Err.refusal), ← w.from.ensures) (record { put = grind (arith, words); fits = w.refused.ensures.fits })
+      rw (w.in-Err.is, done_refused _ (refusal_number-positive w.in-Err.refusal), ← w.from.ensures)
+      (record { put = grind (arith, words); fits = w.refused.ensures.fits })
 ]

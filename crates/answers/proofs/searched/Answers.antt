@@ -9,7 +9,8 @@ use Rattle.answers.proofs.searched.Goals.{in-Err, in-Ok+in-Some, in-Ok+in-None}
 pub returns : goal.returns
 returns c = elim c.match-answer.branch [
   | in-Err w ↦
-      rw (w.in-Err.is, found-refused _ (refusal_number-positive w.in-Err.refusal), ← w.from.ensures) (record { put = grind (arith, words); fits = w.refused.ensures.fits })
+      rw (w.in-Err.is, found-refused _ (refusal_number-positive w.in-Err.refusal), ← w.from.ensures)
+      (record { put = grind (arith, words); fits = w.refused.ensures.fits })
   | in-Ok+in-Some w ↦ rw (w.in-Ok.is, found-hops, w.in-Some.is) (record { put = grind (arith, words); fits = w.holder.ensures.fits })
   | in-Ok+in-None w ↦ rw (w.in-Ok.is, found-hops, w.in-None.is) (record { put = grind (arith, words); fits = w.nobody.ensures.fits })
 ]

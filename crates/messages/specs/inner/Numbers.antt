@@ -5,7 +5,7 @@ use Rattle.std.proofs.Math.Option.{Option, none}
 use Rattle.base.specs.Loops.{first_from}
 use Rattle.memory.specs.Bits.{bit_set}
 use Rattle.graph.specs.Vector.{width}
-use Rattle.protocol.specs.Message.{Msg, Name, name, name_of}
+use Rattle.protocol.specs.Message.{Msg, Name, name_of}
 use Rattle.protocol.specs.Numbering.{message_at}
 use Rattle.protocol.specs.Order.{name_or_zeros}
 use Rattle.record.specs.Layout.{seats, levels, messages, pending_from}

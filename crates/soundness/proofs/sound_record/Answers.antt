@@ -1,5 +1,4 @@
 -- `soundness::sound_record` meets its contract. Assumes nothing.
-use mathlib.Core.Path.{sym, ◌∙◌}
 use Rattle.record.specs.Answer.{number_of}
 use Rattle.record.proofs.Answered.{refusal-on}
 use Rattle.record.proofs.Refused.{wrong_size_lem}

@@ -6,14 +6,14 @@ use Prim.Native.Nat.{ℕ, ◌+◌, ◌≤◌, ◌<◌}
 use mathlib.Core.Path.{◌≡◌, sym, ◌∙◌, ap}
 use mathlib.Core.Bool.{false, not}
 use native.Mathlib.Omega.{arith}
-use borrow.Author.Tests.{not-false, le-leb}
+use borrow.Author.Tests.{not-false}
 use Rattle.base.proofs.All.{all_none}
 use Rattle.protocol.specs.State.{taken}
 use Rattle.record.specs.Layout.{seats}
 use Rattle.record.specs.Meaning.{seats_in}
 use Rattle.base.proofs.Stops.{all-stop, all_go, all_end}
 use Rattle.soundness.proofs.Numbers.{seat-clauses}
-use Rattle.soundness.proofs.Kept.{kept-none, none_above}
+use Rattle.soundness.proofs.Kept.{none_above}
 use Rattle.soundness.proofs.entries.seats_fit.Goals as goal
 use Rattle.soundness.proofs.entries.seats_fit.Goals.{Joined-is_taken, then-is_taken, else-is_taken}
 

@@ -1,6 +1,6 @@
 -- `soundness::pending::messages_fit` meets its contract. The loop's invariant: the places before the next pending one pass. Assumes nothing.
-use Prim.Native.Nat.{ℕ, ◌+◌, ◌*◌, ◌/◌, ◌<◌}
-use mathlib.Core.Path.{◌≡◌, sym, ap, ◌∙◌}
+use Prim.Native.Nat.{◌+◌, ◌*◌, ◌/◌, ◌<◌}
+use mathlib.Core.Path.{sym, ap, ◌∙◌}
 use native.Mathlib.Omega.{arith}
 use Rattle.record.specs.Layout.{messages}
 use Rattle.record.specs.Sound.{messages_fit}

@@ -1,6 +1,5 @@
 -- `soundness::pending::messages_fit` meets its contract. The loop's invariant: the places before the next pending one pass. Assumes nothing.
 use Prim.Native.Nat.{ℕ, ◌-◌, ◌<◌}
-use mathlib.Core.Path.{◌≡◌}
 use Rattle.std.specs.Prelude.{Option, IfSome, unwrap_or}
 use Rattle.record.specs.Layout.{messages}
 use Rattle.soundness.proofs.PendingPasses.{Next}

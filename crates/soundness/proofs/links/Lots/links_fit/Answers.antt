@@ -1,16 +1,10 @@
 -- `soundness::links::Lots::links_fit` meets its contract. Those above `top` are free seats, without links. Assumes nothing.
-use Prim.Native.Nat.{ℕ}
-use mathlib.Core.Path.{◌≡◌, sym, ◌∙◌}
-use mathlib.Core.Bool.{Bool, true, false, ◌&&◌}
-use mathlib.Core.Logic.{⊎_elim}
-use native.Mathlib.Omega.{arith}
+use mathlib.Core.Path.{sym, ◌∙◌}
 use borrow.Author.Rules.{rules}
 use borrow.Author.Tests.{tests}
-use Rattle.base.specs.Loops.{all}
-use Rattle.base.proofs.Cases.{lt-or-ge}
 use Rattle.base.proofs.All.{all-above}
 use Rattle.base.proofs.Ranges.{all-over}
-use Rattle.record.specs.Layout.{seats, levels}
+use Rattle.record.specs.Layout.{seats}
 use Rattle.record.specs.Sound.{links_fit}
 use Rattle.soundness.proofs.LinkByte.{free-links}
 use Rattle.soundness.proofs.links.Lots.links_fit.Goals as goal
