@@ -1,7 +1,6 @@
 -- What a delivery comes to: refused, by the record or because the message is not pending, or done. Assumes nothing.
 use Prim.Native.Nat.{ℕ}
 use mathlib.Core.Path.{◌≡◌, refl, sym, ◌∙◌}
-use mathlib.Core.Logic.{◌≢◌}
 use mathlib.Core.Bool.{Bool, true, false, not}
 use mathlib.Core.List.{List, [], ◌∷◌}
 use native.Mathlib.Omega.{arith}
@@ -15,12 +14,11 @@ use Rattle.record.specs.Meaning.{meaning, bytes_of}
 use Rattle.record.specs.Reading.{record_refusal}
 use Rattle.record.specs.Call.{call_refusal, called}
 use Rattle.std.specs.Prelude.{Result, Ok, Err}
-use Rattle.std.specs.Result.{IsErrAnd}
-use Rattle.record.specs.Answer.{refusal_number, number_of, outcome}
+use Rattle.record.specs.Answer.{number_of, outcome}
 use Rattle.record.specs.declared.refusals.Refusal.{Refusal}
 use Rattle.record.specs.declared.refusals.Refusal.TheVariants.{NoSuchMessage}
 use Rattle.record.proofs.Refused.{record-passed}
-use Rattle.record.proofs.Accepted.{refused-early, outcome-refused, outcome-done}
+use Rattle.record.proofs.Accepted.{outcome-refused, outcome-done}
 use Rattle.record.proofs.Call.{record-accepted}
 
 -- answer a and the bytes y are what the delivery of n on l comes to

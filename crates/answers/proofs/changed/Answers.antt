@@ -1,5 +1,5 @@
 -- `changed` meets its contract, case by case. Assumes nothing.
-use Rattle.std.proofs.Common.{arith, subst}
+use Rattle.std.proofs.Common.{arith}
 use Rattle.record.specs.Answer.{number_of}
 use Rattle.record.proofs.Determined.{refusal_number-positive}
 use Rattle.program.specs.Text.{done_text}

@@ -1,15 +1,13 @@
 -- `print` meets its contract, by what the counts and the check say. Assumes nothing.
-use Rattle.std.proofs.Common.{arith, refl, sym, ap, ◌∙◌}
-use mathlib.Core.Path.{◌≡◌}
+use Rattle.std.proofs.Common.{arith, refl, sym, ap}
 use mathlib.Core.Logic.{⊎_elim}
 use mathlib.Core.Bool.{true, false}
 use Rattle.base.proofs.Cases.{true-or-false}
 use Rattle.memory.specs.Bytes.{AreBytes}
-use Rattle.record.specs.Reading.{CountAnswer, read_counts}
+use Rattle.record.specs.Reading.{CountAnswer}
 use Rattle.record.proofs.Reading.{counts-passed}
 use Rattle.record.proofs.Determined.{refusal_number-positive}
 use Rattle.check_links.specs.Check.{check_in}
-use Rattle.reading.specs.Answer.{count_numbers}
 use Rattle.program.proofs.Long.{print-length}
 use Rattle.program.proofs.Printed.{print-refused, print-waits, print-no, print-yes, yes-lists}
 use Rattle.answers.proofs.Words.{words}

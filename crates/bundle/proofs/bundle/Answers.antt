@@ -1,5 +1,5 @@
 -- `bundle::bundle` meets its contract. Assumes nothing.
-use mathlib.Core.Path.{refl, sym, ◌∙◌}
+use mathlib.Core.Path.{refl, sym}
 use Rattle.record.proofs.Answered.{number-0}
 use Rattle.record.proofs.Bundle.{bundle-done}
 use Rattle.bundle.proofs.Ready.{first-place, quiet_none}

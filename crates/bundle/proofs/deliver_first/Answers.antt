@@ -1,5 +1,4 @@
 -- `bundle::deliver_first` meets its contract. Assumes nothing.
-use mathlib.Core.Path.{◌∙◌}
 use native.Mathlib.Omega.{arith}
 use borrow.Author.Rules.{rules}
 use Rattle.delivery.proofs.Steps.{sized}

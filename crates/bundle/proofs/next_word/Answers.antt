@@ -1,5 +1,5 @@
 -- `bundle::next_word` meets its contract. Assumes nothing.
-use mathlib.Core.Path.{◌≡◌, refl, sym}
+use mathlib.Core.Path.{refl, sym}
 use borrow.Author.Rules.{rules}
 use Rattle.bundle.proofs.Ready.{noted-ready, none-below, none_left, extended, found-ready}
 use Rattle.bundle.proofs.next_word.Goals as goal

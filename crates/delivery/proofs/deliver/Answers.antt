@@ -1,10 +1,9 @@
 -- `delivery::deliver` meets its contract: the record is refused, or the kind's handler answers, or there is no such kind. Assumes nothing.
-use mathlib.Core.Path.{◌≡◌, sym, ◌∙◌}
-use Prim.Native.Nat.{ℕ}
+use mathlib.Core.Path.{◌≡◌}
 use borrow.Author.Rules.{rules}
 use Rattle.messages.proofs.Named.{named-rest}
 use Rattle.record.specs.Reading.{record_refusal}
-use Rattle.record.proofs.Answered.{answered-size, answered-early, answered-refused, refused-record, number-0}
+use Rattle.record.proofs.Answered.{answered-size, refused-record, number-0}
 use Rattle.delivery.proofs.Steps.{refuse-kind, named-zero}
 use Rattle.delivery.proofs.deliver.Goals as goal
 use Rattle.delivery.proofs.deliver.Goals.{In_ok-look}

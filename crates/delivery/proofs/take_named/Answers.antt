@@ -1,5 +1,5 @@
 -- `delivery::take_named` meets its contract. Assumes nothing.
-use mathlib.Core.Path.{◌≡◌, refl, sym, ◌∙◌}
+use mathlib.Core.Path.{refl, sym, ◌∙◌}
 use native.Mathlib.Omega.{arith}
 use Rattle.delivery.proofs.Steps.{unplaced, by_bit}
 use Rattle.delivery.proofs.take_named.Goals as goal

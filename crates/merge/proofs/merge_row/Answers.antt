@@ -1,6 +1,5 @@
 -- `merge::merge_row` meets its contract: its tests are the rows of the table, in order. Assumes nothing.
 use mathlib.Core.Path.{refl, sym, ◌∙◌}
-use borrow.Author.Rules.{rules}
 use borrow.Author.Tests.{eq-eqb, ne_eqb}
 use native.Mathlib.Omega.{arith}
 use Rattle.protocol.specs.Calls.{rows, refusal}
