@@ -47,13 +47,8 @@ fn deliver_meet(rec: &mut Record, m: Message) -> Result<(), Refusal>
     ensures { outcome result rec.new ≡ called rec.old (delivering (name 1 m.to m.about m.level m.side)) }
 {
     take_named(rec, Message { kind: 1, ..m })?;
-    meet(
-        rec,
-        &mut Index::new(),
-        m.to as usize,
-        m.about as usize,
-        m.level as usize,
-    );
+    let (to, about, level) = (m.to as usize, m.about as usize, m.level as usize);
+    meet(rec, &mut Index::new(), to, about, level);
     Ok(())
 }
 
@@ -62,13 +57,8 @@ fn deliver_probe(rec: &mut Record, m: Message) -> Result<(), Refusal>
     ensures { outcome result rec.new ≡ called rec.old (delivering (name 2 m.to m.about m.level m.side)) }
 {
     take_named(rec, Message { kind: 2, ..m })?;
-    probe(
-        rec,
-        &mut Index::new(),
-        m.to as usize,
-        m.about as usize,
-        m.level as usize,
-    );
+    let (to, about, level) = (m.to as usize, m.about as usize, m.level as usize);
+    probe(rec, &mut Index::new(), to, about, level);
     Ok(())
 }
 
@@ -77,14 +67,9 @@ fn deliver_pull(rec: &mut Record, m: Message) -> Result<(), Refusal>
     ensures { outcome result rec.new ≡ called rec.old (delivering (name 3 m.to m.about m.level m.side)) }
 {
     take_named(rec, Message { kind: 3, ..m })?;
-    pull(
-        rec,
-        &mut Index::new(),
-        m.to as usize,
-        m.about as usize,
-        m.level as usize,
-        Side::of_number(m.side as usize),
-    );
+    let (to, about, level) = (m.to as usize, m.about as usize, m.level as usize);
+    let side = Side::of_number(m.side as usize);
+    pull(rec, &mut Index::new(), to, about, level, side);
     Ok(())
 }
 
@@ -93,13 +78,9 @@ fn deliver_going(rec: &mut Record, m: Message) -> Result<(), Refusal>
     ensures { outcome result rec.new ≡ called rec.old (delivering (name 4 m.to m.about m.level m.side)) }
 {
     take_named(rec, Message { kind: 4, ..m })?;
-    going(
-        rec,
-        &mut Index::new(),
-        m.to as usize,
-        m.level as usize,
-        Side::of_number(m.side as usize),
-    );
+    let (to, level) = (m.to as usize, m.level as usize);
+    let side = Side::of_number(m.side as usize);
+    going(rec, &mut Index::new(), to, level, side);
     Ok(())
 }
 
@@ -108,13 +89,8 @@ fn deliver_seek(rec: &mut Record, m: Message) -> Result<(), Refusal>
     ensures { outcome result rec.new ≡ called rec.old (delivering (name 5 m.to m.about m.level m.side)) }
 {
     take_named(rec, Message { kind: 5, ..m })?;
-    seek(
-        rec,
-        &mut Index::new(),
-        m.to as usize,
-        m.about as usize,
-        m.level as usize,
-    );
+    let (to, about, level) = (m.to as usize, m.about as usize, m.level as usize);
+    seek(rec, &mut Index::new(), to, about, level);
     Ok(())
 }
 
@@ -123,7 +99,8 @@ fn deliver_found(rec: &mut Record, m: Message) -> Result<(), Refusal>
     ensures { outcome result rec.new ≡ called rec.old (delivering (name 6 m.to m.about m.level m.side)) }
 {
     take_named(rec, Message { kind: 6, ..m })?;
-    found(rec, m.to as usize, m.about as usize, m.level as usize);
+    let (to, about, level) = (m.to as usize, m.about as usize, m.level as usize);
+    found(rec, to, about, level);
     Ok(())
 }
 
@@ -132,12 +109,9 @@ fn deliver_none(rec: &mut Record, m: Message) -> Result<(), Refusal>
     ensures { outcome result rec.new ≡ called rec.old (delivering (name 7 m.to m.about m.level m.side)) }
 {
     take_named(rec, Message { kind: 7, ..m })?;
-    none(
-        rec,
-        m.to as usize,
-        m.level as usize,
-        Side::of_number(m.side as usize),
-    );
+    let (to, level) = (m.to as usize, m.level as usize);
+    let side = Side::of_number(m.side as usize);
+    none(rec, to, level, side);
     Ok(())
 }
 

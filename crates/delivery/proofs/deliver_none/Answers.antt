@@ -23,4 +23,4 @@ pub returns : goal.returns
 returns c =
     let m = c.args.m in
     carried-out c.args.rec.now c.requires (none-kind m.to m.about m.level m.side) c.in_ok-take_named.ensures.taken refl (λ i. search rules)
-    (rw c.of_number.ensures at c.none.ensures)
+    (rw c.of_number-side.ensures at c.none.ensures)
