@@ -66,7 +66,7 @@ fn clear_seat(rec: &mut Record, set: u64, s: usize)
     ensures { Step (freed_to set s (link_place s 0 0)) (freed_to set (s + 1) (link_place s 0 0)) rec.old rec.new }
 {
     if in_set(set, s) {
-        record::fill(rec, s, State::Free, 0, 0);
+        record::fill(rec, s, State::Free as u8, 0, 0);
     }
 }
 

@@ -18,7 +18,7 @@ ghost use Rattle.messages.specs.inner.Places.{place_of};
 
 use graph::Side;
 use index::Index;
-use messages::{Message, place_of};
+use messages::{Message, message_place};
 use record::Record;
 use record::refusals::Refusal;
 use rules::{found, going, meet, none, probe, pull, seek};
@@ -31,7 +31,7 @@ fn take_named(rec: &mut Record, m: Message) -> Result<(), Refusal>
         (is_ok result ≡ is_pending (meaning l).pending n) × (rec.new ≡ cond (is_ok result) (clear_bit l pending_from (place_of n)) l) }
     ensures refused { IfErr result (λ r. r ≡ NoSuchMessage) }
 {
-    match place_of(m) {
+    match message_place(m) {
         Some(i) if record::is_pending(rec, i) => {
             record::take(rec, i);
             Ok(())

@@ -80,7 +80,7 @@ pub fn join(rec: &mut [u8], seat: u8, number: u64, vector: u8, contact: u8) -> R
     let s = seat as usize;
     let c = contact as usize;
     join_refusal(rec, s, number, c)?;
-    fill(rec, s, State::Staying, number, vector);
+    fill(rec, s, State::Staying as u8, number, vector);
     greet(rec, s, c);
     Ok(())
 }

@@ -135,14 +135,10 @@ fn side_fits(to: usize, about: usize, level: usize, side: usize) -> bool
 }
 
 // The place of the message that five numbers name, if they name one.
-pub fn place_of(m: Message) -> Option<usize>
-    ensures { IsPlace result (place_of (named (numbers m))) }
+pub fn place_of(kind: u8, to: usize, about: usize, level: usize, side: usize) -> Option<usize>
+    ensures { IsPlace result (place_of (named (name kind to about level side))) }
 {
-    let to = m.to as usize;
-    let about = m.about as usize;
-    let level = m.level as usize;
-    let side = m.side as usize;
-    match m.kind {
+    match kind {
         1 => if pair_fits(to, about, level, side, LEVELS) {
             Some(meet_place(to, about, level))
         } else {
@@ -180,6 +176,19 @@ pub fn place_of(m: Message) -> Option<usize>
         },
         0 | 8..=255 => None,
     }
+}
+
+// The same of a message.
+pub fn message_place(m: Message) -> Option<usize>
+    ensures { IsPlace result (place_of (named (numbers m))) }
+{
+    place_of(
+        m.kind,
+        m.to as usize,
+        m.about as usize,
+        m.level as usize,
+        m.side as usize,
+    )
 }
 
 // A message that names two lots and a level, by its pair of lots and its level.

@@ -18,7 +18,7 @@ pub mod next;
 mod opening;
 
 use graph::Side;
-use messages::{Message, place_of};
+use messages::{Message, message_place};
 use opening::no_links;
 use record::lots::{is_seated, is_taken, link};
 use record::refusals::Refusal;
@@ -122,7 +122,7 @@ pub fn read_message(rec: &[u8], message: Message) -> Result<bool, Refusal>
     ensures { message_numbers result ≡ read_message rec.now (numbers message) }
 {
     let rec = sound_record(rec)?;
-    Ok(place_of(message).is_some_and(|i| record::is_pending(rec, i)))
+    Ok(message_place(message).is_some_and(|i| record::is_pending(rec, i)))
 }
 
 // How many lots are seated.

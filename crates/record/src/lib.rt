@@ -21,7 +21,8 @@ pub mod states;
 use graph::Side;
 use states::{PHASES, Phase, STATES, State};
 
-// The seats, the width of a vector, and the levels that it gives.
+// The seats, the width of a vector, and the levels that it gives. A level is a number: what it is below differs from call to call (the levels, the
+// width, the width and one), and a probe goes from one bound to the next, so that a type for each would be no plainer.
 pub const SEATS: usize = 64;
 
 pub const WIDTH: usize = graph::WIDTH as usize;
@@ -86,6 +87,13 @@ pub const PENDING_SIZE: usize = MESSAGES / BYTE_BITS;
 // The byte of a link that is none.
 pub const NONE: u8 = 255;
 
+// The byte of the phase, whether or not it is that of a phase.
+pub fn byte_of_phase(rec: &Record) -> u8
+    ensures { result ≡ get_or rec.now phase_at 0 }
+{
+    rec[PHASE]
+}
+
 // The phase.
 pub fn phase(rec: &Record) -> Phase
     ensures { as_phase result ≡ (seats_in rec.now).phase }
@@ -103,7 +111,15 @@ pub fn set_phase(rec: &mut Record, phase: Phase)
 pub fn phase_fits(rec: &Record) -> bool
     ensures { result ≡ phase_fits rec.now }
 {
-    rec[PHASE] < PHASES
+    byte_of_phase(rec) < PHASES
+}
+
+// The byte of the state of seat s, whether or not it is that of a state.
+pub fn byte_of_state(rec: &Record, s: usize) -> u8
+    requires { s < seats }
+    ensures { result ≡ get_or rec.now (state_at s) 0 }
+{
+    rec[ENTRIES + ENTRY * s + STATE_AT]
 }
 
 // The state of seat s.
@@ -126,7 +142,7 @@ pub fn state_fits(rec: &Record, s: usize) -> bool
     requires { s < seats }
     ensures { result ≡ ltb (get_or rec.now (state_at s) 0) states }
 {
-    rec[ENTRIES + ENTRY * s + STATE_AT] < STATES
+    byte_of_state(rec, s) < STATES
 }
 
 // The number of the lot on seat s.
@@ -159,12 +175,12 @@ fn set_vector(rec: &mut Record, s: usize, v: u8)
     rec[ENTRIES + ENTRY * s + VECTOR_AT] = v;
 }
 
-// Writes state, number and vector of seat s.
-pub fn fill(rec: &mut Record, s: usize, state: State, number: u64, vector: u8)
+// Writes state, number and vector of seat s, the state as its byte.
+pub fn fill(rec: &mut Record, s: usize, state: u8, number: u64, vector: u8)
     requires { s < seats }
-    ensures { rec.new ≡ filled rec.old s (state_byte (as_state state)) number vector }
+    ensures { rec.new ≡ filled rec.old s state number vector }
 {
-    set_state(rec, s, state);
+    rec[ENTRIES + ENTRY * s + STATE_AT] = state;
     set_number(rec, s, number);
     set_vector(rec, s, vector);
 }

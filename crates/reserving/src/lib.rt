@@ -81,7 +81,7 @@ pub fn reserve(rec: &mut [u8], seat: u8, number: u64, vector: u8) -> Result<(), 
     };
     let s = seat as usize;
     reserve_refusal(rec, s, number)?;
-    fill(rec, s, State::Reserved, number, vector);
+    fill(rec, s, State::Reserved as u8, number, vector);
     Ok(())
 }
 
@@ -110,6 +110,6 @@ pub fn give_back(rec: &mut [u8], seat: u8) -> Result<(), Refusal>
     };
     let s = seat as usize;
     give_back_refusal(rec, s)?;
-    fill(rec, s, State::Free, 0, 0);
+    fill(rec, s, State::Free as u8, 0, 0);
     Ok(())
 }

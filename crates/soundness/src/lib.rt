@@ -61,10 +61,13 @@ pub fn sized_refusal(rec: &Record, from: usize) -> Result<(), Refusal>
 
 // The look in front of a call that asks whether something is pending: the refusal of an unsound record, else its first pending place. The pending bits
 // are gone through once.
-pub fn look(rec: &Record) -> Result<Option<usize>, Refusal>
+pub fn look(rec: &[u8]) -> Result<Option<usize>, Refusal>
     ensures refused { number_of result ≡ record_refusal rec.now }
     ensures first { IfOk result (λ first. IsPlace first (first_pending rec.now 0)) }
 {
+    let Some(rec) = rec.as_array() else {
+        return Err(Refusal::WrongSize);
+    };
     let first = first_pending(rec, 0);
     sized_refusal(rec, first.unwrap_or(MESSAGES))?;
     Ok(first)

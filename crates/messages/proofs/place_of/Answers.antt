@@ -1,52 +1,11 @@
 -- `messages::place_of` meets its contract, kind by kind. Assumes nothing.
-use mathlib.Core.Path.{sym, ◌∙◌}
-use lib.Dec.{eqb, ltb, ltb→lt}
 use Rattle.base.proofs.Cases.{and_assoc}
-use Rattle.base.proofs.Tests.{true-T, and-fst, and-snd}
 use Rattle.protocol.specs.Message.{named}
 use Rattle.protocol.specs.Numbering.{exists}
 use Rattle.messages.specs.inner.Places.{place_of}
 use Rattle.messages.proofs.Named.{named-meet, named-probe, named-pull, named-going, named-seek, named-found, named_none}
-use Rattle.messages.proofs.Named.{named-rest, named-place, three-below}
+use Rattle.messages.proofs.Named.{named-rest, named-place}
 use Rattle.messages.proofs.place_of.Goals as goal
-
-pub meet_place-requires : goal.meet_place-requires
-meet_place-requires c = let a = c.args.m in
-    let t = true-T (sym c.pair_fits.ensures ∙ c.if-pair_fits.true) in
-    three-below a.to a.about a.level _ _ _ (and-snd (eqb a.side 0) _ t)
-
-pub probe_place-requires : goal.probe_place-requires
-probe_place-requires c = let a = c.args.m in
-    let t = true-T (sym c.pair_fits-in-2.ensures ∙ c.if-pair_fits-2.true) in
-    three-below a.to a.about a.level _ _ _ (and-snd (eqb a.side 0) _ t)
-
-pub pull_place-requires : goal.pull_place-requires
-pull_place-requires c = let a = c.args.m in
-    let t = true-T (sym c.pull_fits.ensures ∙ c.if-pull_fits.true) in
-    let p = three-below a.side a.to a.level _ _ _ (and-snd (ltb a.about 2) _ t) in
-    (p.1, ltb→lt a.about 2 (and-fst (ltb a.about 2) _ t), p.2)
-
-pub going_place-requires : goal.going_place-requires
-going_place-requires c = let a = c.args.m in
-    let t = true-T (sym c.side_fits.ensures ∙ c.if-side_fits.true) in
-    let p = three-below a.side a.to a.level _ _ _ (and-snd (eqb a.about 0) _ t) in
-    (p.1, p.2)
-
-pub seek_place-requires : goal.seek_place-requires
-seek_place-requires c = let a = c.args.m in
-    let t = true-T (sym c.pair_fits-in-5.ensures ∙ c.if-pair_fits-3.true) in
-    three-below a.to a.about a.level _ _ _ (and-snd (eqb a.side 0) _ t)
-
-pub found_place-requires : goal.found_place-requires
-found_place-requires c = let a = c.args.m in
-    let t = true-T (sym c.pair_fits-in-6.ensures ∙ c.if-pair_fits-4.true) in
-    three-below a.to a.about a.level _ _ _ (and-snd (eqb a.side 0) _ t)
-
-pub none_place-requires : goal.none_place-requires
-none_place-requires c = let a = c.args.m in
-    let t = true-T (sym c.side_fits-in-7.ensures ∙ c.if-side_fits-2.true) in
-    let p = three-below a.side a.to a.level _ _ _ (and-snd (eqb a.about 0) _ t) in
-    (p.1, p.2)
 
 pub returns-then-pair_fits : goal.returns-then-pair_fits
 unfolding exists

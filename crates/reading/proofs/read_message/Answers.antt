@@ -15,4 +15,4 @@ unfolding number_of
 returns c =
     let l = c.args.rec.now in
     message-value _ _ _ c.in_ok-rec.ensures.refused
-    (pending-found l _ c.place_of.result c.is_some_and.result _ c.place_of.ensures c.is_some_and.ensures (λ i q. search (rules, tests)))
+    (pending-found l _ c.message_place.result c.is_some_and.result _ c.message_place.ensures c.is_some_and.ensures (λ i q. search (rules, tests)))

@@ -3,4 +3,4 @@ use Rattle.record.proofs.fill.Goals as goal
 
 pub returns : goal.returns
 returns c =
-    rw (c.set_vector.ensures, c.set_number.ensures, c.set_state.ensures)
+    rw (c.set_vector.ensures, c.set_number.ensures)

@@ -5,4 +5,4 @@ use Rattle.record.proofs.phase_fits.Goals as goal
 
 pub returns : goal.returns
 unfolding phase_fits
-returns c = refl
+returns c = rw c.byte_of_phase.ensures refl
