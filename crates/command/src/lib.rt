@@ -15,6 +15,9 @@ const ZERO: u8 = b'0';
 
 const BASE: u64 = 10;
 
+// The bytes of the longest command, `J` with four numbers: no more of a line is looked at.
+const LONGEST: usize = 34;
+
 // The largest vector.
 const VECTOR_MAX: u64 = (1 << graph::WIDTH) - 1;
 
@@ -200,6 +203,9 @@ fn find(fields: &mut Fields) -> Option<Command>
 pub fn parse(line: &[u8]) -> Option<Command>
     ensures { as_command result ≡ parsed line.now }
 {
+    if line.len() > LONGEST {
+        return None;
+    }
     let mut fields = Fields { rest: Some(line) };
     let [letter] = fields.take()? else {
         return None;

@@ -42,18 +42,6 @@ struct Session {
 }
 
 impl Session {
-    // A record just opened.
-    fn new() -> Session {
-        let mut rec = [0u8; record::SIZE];
-        let _ = reading::open(&mut rec);
-        Session {
-            rec,
-            line: [0; LINE],
-            kept: 0,
-            out: [0; ROOM],
-        }
-    }
-
     // Writes the first n bytes of the answer.
     fn write(&self, rt: &HostRuntime, n: usize) -> Result<(), Stop> {
         let answer = self.out.get(..n).ok_or(Stop::WriteFailed)?;
@@ -101,7 +89,15 @@ impl Session {
 }
 
 fn main(rt: HostRuntime) -> ExitCode {
-    match Session::new().run(&rt) {
+    // built where it stays: a function that gave it back would have it copied, and the stack would hold it twice
+    let mut session = Session {
+        rec: [0; record::SIZE],
+        line: [0; LINE],
+        kept: 0,
+        out: [0; ROOM],
+    };
+    let _ = reading::open(&mut session.rec);
+    match session.run(&rt) {
         Ok(()) => ExitCode::SUCCESS,
         Err(stop) => {
             let _ = eprintln!(rt; "lots: {stop}");
