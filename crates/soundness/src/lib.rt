@@ -59,8 +59,8 @@ pub fn sized_refusal(rec: &Record, from: usize) -> Result<(), Refusal>
     }
 }
 
-// The look in front of a call that asks whether something is pending: the refusal of an unsound record, else its first pending place. The pending bits
-// are gone through once.
+// The look in front of a changing call and of a scan: the refusal of an unsound record, else its first pending place, for those that ask whether
+// something is pending. The pending bits are gone through once.
 pub fn look(rec: &[u8]) -> Result<Option<usize>, Refusal>
     ensures refused { number_of result ≡ record_refusal rec.now }
     ensures first { IfOk result (λ first. IsPlace first (first_pending rec.now 0)) }
@@ -73,7 +73,7 @@ pub fn look(rec: &[u8]) -> Result<Option<usize>, Refusal>
     Ok(first)
 }
 
-// The bytes as a sound record, in front of every call but open: refused as of another size, or as unsound.
+// The bytes as a sound record, in front of the readings and the check: refused as of another size, or as unsound.
 pub fn sound_record(rec: &[u8]) -> Result<&Record, Refusal>
     ensures refused { number_of result ≡ record_refusal rec.now }
     ensures same { IfOk result (λ r. r.now ≡ rec.now) }
