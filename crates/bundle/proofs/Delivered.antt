@@ -89,17 +89,17 @@ module _ (l x : List ℕ) (fine : record_refusal l ≡ 0) (b : AreBytes l) {w : 
     place-within = rw at_place (place-below l r.word)
 
     -- the steps: the message there is taken, which leaves y; the word is struck out if that was its last; and the rule is done
-    module _ {y z y' z' : List ℕ} {last : Bool}
+    module _ {y z y' z' : List ℕ} {u u' : ℕ} {last : Bool}
         (ey : y ≡ clear_bit l pending_from (w * 64 + k)) (el : last ≡ not (word_set y pending_from w))
-        (s : IsStruck x w last z)
-        (out : let n = message_at seats width (w * 64 + k) in indexed y' z' ≡ carried (name_of n).to (rule width (meaning y) n) (indexed y z)) where
+        (s : IsStruck x w last z u)
+        (out : let n = message_at seats width (w * 64 + k) in indexed y' z' u' ≡ carried (name_of n).to (rule width (meaning y) n) (indexed y z u)) where
       y-taken : y ≡ clear_bit l pending_from i
       y-taken = ey ∙ ap (clear_bit l pending_from) at_place
 
       taken : y ≡ clear_bit l pending_from (place seats width m)
       taken = y-taken ∙ ap (clear_bit l pending_from) (sym (place_at i (place-below l r.word)))
 
-      out-here : indexed y' z' ≡ carried (name_of m).to (rule width (meaning y) m) (indexed y z)
+      out-here : indexed y' z' u' ≡ carried (name_of m).to (rule width (meaning y) m) (indexed y z u)
       out-here = rw at_place at out
 
       left : y' ≡ (called l (deliver (name_of m))).after
@@ -108,7 +108,7 @@ module _ (l x : List ℕ) (fine : record_refusal l ≡ 0) (b : AreBytes l) {w : 
           ap (λ (o : Outcome (List ℕ)). o.after)
           (delivered l (name_of m) fine (rw (named-name m) is-pending)
           (ap (λ (o : Indexed). o.bytes) out-here
-          ∙ carried-bytes (name_of m).to (rule width (meaning y) m) (indexed y z)
+          ∙ carried-bytes (name_of m).to (rule width (meaning y) m) (indexed y z u)
           ∙ deliver-bytes form sound (name_of m) m (named-name m) (true-T is-pending) taken))
 
       rule-here : rule width (meaning y) m ≡ rule width (meaning l) m
@@ -121,15 +121,15 @@ module _ (l x : List ℕ) (fine : record_refusal l ≡ 0) (b : AreBytes l) {w : 
       sized = changed-length (name_of m).to _ y ∙ ap length y-taken ∙ length-put_bit l pending_from i _ ∙ passed.sized
 
       -- what the index says: the message is taken, the link is written, and messages are sent
-      goes_on : (reach : ℕ) → Tracks l x reach → Tracks y' z' reach
+      goes_on : {t : ℕ} (reach : ℕ) → Tracks l x t reach → Tracks y' z' u' reach
       unfolding carried
       goes_on reach h =
           let word_of : w ≡ i / 64 = omega (arith, r.first, bit_below l r.word) in
-          let struck : IsStruck x w (not (word_set (clear_bit l pending_from i) pending_from w)) z = rw (← y-taken, ← el) s in
-          let t₁ : Tracks y z reach = rw y-taken (tracks-taken h w i word_of struck) in
+          let struck : IsStruck x w (not (word_set (clear_bit l pending_from i) pending_from w)) z u = rw (← y-taken, ← el) s in
+          let t₁ : Tracks y z u reach = rw y-taken (tracks-taken h w i word_of struck) in
           let e = rule width (meaning y) m in
           let t₂ = tracks_same t₁ (λ v p. changed-words (name_of m).to e.change y (to-seat m is-message) (rule-level (meaning y) m is-message) v) in
-          subst (λ (o : Indexed). Tracks o.bytes o.index reach) (sym out-here) (tracks-sends e.sent sent-here sized t₂)
+          subst (λ (o : Indexed). Tracks o.bytes o.index o.top reach) (sym out-here) (tracks-sends e.sent sent-here sized t₂)
 
-      pub is-delivered : IsDelivered l x y' z'
+      pub is-delivered : {t : ℕ} → IsDelivered l x t y' z' u'
       is-delivered = record { message = m; least = least l r.word; bytes = left; goes_on = goes_on }

@@ -32,10 +32,10 @@ use Rattle.bundle.specs.inner.Steps.{first_word, Tracks, IsDelivered}
 use Rattle.bundle.proofs.Ready.{started}
 
 -- n deliveries of the bundle of a limit on l₀ left l
-pub record Going (l₀ : List ℕ) (limit : ℕ) (l x : List ℕ) (reach n : ℕ) : Type 0 where
+pub record Going (l₀ : List ℕ) (limit : ℕ) (l x : List ℕ) (t reach n : ℕ) : Type 0 where
   pub fine : Fine l
   pub count : n ≤ limit
-  pub tracks : Tracks l x reach
+  pub tracks : Tracks l x t reach
   pub rest : bundled l₀ limit
       ≡ record { refused = 0; delivered = n + (bundled l (limit - n)).delivered; after = (bundled l (limit - n)).after }
 
@@ -46,7 +46,7 @@ refused-number l limit = refl
 
 -- no delivery yet
 pub going-first : (l : List ℕ) (limit : ℕ) {x : List ℕ} {from : ℕ} → record_refusal l ≡ 0 → AreBytes l
-    → ((i : ℕ) → get_or x i 0 ≡ 0) → length x ≡ parts → from ≤ first_word l → Going l limit l x from 0
+    → ((i : ℕ) → get_or x i 0 ≡ 0) → length x ≡ parts → from ≤ first_word l → Going l limit l x 0 from 0
 going-first l limit {x} {from} e b z p h = record {
   fine = record { passed = e; bytes = b };
   count = omega arith;
@@ -58,7 +58,7 @@ going-first l limit {x} {from} e b z p h = record {
       (ap (λ (r : ℕ). record { refused = r; delivered = o.delivered; after = o.after }) (refused-number l limit ∙ e));
 }
 
-module _ {l₀ : List ℕ} {limit : ℕ} {l x : List ℕ} {reach n : ℕ} (g : Going l₀ limit l x reach n) where
+module _ {l₀ : List ℕ} {limit : ℕ} {l x : List ℕ} {t reach n : ℕ} (g : Going l₀ limit l x t reach n) where
   -- by what is still to be done
   rest-is : {o : BundleOutcome} → bundled l (limit - n) ≡ o
       → bundled l₀ limit ≡ record { refused = 0; delivered = n + o.delivered; after = o.after }
@@ -80,8 +80,8 @@ module _ {l₀ : List ℕ} {limit : ℕ} {l x : List ℕ} {reach n : ℕ} (g : G
       ap (λ (d : ℕ). record { refused = 0; delivered = d; after = l }) (sym h) ∙ ends (ap (bundled l) z ∙ bundle-zero l)
 
   -- the smallest message is delivered
-  pub going_on : {x₁ : List ℕ} {reach₁ : ℕ} {y z : List ℕ} → n < limit → Tracks l x₁ reach₁
-      → IsDelivered l x₁ y z → Going l₀ limit y z reach₁ (n + 1)
+  pub going_on : {x₁ : List ℕ} {t₁ reach₁ : ℕ} {y z : List ℕ} {u : ℕ} → n < limit → Tracks l x₁ t₁ reach₁
+      → IsDelivered l x₁ t₁ y z u → Going l₀ limit y z u reach₁ (n + 1)
   going_on {reach₁ = reach₁} {y = y} h k d = record {
     fine = subst Fine (sym d.bytes) (delivery-fine l g.fine (name_of d.message));
     count = omega arith;

@@ -10,11 +10,11 @@ use lib.Dec.{ltb}
 use borrow.Author.Tests.{ltb-true, ltb-false}
 use Rattle.std.specs.Prelude as code
 use Rattle.std.specs.Prelude.{Some, None, MatchOption}
-use lib.ListN.{length, get_or, length-set}
+use lib.ListN.{length, get_or}
 use Rattle.base.specs.Loops.{first_from}
 use Rattle.base.proofs.Cases.{lt-or-ge, eq-or-ne}
 use Rattle.base.proofs.Tests.{T_true, true-false, not-T-false}
-use Rattle.memory.specs.Bits.{bit_set}
+use Rattle.memory.specs.Bits.{bit_set, with_bit}
 use Rattle.memory.specs.inner.Words.{word_set}
 use Rattle.base.proofs.First.{IsFirst, first, first-is, first_any}
 use Rattle.memory.proofs.Words.{bit_word, word-clear, clear-word-bits}
@@ -27,7 +27,7 @@ use Rattle.record.proofs.Form.{meaning-bit}
 use Rattle.messages.specs.inner.Numbers.{first_pending}
 use Rattle.messages.proofs.First.{first-pending-bit, first-smallest, first-none, first-of-all}
 use Rattle.index.specs.inner.Index.{words, parts, is_noted, noting, first_noted}
-use Rattle.index.proofs.Noted.{noted-same, noted_other, none-noted}
+use Rattle.index.proofs.Noted.{noted-same, noted_other, note-exact, none-noted, exact_none}
 use Rattle.bundle.specs.inner.Steps.{first_word, Tracks, IsReady}
 
 -- a test that does not pass
@@ -35,8 +35,8 @@ fails : {b : Bool} → (b ≡ true → ⊥) → b ≡ false
 fails h = not-T-false (λ t. h (T_true t))
 
 -- a noted word is below the reach: the first noted one is the first that has a message
-pub ready : {l x : List ℕ} {reach w : ℕ} → Tracks l x reach → w ≡ first_noted x → w < reach → IsReady l x w
-ready {l} {x} {reach} {w} k e h = record {
+pub ready : {l x : List ℕ} {t reach w : ℕ} → Tracks l x t reach → w ≡ first_noted x → w < reach → IsReady l x w
+ready {l} {x} {reach = reach} {w} k e h = record {
   word = rw (sym is-first) (omega (arith, k.within));
   first = e ∙ is-first;
   noted = rw e is-noted;
@@ -63,8 +63,8 @@ IsBelow reach o b = MatchOption o (b ≡ false) (λ w. b ≡ ltb w reach)
 abbrev pub IsFirstNoted : List ℕ → code.Option ℕ → Type 0
 IsFirstNoted x o = MatchOption o ((w : ℕ) → w < parts * 64 → is_noted x w ≡ false) (λ w. (w ≡ first_noted x) × (w < parts * 64))
 
-pub noted-ready : {l x : List ℕ} {reach : ℕ} {b : Bool} (A : Type 0) → Tracks l x reach → (o : code.Option ℕ) → IsFirstNoted x o → IsBelow reach o b
-    → b ≡ true → MatchOption o A (λ w. Tracks l x reach × IsReady l x w)
+pub noted-ready : {l x : List ℕ} {t reach : ℕ} {b : Bool} (A : Type 0) → Tracks l x t reach → (o : code.Option ℕ) → IsFirstNoted x o → IsBelow reach o b
+    → b ≡ true → MatchOption o A (λ w. Tracks l x t reach × IsReady l x w)
 noted-ready A k None f e t = true-false t e
 noted-ready {reach = reach} A k (Some w) f e t = (k, ready k f.0 (ltb-true w reach (sym e ∙ t)))
 
@@ -76,7 +76,7 @@ none-below x {reach} h (Some r) f e t w l =
     (first (parts * 64) 0 (is_noted x)).before w (omega arith) (omega (arith, f.0))
 
 -- no word below the reach is noted: i is the first place from there on whose message is pending
-module _ {l x : List ℕ} {reach i : ℕ} (k : Tracks l x reach) (none_below : (w : ℕ) → w < reach → is_noted x w ≡ false)
+module _ {l x : List ℕ} {t reach i : ℕ} (k : Tracks l x t reach) (none_below : (w : ℕ) → w < reach → is_noted x w ≡ false)
     (e : i ≡ first_pending l (reach * 64)) where
   at : IsFirst (messages - reach * 64) (reach * 64) (bit_set l pending_from) i
   at = rw (e, ← first-pending-bit l (reach * 64) (omega (arith, k.within))) (first (messages - reach * 64) (reach * 64) (bit_set l pending_from))
@@ -94,11 +94,11 @@ module _ {l x : List ℕ} {reach i : ℕ} (k : Tracks l x reach) (none_below : (
   -- there is one: its word is noted, and the reach is after it
   module _ (h : i < messages) where
     room : i / 64 / 64 < length x
-    room = omega (arith, k.long)
+    room = omega (arith, k.exact.long)
 
-    pub extended : Tracks l (noting x (i / 64) true) (i / 64 + 1)
+    pub extended : Tracks l (noting x (i / 64) true) (with_bit t (i / 64 / 64) true) (i / 64 + 1)
     extended = record {
-      long = length-set x (i / 64 / 64) _ ∙ k.long;
+      exact = note-exact (i / 64) (omega arith) k.exact;
       within = omega arith;
       has = λ w p n. ⊎_elim (λ q. has-own w q) (λ ne. k.has w p (sym (noted_other x (i / 64) true room w ne) ∙ n)) (eq-or-ne w (i / 64));
       all = λ w p s. ⊎_elim (λ q. rw q own) (λ ne. true-false s (before w (omega (arith, ne)))) (eq-or-ne w (i / 64));
@@ -131,11 +131,11 @@ module _ {l x : List ℕ} {reach i : ℕ} (k : Tracks l x reach) (none_below : (
   none_left z = first-none l (reach * 64) (λ j h. meaning-bit l j (omega (arith, k.within)) ∙ clear j h) (sym e ∙ z)
 
 -- an index of zeros, where no word below `from` has a message
-pub started : (l x : List ℕ) (from : ℕ) → ((i : ℕ) → get_or x i 0 ≡ 0) → length x ≡ parts → from ≤ first_word l → Tracks l x from
+pub started : (l x : List ℕ) (from : ℕ) → ((i : ℕ) → get_or x i 0 ≡ 0) → length x ≡ parts → from ≤ first_word l → Tracks l x 0 from
 started l x from z e h =
     let f = first words 0 (word_set l pending_from) in
     record {
-      long = e;
+      exact = exact_none x z e;
       within = omega (arith, f.high);
       has = λ w p n. true-false n (none-noted x z w);
       all = λ w p s. true-false s (f.before w (omega arith) (omega arith));

@@ -14,7 +14,7 @@ ghost use Rattle.record.specs.Layout.{seats, messages};
 ghost use Rattle.record.specs.Meaning.{meaning};
 ghost use Rattle.record.specs.Reading.{record_refusal};
 ghost use Rattle.record.specs.Bundle.{bundled};
-ghost use Rattle.index.specs.inner.Index.{words, is_noted};
+ghost use Rattle.index.specs.inner.Index.{words, is_noted, Exact};
 ghost use Rattle.rules.specs.inner.Done.{indexed, carried};
 ghost use Rattle.bundle.specs.Answer.{bundle_outcome};
 ghost use Rattle.bundle.specs.inner.Steps.{first_word, Tracks, IsStruck, IsReady, IsDelivered};
@@ -31,8 +31,8 @@ use soundness::look;
 // each takes away where its own block starts.
 fn carry_out(rec: &mut Record, index: &mut Index, i: usize)
     requires { i < messages }
-    ensures { let m = message_at seats width i in indexed rec.new index.new
-        ≡ carried (name_of m).to (rule width (meaning rec.old) m) (indexed rec.old index.old) }
+    ensures { let m = message_at seats width i in indexed rec.new index.new.numbers index.new.top
+        ≡ carried (name_of m).to (rule width (meaning rec.old) m) (indexed rec.old index.old.numbers index.old.top) }
 {
     if i < PROBES {
         let pair = i / LEVELS;
@@ -84,8 +84,8 @@ fn carry_out(rec: &mut Record, index: &mut Index, i: usize)
 
 // Strikes word w out of the index if its last message is taken.
 fn strike_last(index: &mut Index, w: usize, last: bool)
-    requires { (w < words) × (is_noted index.old w ≡ true) }
-    ensures { IsStruck index.old w last index.new }
+    requires { Exact index.old.numbers index.old.top × (w < words) × (is_noted index.old.numbers w ≡ true) }
+    ensures { IsStruck index.old.numbers w last index.new.numbers index.new.top }
 {
     if last {
         index.strike(w);
@@ -94,8 +94,8 @@ fn strike_last(index: &mut Index, w: usize, last: bool)
 
 // Delivers the smallest message: the first of word w, which is the first that has one.
 fn deliver_first(rec: &mut Record, index: &mut Index, w: usize)
-    requires { (record_refusal rec.old ≡ 0) × IsReady rec.old index.old w }
-    ensures { IsDelivered rec.old index.old rec.new index.new }
+    requires { (record_refusal rec.old ≡ 0) × Exact index.old.numbers index.old.top × IsReady rec.old index.old.numbers w }
+    ensures { IsDelivered rec.old index.old.numbers index.old.top rec.new index.new.numbers index.new.top }
 {
     let cleared = memory::clear_first(rec, PENDING, w);
     strike_last(index, w, cleared.last);
@@ -105,9 +105,9 @@ fn deliver_first(rec: &mut Record, index: &mut Index, w: usize)
 // The first word that has a pending message, if there is one. Up to `reach` all words that have one are noted; the next one is sought there, and
 // noted, only if none of these is left.
 fn next_word(rec: &Record, index: &mut Index, reach: &mut usize) -> Option<usize>
-    requires { Tracks rec.now index.old reach.old }
+    requires { Tracks rec.now index.old.numbers index.old.top reach.old }
     ensures { MatchOption result (smallest seats width (meaning rec.now).pending ≡ none)
-        (λ w. Tracks rec.now index.new reach.new × IsReady rec.now index.new w) }
+        (λ w. Tracks rec.now index.new.numbers index.new.top reach.new × IsReady rec.now index.new.numbers w) }
 {
     let noted = index.first();
     if noted.is_some_and(|w| w < *reach) {

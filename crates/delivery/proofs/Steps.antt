@@ -76,10 +76,10 @@ module _ (l : List ℕ) (fine : record_refusal l ≡ 0) {n : Name} {m : Msg} (k 
       delivered l n fine (sym t.0 ∙ q) (ey ∙ deliver-bytes s.0 s.1 n m h.1 h.2 taken)
 
   -- with an index beside the record
-  pub carried-noted : AreBytes l → (i : List ℕ) {y j : List ℕ}
-      → indexed y j ≡ carried (name_of m).to (rule width (meaning x) m) (indexed x i) → Told l n (Ok tt) y
-  carried-noted bs i e =
-      carried-out bs (ap (λ (b : Indexed). b.bytes) e ∙ carried-bytes (name_of m).to (rule width (meaning x) m) (indexed x i))
+  pub carried-noted : AreBytes l → (i : List ℕ) (t : ℕ) {y j : List ℕ} {u : ℕ}
+      → indexed y j u ≡ carried (name_of m).to (rule width (meaning x) m) (indexed x i t) → Told l n (Ok tt) y
+  carried-noted bs i t e =
+      carried-out bs (ap (λ (b : Indexed). b.bytes) e ∙ carried-bytes (name_of m).to (rule width (meaning x) m) (indexed x i t))
 
 -- the same found out by the place of the numbers, i
 module _ (l : List ℕ) (n : Name) {i : ℕ} (e : i ≡ place_of (named n)) where

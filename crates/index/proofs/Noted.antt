@@ -1,6 +1,6 @@
 -- The index after a word is noted or struck out: which words are noted then, and its top. Assumes nothing.
 use Prim.Native.Nat.{ℕ, ◌-◌, ◌*◌, ◌/◌, ◌%◌, ◌^◌, ◌≤◌, ◌<◌}
-use mathlib.Core.Path.{◌≡◌, sym, ap, ◌∙◌, subst}
+use mathlib.Core.Path.{◌≡◌, sym, ap, ◌∙◌}
 use mathlib.Core.Logic.{⊎_elim}
 use mathlib.Core.Bool.{Bool, true, false}
 use mathlib.Core.List.{List}
@@ -86,14 +86,6 @@ note-exact {x} {t} w h e =
     let s = noted-some (noting x w true) w (noted-same x w true l) in
     rw s at (noting-exact x w true l e)
 
--- where the number is not 0, the top has its bit already
-pub note-kept : {x : List ℕ} {t : ℕ} (w : ℕ) → w < words → Exact x t → get_or x (w / 64) 0 < 2 ^ 64 → (get_or x (w / 64) 0 ≡ 0 → ⊥)
-    → Exact (noting x w true) t
-note-kept {x} {t} w h e l ne =
-    let s : has_bit t (w / 64) ≡ true = e.tells (w / 64) (omega arith) ∙ some-set (get_or x (w / 64) 0) l ne in
-    let P : ℕ → Type 0 = λ u. Exact (noting x w true) u in
-    subst P (rw (← s) (with_bit-has_bit t (w / 64))) (note-exact w h e)
-
 -- a noted word is struck out: its power is taken off its number, and the power of the number off the top if no bit is left
 module _ {x : List ℕ} {t : ℕ} (w : ℕ) (e : Exact x t) (h : w < words) (n : is_noted x w ≡ true) where
   abbrev rest : ℕ
@@ -118,20 +110,14 @@ module _ {x : List ℕ} {t : ℕ} (w : ℕ) (e : Exact x t) (h : w < words) (n :
   left-is : get_or (set x (w / 64) rest) (w / 64) 0 ≡ rest
   left-is = get_or-set_same x (w / 64) rest 0 (omega (arith, e.long))
 
-  after : Exact (set x (w / 64) rest) (with_bit t (w / 64) (is_some (set x (w / 64) rest) (w / 64)))
-  after = rw struck (noting-exact x w false (omega (arith, e.long)) e)
-
   -- it is 0, or not
-  pub struck-last : left ≡ 0 → Exact (set x (w / 64) rest) (t - (1 * 2 ^ (w / 64)) % 2 ^ 64)
-  struck-last z =
-      let o = one_shifted 64 (w / 64) (omega arith) in
-      rw (o, power-off t (w / 64) top-has) (rw (zero-none left z) at after)
+  pub struck-last : left ≡ 0 → t - (1 * 2 ^ (w / 64)) % 2 ^ 64 ≡ with_bit t (w / 64) (is_some (set x (w / 64) rest) (w / 64))
+  struck-last z = rw (zero-none left z, one_shifted 64 (w / 64) (omega arith)) (power-off t (w / 64) top-has)
 
-  pub struck-more : get_or x (w / 64) 0 < 2 ^ 64 → (left ≡ 0 → ⊥) → Exact (set x (w / 64) rest) t
+  pub struck-more : get_or x (w / 64) 0 < 2 ^ 64 → (left ≡ 0 → ⊥) → t ≡ with_bit t (w / 64) (is_some (set x (w / 64) rest) (w / 64))
   struck-more l ne =
       let s = some-set left (omega (arith, left-is)) ne in
-      let P : ℕ → Type 0 = λ u. Exact (set x (w / 64) rest) u in
-      subst P (rw (← top-has) (with_bit-has_bit t (w / 64))) (rw s at after)
+      rw (s, ← top-has) (sym (with_bit-has_bit t (w / 64)))
 
 -- 0 is the top of an index that notes no word
 pub top-none : {x : List ℕ} {t : ℕ} → Exact x t → t ≡ 0 → (w : ℕ) → w < parts * 64 → is_noted x w ≡ false

@@ -3,14 +3,13 @@
 // the record; no format holds it.
 #![tactic(auto)]
 
-ghost use Rattle.std.specs.Prelude.{◌≡◌, ℕ, List, true, false, ◌*◌, ◌/◌, ◌<◌, replicate, MatchOption};
+ghost use Rattle.std.specs.Prelude.{◌≡◌, ℕ, true, false, ◌*◌, ◌/◌, ◌<◌, replicate, MatchOption};
 ghost use Rattle.base.specs.Loops.{first_from, any};
-ghost use Rattle.memory.specs.Bits.{has_bit};
+ghost use Rattle.memory.specs.Bits.{has_bit, with_bit};
 ghost use Rattle.record.specs.Layout.{messages};
-ghost use Rattle.index.specs.inner.Index.{words, parts, is_noted, noting, first_noted, Exact};
+ghost use Rattle.index.specs.inner.Index.{words, parts, is_noted, noting, first_noted, is_some, Exact};
 
 use record::MESSAGES;
-use std::marker::Model;
 
 // The bits of a word and of a number of the index.
 pub const WORD: usize = 64;
@@ -18,27 +17,19 @@ pub const WORD: usize = 64;
 const WORDS: usize = MESSAGES / WORD;
 
 // How many numbers have a bit for each word: at most as many as the top has bits.
-const SIZE: usize = (WORDS + WORD - 1) / WORD;
+pub const SIZE: usize = (WORDS + WORD - 1) / WORD;
 
+// Any numbers and any top: what reads the top asks that it is exact.
 #[derive(Drop)]
 pub struct Index {
-    numbers: [u64; SIZE],
-    top: u64,
-}
-
-// Contracts see the numbers: they determine the top.
-impl Model for Index {
-    ghost Value = { List ℕ };
-
-    ghost view = { λ x. x.numbers };
-
-    ghost invariant = { λ x. Exact x.numbers x.top };
+    pub numbers: [u64; SIZE],
+    pub top: u64,
 }
 
 impl Index {
     // No word is noted.
     pub fn new() -> Self
-        ensures { result ≡ replicate parts 0 }
+        ensures { (result.numbers ≡ replicate parts 0) × (result.top ≡ 0) }
     {
         Index {
             numbers: [0; SIZE],
@@ -49,21 +40,19 @@ impl Index {
     // Notes the word of place i.
     pub fn note(&mut self, i: usize)
         requires { i < messages }
-        ensures { self.new ≡ noting self.old (i / 64) true }
+        ensures { (self.new.numbers ≡ noting self.old.numbers (i / 64) true) × (self.new.top ≡ with_bit self.old.top (i / 64 / 64) true) }
     {
         let w = i / WORD;
         let k = w / WORD;
-        let x = self.numbers[k];
-        self.numbers[k] = x | 1u64 << (w % WORD);
-        if x == 0 {
-            self.top |= 1u64 << k;
-        }
+        self.numbers[k] |= 1u64 << (w % WORD);
+        self.top |= 1u64 << k;
     }
 
     // Strikes word w out, which is noted.
     pub fn strike(&mut self, w: usize)
-        requires { (w < words) × (is_noted self.old w ≡ true) }
-        ensures { self.new ≡ noting self.old w false }
+        requires { Exact self.old.numbers self.old.top × (w < words) × (is_noted self.old.numbers w ≡ true) }
+        ensures { (self.new.numbers ≡ noting self.old.numbers w false)
+            × (self.new.top ≡ with_bit self.old.top (w / 64) (is_some self.new.numbers (w / 64))) }
     {
         let k = w / WORD;
         self.numbers[k] -= 1u64 << (w % WORD);
@@ -74,8 +63,9 @@ impl Index {
 
     // The first noted word, if there is one.
     pub fn first(&self) -> Option<usize>
-        ensures { MatchOption result ((w : ℕ) → w < parts * 64 → is_noted self.now w ≡ false)
-            (λ w. (w ≡ first_noted self.now) × (w < parts * 64)) }
+        requires { Exact self.now.numbers self.now.top }
+        ensures { MatchOption result ((w : ℕ) → w < parts * 64 → is_noted self.now.numbers w ≡ false)
+            (λ w. (w ≡ first_noted self.now.numbers) × (w < parts * 64)) }
     {
         if self.top == 0 {
             return None;

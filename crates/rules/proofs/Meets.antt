@@ -32,13 +32,13 @@ use Rattle.rules.specs.inner.Told.{told}
 use Rattle.rules.proofs.Sends.{send-more, send-append}
 
 -- PROBE and PULL after a set below the highest level: x is the record with the PROBE sent, y with the PULL
-pub spread-sent : (l : List ℕ) (to about v : ℕ) (other : code.Option ℕ) (d : Side) (n : List ℕ) {x y : Indexed} {level i : ℕ} → level < width
+pub spread-sent : (l : List ℕ) (to about v : ℕ) (other : code.Option ℕ) (d : Side) (n : List ℕ) (u : ℕ) {x y : Indexed} {level i : ℕ} → level < width
     → i ≡ place seats width (probe about to level)
-    → x ≡ send_at i (indexed l n)
+    → x ≡ send_at i (indexed l n u)
     → y ≡ send_all (to_link (as_link other) (λ z. pull z (not (bit width level v)) level d)) x
     → y ≡ send_all (cond (ltb level width)
-    (probe about to level ∷ to_link (as_link other) (λ z. pull z (not (bit width level v)) level d)) []) (indexed l n)
-spread-sent l to about v other d n h ei ex ey = rw (lt-ltb _ _ h, send-more, ← ei, ← ex) ey
+    (probe about to level ∷ to_link (as_link other) (λ z. pull z (not (bit width level v)) level d)) []) (indexed l n u)
+spread-sent l to about v other d n u h ei ex ey = rw (lt-ltb _ _ h, send-more, ← ei, ← ex) ey
 
 -- what is sent after a set, by the link that was there
 told_is : (M : Meaning) (to about level : ℕ) (d : Side) (old : Option ℕ) → told M to about level d old
@@ -49,16 +49,16 @@ told_is M to about level left old = rw (eq-eqb to to refl, eq-eqb level level re
 told_is M to about level right old = rw (eq-eqb to to refl, eq-eqb level level refl)
 
 -- one after the other: x is the record with the MEET about `to`, y with that about the old link, z with the rest
-pub told-sent : (l n : List ℕ) (to about level : ℕ) (old other : code.Option ℕ) (d : Side) (v : ℕ) {x y z : Indexed} {i : ℕ} → to < seats
+pub told-sent : (l n : List ℕ) (u to about level : ℕ) (old other : code.Option ℕ) (d : Side) (v : ℕ) {x y z : Indexed} {i : ℕ} → to < seats
     → as_link other ≡ (meaning l).link to level (opp d)
     → v ≡ number_at l (vector_from to) vector_size
     → i ≡ place seats width (meet about to level)
-    → x ≡ send_at i (indexed l n)
+    → x ≡ send_at i (indexed l n u)
     → y ≡ send_all (to_link (as_link old) (λ o. meet about o level)) x
     → z ≡ send_all (cond (ltb level width)
     (probe about to level ∷ to_link (as_link other) (λ o. pull o (not (bit width level v)) level (opp d))) []) y
-    → z ≡ send_all (told (meaning l) to about level d (as_link old)) (indexed l n)
-told-sent l n to about level old other d v ht eo ev ei ex ey ez =
+    → z ≡ send_all (told (meaning l) to about level d (as_link old)) (indexed l n u)
+told-sent l n u to about level old other d v ht eo ev ei ex ey ez =
     rw (told_is, send-more, send-append, ← eo, meaning-vector l to ht, ← ev, ← ei, ← ex, ← ey) ez
 
 -- a link written leaves the link on the other side and the vector
@@ -102,13 +102,13 @@ module _ (num vec : ℕ → ℕ) (e : Entry) (to about level : ℕ) (d : Side) w
       by false = refl
 
 -- the link is `about`
-pub same-done : (l n : List ℕ) (to about level : ℕ) (d : Side) (old : code.Option ℕ)
+pub same-done : (l n : List ℕ) (u to about level : ℕ) (d : Side) (old : code.Option ℕ)
     → d ≡ side_of ((meaning l).seats.number to) ((meaning l).seats.number about)
     → as_link old ≡ (meaning l).link to level d
     → option_eq eqb old (Some about) ≡ true
-    → indexed l n ≡ carried to (rule width (meaning l) (meet to about level)) (indexed l n)
+    → indexed l n u ≡ carried to (rule width (meaning l) (meet to about level)) (indexed l n u)
 unfolding carried send_all changed rule effect
-same-done l n to about level d old es eo e = rw (← es, ← eo, meeting-same _ _ _ to about level d old e)
+same-done l n u to about level d old es eo e = rw (← es, ← eo, meeting-same _ _ _ to about level d old e)
 
 -- what was read and written where it is another: r is the link if it is nearer, c what becomes of it, and w the record after the writing
 pub record Met (l : List ℕ) (to about level : ℕ) (d : Side) (old r : code.Option ℕ) (c : code.Option ℕ) (w : List ℕ) : Type 0 where
@@ -127,19 +127,19 @@ module _ {l : List ℕ} {to about level : ℕ} {d : Side} {old r : code.Option �
   unfolding rule effect
   rule-is = rw (← m.side, ← m.link) (meeting-other _ _ _ to about level d old r m.other m.nearer)
 
-  pub passed-done : (n : List ℕ) {z : ℕ} {x : Indexed} {i : ℕ} → r ≡ Some z
+  pub passed-done : (n : List ℕ) (u : ℕ) {z : ℕ} {x : Indexed} {i : ℕ} → r ≡ Some z
       → i ≡ place seats width (meet z about level)
-      → x ≡ send_at i (indexed w n)
-      → x ≡ carried to (rule width (meaning l) (meet to about level)) (indexed l n)
+      → x ≡ send_at i (indexed w n u)
+      → x ≡ carried to (rule width (meaning l) (meet to about level)) (indexed l n u)
   unfolding carried changed send_all
-  passed-done n t ei ex = rw (rule-is, t) (rw (m.wrote, m.change, t, ei) at ex)
+  passed-done n u t ei ex = rw (rule-is, t) (rw (m.wrote, m.change, t, ei) at ex)
 
-  pub set-done : (n : List ℕ) {x : Indexed} → r ≡ None
+  pub set-done : (n : List ℕ) (u : ℕ) {x : Indexed} → r ≡ None
       → to < seats
       → level < levels
-      → x ≡ send_all (told (meaning w) to about level d (as_link old)) (indexed w n)
-      → x ≡ carried to (rule width (meaning l) (meet to about level)) (indexed l n)
+      → x ≡ send_all (told (meaning w) to about level d (as_link old)) (indexed w n u)
+      → x ≡ carried to (rule width (meaning l) (meet to about level)) (indexed l n u)
   unfolding carried changed setting
-  set-done n t ht hl ex =
+  set-done n u t ht hl ex =
       let e = rw (m.wrote, m.change, t, told_is) at ex in
       rw (rule-is, t, ← m.link, ← same-other l to level d about ht hl, ← same-vector l to level d about ht hl) e

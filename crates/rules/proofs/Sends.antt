@@ -37,10 +37,10 @@ send-bytes (m ∷ ms) b = send-bytes ms (send_at (place seats width m) b)
 
 pub carried-bytes : (t : ℕ) (e : Effect) (b : Indexed) → (carried t e b).bytes ≡ done t e b.bytes
 unfolding carried done
-carried-bytes t e b = send-bytes e.sent (indexed (changed t e.change b.bytes) b.index)
+carried-bytes t e b = send-bytes e.sent (indexed (changed t e.change b.bytes) b.index b.top)
 
 -- a rule that sends nothing leaves the index
-pub carried-silent : (t : ℕ) (e : Effect) (l x : List ℕ) {y : List ℕ} → e.sent ≡ [] → y ≡ done t e l
-    → indexed y x ≡ carried t e (indexed l x)
+pub carried-silent : (t : ℕ) (e : Effect) (l x : List ℕ) (u : ℕ) {y : List ℕ} → e.sent ≡ [] → y ≡ done t e l
+    → indexed y x u ≡ carried t e (indexed l x u)
 unfolding carried done send_all sent_bits
-carried-silent t e l x s d = rw (d, s)
+carried-silent t e l x u s d = rw (d, s)

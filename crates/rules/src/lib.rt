@@ -34,7 +34,7 @@ use record::{NONE, Record, WIDTH, write_link};
 // Sends the message at place i, and notes its word.
 fn send(rec: &mut Record, index: &mut Index, i: usize)
     requires { i < messages }
-    ensures { indexed rec.new index.new ≡ send_at i (indexed rec.old index.old) }
+    ensures { indexed rec.new index.new.numbers index.new.top ≡ send_at i (indexed rec.old index.old.numbers index.old.top) }
 {
     record::send(rec, i);
     index.note(i);
@@ -53,9 +53,9 @@ fn spread(
     side: Side,
 )
     requires { (to < seats) × (about < seats) × IfSome other (λ z. z < seats) }
-    ensures { indexed rec.new index.new ≡ send_all (cond (ltb level width)
+    ensures { indexed rec.new index.new.numbers index.new.top ≡ send_all (cond (ltb level width)
         (probe_of about to level ∷ to_link (as_link other) (λ z. pull_of z (not (bit_at width level vector)) level (as_side side))) [])
-        (indexed rec.old index.old) }
+        (indexed rec.old index.old.numbers index.old.top) }
 {
     if level < WIDTH {
         send(rec, index, probe_place(about, to, level));
@@ -94,9 +94,9 @@ fn tell(
     old: Option<usize>,
 )
     requires { (to < seats) × (about < seats) × (level < levels) × IfSome old (λ z. z < seats) }
-    ensures { indexed rec.new index.new
+    ensures { indexed rec.new index.new.numbers index.new.top
         ≡ send_all (told (meaning rec.old) to about level (as_side d) (as_link old))
-        (indexed rec.old index.old) }
+        (indexed rec.old index.old.numbers index.old.top) }
 {
     let away = d.opposite();
     let other = link(rec, to, level, away);
@@ -111,8 +111,8 @@ fn tell(
 // 1 MEET: the link is `about`, nothing; it is nearer, it gets the MEET; otherwise it is set.
 pub fn meet(rec: &mut Record, index: &mut Index, to: usize, about: usize, level: usize)
     requires { (to < seats) × (about < seats) × (level < levels) }
-    ensures { indexed rec.new index.new ≡ carried to (rule width (meaning rec.old) (meet_of to about level))
-        (indexed rec.old index.old) }
+    ensures { indexed rec.new index.new.numbers index.new.top ≡ carried to (rule width (meaning rec.old) (meet_of to about level))
+        (indexed rec.old index.old.numbers index.old.top) }
 {
     let d = side_of(rec, to, about);
     let old = link(rec, to, level, d);
@@ -131,8 +131,8 @@ pub fn meet(rec: &mut Record, index: &mut Index, to: usize, about: usize, level:
 // 2 PROBE: more bits shared than the level, MEET one level up; otherwise on to the link away from `about`.
 pub fn probe(rec: &mut Record, index: &mut Index, to: usize, about: usize, level: usize)
     requires { (to < seats) × (about < seats) × (level < width) }
-    ensures { indexed rec.new index.new ≡ carried to (rule width (meaning rec.old) (probe_of to about level))
-        (indexed rec.old index.old) }
+    ensures { indexed rec.new index.new.numbers index.new.top ≡ carried to (rule width (meaning rec.old) (probe_of to about level))
+        (indexed rec.old index.old.numbers index.old.top) }
 {
     if level < share(rec, to, about) {
         return send(rec, index, meet_place(to, about, level + 1));
@@ -146,9 +146,9 @@ pub fn probe(rec: &mut Record, index: &mut Index, to: usize, about: usize, level
 // 3 PULL: the bit is the wanted one, PROBE about itself to the link on the opposite side; otherwise on along the side.
 pub fn pull(rec: &mut Record, index: &mut Index, to: usize, want: usize, level: usize, side: Side)
     requires { (to < seats) × (want < 2) × (level < width) }
-    ensures { indexed rec.new index.new ≡ carried to
+    ensures { indexed rec.new index.new.numbers index.new.top ≡ carried to
         (rule width (meaning rec.old) (pull_of to (eqb want 1) level (as_side side)))
-        (indexed rec.old index.old) }
+        (indexed rec.old index.old.numbers index.old.top) }
 {
     if bit(record::vector(rec, to), level) == want {
         if let Some(behind) = link(rec, to, level, side.opposite()) {
@@ -162,9 +162,9 @@ pub fn pull(rec: &mut Record, index: &mut Index, to: usize, want: usize, level: 
 // 4 GOING: a staying lot sends its link on that side SEEK about itself.
 pub fn going(rec: &mut Record, index: &mut Index, to: usize, level: usize, side: Side)
     requires { (to < seats) × (level < levels) }
-    ensures { indexed rec.new index.new ≡ carried to
+    ensures { indexed rec.new index.new.numbers index.new.top ≡ carried to
         (rule width (meaning rec.old) (going_of to level (as_side side)))
-        (indexed rec.old index.old) }
+        (indexed rec.old index.old.numbers index.old.top) }
 {
     if is_staying(rec, to) {
         if let Some(leaver) = link(rec, to, level, side) {
@@ -177,8 +177,8 @@ pub fn going(rec: &mut Record, index: &mut Index, to: usize, level: usize, side:
 // `about` NONE with the side that faces the leaver.
 pub fn seek(rec: &mut Record, index: &mut Index, to: usize, about: usize, level: usize)
     requires { (to < seats) × (about < seats) × (level < levels) }
-    ensures { indexed rec.new index.new ≡ carried to (rule width (meaning rec.old) (seek_of to about level))
-        (indexed rec.old index.old) }
+    ensures { indexed rec.new index.new.numbers index.new.top ≡ carried to (rule width (meaning rec.old) (seek_of to about level))
+        (indexed rec.old index.old.numbers index.old.top) }
 {
     if is_staying(rec, to) {
         return send(rec, index, found_place(about, to, level));

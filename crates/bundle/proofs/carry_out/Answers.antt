@@ -29,9 +29,9 @@ returns-then-i-lt-FOUNDS c =
 pub returns-then-i-lt-NONES : goal.returns-then-i-lt-NONES
 unfolding rule effect
 returns-then-i-lt-NONES c =
-    rw (at_place (found_at c.if-i-lt-FOUNDS.false c.if-i-lt-NONES.true)) (carried-silent _ _ _ _ refl c.found.ensures)
+    rw (at_place (found_at c.if-i-lt-FOUNDS.false c.if-i-lt-NONES.true)) (carried-silent _ _ _ _ _ refl c.found.ensures)
 
 pub returns : goal.returns
 unfolding rule effect
 returns c =
-    rw (at_place (none-at c.if-i-lt-NONES.false c.requires)) (carried-silent _ _ _ _ refl (rw c.of_number-2.ensures at c.none.ensures))
+    rw (at_place (none-at c.if-i-lt-NONES.false c.requires)) (carried-silent _ _ _ _ _ refl (rw c.of_number-2.ensures at c.none.ensures))

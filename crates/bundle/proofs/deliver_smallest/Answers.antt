@@ -10,8 +10,8 @@ use Rattle.bundle.proofs.deliver_smallest.Goals as goal
 
 pub loop-n-init : goal.loop-n-init
 loop-n-init c =
-    going-first c.args.rec.now c.args.limit c.requires.0 (λ j. search rules)
-    (rw c.new-index.ensures (λ i. replicate-zero parts i)) (rw c.new-index.ensures refl) c.requires.1
+    let (numbers, top) = c.new-index.ensures in
+    rw (numbers, top) (going-first c.args.rec.now c.args.limit c.requires.0 (λ j. search rules) (λ i. replicate-zero parts i) refl c.requires.1)
 
 pub next_word-requires : goal.next_word-requires
 next_word-requires c = c.loop-n.invariant.tracks

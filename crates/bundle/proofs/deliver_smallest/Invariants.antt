@@ -4,4 +4,4 @@ use Rattle.bundle.proofs.Going.{Going}
 use Rattle.bundle.proofs.deliver_smallest.Given as goal
 
 abbrev pub invariant-loop-n : goal.invariant-loop-n
-invariant-loop-n l = Going l.initial.rec l.limit l.rec l.index l.reach l.n
+invariant-loop-n l = Going l.initial.rec l.limit l.rec l.index.numbers l.index.top l.reach l.n

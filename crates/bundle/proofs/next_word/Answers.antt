@@ -18,4 +18,4 @@ returns c =
     let k = c.requires in
     let none = none-below _ k.within _ c.first-noted.ensures (search rules) c.if-is_some_and.false in
     let (e, h) = c.in_ok-i.ensures in
-    rw c.note.ensures (extended k none e h, found-ready k none e h)
+    rw (c.note.ensures.0, c.note.ensures.1) (extended k none e h, found-ready k none e h)

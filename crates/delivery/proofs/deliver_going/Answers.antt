@@ -23,4 +23,4 @@ pub returns : goal.returns
 returns c =
     let m = c.args.m in
     carried-noted c.args.rec.now c.requires (going-kind m.to m.about m.level m.side) c.in_ok-take_named.ensures.taken refl (λ i. search rules)
-    _ (rw c.of_number-side.ensures at c.going.ensures)
+    _ _ (rw c.of_number-side.ensures at c.going.ensures)

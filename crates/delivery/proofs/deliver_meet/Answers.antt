@@ -23,4 +23,4 @@ pub returns : goal.returns
 returns c =
     let m = c.args.m in
     carried-noted c.args.rec.now c.requires (meet-kind m.to m.about m.level m.side) c.in_ok-take_named.ensures.taken refl (λ i. search rules)
-    _ c.meet.ensures
+    _ _ c.meet.ensures

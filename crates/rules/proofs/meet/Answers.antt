@@ -8,7 +8,7 @@ use Rattle.rules.proofs.meet.Goals.{After-write_link}
 pub returns-then-eq : goal.returns-then-eq
 returns-then-eq c =
     let a = c.args in
-    same-done a.rec.now a.index.now a.to a.about a.level (as_side c.side_of-d.result) c.link-old.result
+    same-done a.rec.now a.index.now.numbers a.index.now.top a.to a.about a.level (as_side c.side_of-d.result) c.link-old.result
     c.side_of-d.ensures
     c.link-old.ensures.link
     (sym c.eq.ensures ∙ c.if-eq.true)
@@ -30,8 +30,10 @@ met w = record {
 
 pub returns-in-Some : goal.returns-in-Some
 returns-in-Some c =
-    passed-done (met (goal.at.returns-in-Some c).After-write_link) c.args.index.now c.in-Some.is c.meet_place.ensures.0 c.send.ensures
+    let n = c.args.index.now in
+    passed-done (met (goal.at.returns-in-Some c).After-write_link) n.numbers n.top c.in-Some.is c.meet_place.ensures.0 c.send.ensures
 
 pub returns-in-None : goal.returns-in-None
 returns-in-None c =
-    set-done (met (goal.at.returns-in-None c).After-write_link) c.args.index.now c.in-None.is c.requires.0 c.requires.2 c.tell.ensures
+    let n = c.args.index.now in
+    set-done (met (goal.at.returns-in-None c).After-write_link) n.numbers n.top c.in-None.is c.requires.0 c.requires.2 c.tell.ensures

@@ -10,7 +10,7 @@ use Rattle.rules.proofs.spread.Goals as goal
 pub returns-in-Some : goal.returns-in-Some
 returns-in-Some c =
     let a = c.args in
-    spread-sent a.rec.now a.to a.about a.vector a.other (as_side a.side) a.index.now
+    spread-sent a.rec.now a.to a.about a.vector a.other (as_side a.side) a.index.now.numbers a.index.now.top
     c.if-level-lt-WIDTH.true
     c.probe_place.ensures.0
     c.send.ensures
@@ -19,7 +19,7 @@ returns-in-Some c =
 pub returns-in_default : goal.returns-in_default
 returns-in_default c =
     let a = c.args in
-    spread-sent a.rec.now a.to a.about a.vector a.other (as_side a.side) a.index.now
+    spread-sent a.rec.now a.to a.about a.vector a.other (as_side a.side) a.index.now.numbers a.index.now.top
     c.if-level-lt-WIDTH.true
     c.probe_place.ensures.0
     c.send.ensures

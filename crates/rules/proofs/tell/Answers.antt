@@ -14,13 +14,15 @@ pub returns : goal.returns
 returns c =
     let a = c.args in
     -- the old link is told of `about`, if there was one
-    let handed : indexed c.match-old.rec c.match-old.index
-    ≡ send_all (to_link (as_link a.old) (λ o. meet a.about o a.level)) (indexed c.send.new.rec c.send.new.index) =
+    let x = c.match-old.index in
+    let y = c.send.new.index in
+    let handed : indexed c.match-old.rec x.numbers x.top
+    ≡ send_all (to_link (as_link a.old) (λ o. meet a.about o a.level)) (indexed c.send.new.rec y.numbers y.top) =
     elim c.match-old.branch [
       | in-Some w ↦ rw (w.rec-is, w.index-is, w.in-Some.is, send-link, ← w.meet_place-in-Some.ensures.0) w.send-in-Some.ensures
       | in_default w ↦ rw (w.rec-is, w.index-is, w.in_default.is, send-no-link)
     ] in
-    told-sent a.rec.now a.index.now a.to a.about a.level a.old c.link-other.result (as_side a.d) c.vector-vector.result
+    told-sent a.rec.now a.index.now.numbers a.index.now.top a.to a.about a.level a.old c.link-other.result (as_side a.d) c.vector-vector.result
     c.requires.0
     (rw c.opposite-away.ensures at c.link-other.ensures.link)
     c.vector-vector.ensures

@@ -6,20 +6,20 @@ use Rattle.index.proofs.FirstWord.{number-some, number-within, word-found}
 use Rattle.index.proofs.Index.first.Goals as goal
 
 pub returns-then-self-eq0 : goal.returns-then-self-eq0
-returns-then-self-eq0 c = rw (← c.self.view_is) (top-none c.self.invariant c.if-self-eq0.true)
+returns-then-self-eq0 c = top-none c.requires c.if-self-eq0.true
 
 pub lowest-k-requires : goal.lowest-k-requires
-lowest-k-requires c = some-set c.self.inside.top (search rules) c.if-self-eq0.false
+lowest-k-requires c = some-set c.args.self.now.top (search rules) c.if-self-eq0.false
 
-pub bounds-self-inside-k : goal.bounds-self-inside-k
-bounds-self-inside-k c = number-within c.self.invariant c.lowest-k.ensures.0 c.lowest-k.ensures.1
+pub bounds-self-k : goal.bounds-self-k
+bounds-self-k c = number-within c.requires c.lowest-k.ensures.0 c.lowest-k.ensures.1
 
 pub lowest-requires : goal.lowest-requires
-lowest-requires c = number-some c.self.invariant c.lowest-k.ensures.0 c.lowest-k.ensures.1
+lowest-requires c = number-some c.requires c.lowest-k.ensures.0 c.lowest-k.ensures.1
 
 pub returns : goal.returns
 returns c =
-    let e = c.self.invariant in
+    let e = c.requires in
     let l = c.lowest-k.ensures in
     let m = c.lowest.ensures in
-    rw (← c.self.view_is) (word-found e l.0 l.1 m.0 m.1, omega (arith, number-within e l.0 l.1, m.1))
+    (word-found e l.0 l.1 m.0 m.1, omega (arith, number-within e l.0 l.1, m.1))
