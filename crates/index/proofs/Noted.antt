@@ -110,7 +110,7 @@ module _ {x : List ℕ} {t : ℕ} (w : ℕ) (e : Exact x t) (h : w < words) (n :
   left-is : get_or (set x (w / 64) rest) (w / 64) 0 ≡ rest
   left-is = get_or-set_same x (w / 64) rest 0 (omega (arith, e.long))
 
-  -- it is 0, or not
+  -- it is 0, and the top loses the number's power, or it is not, and the top stays
   pub struck-last : left ≡ 0 → t - (1 * 2 ^ (w / 64)) % 2 ^ 64 ≡ with_bit t (w / 64) (is_some (set x (w / 64) rest) (w / 64))
   struck-last z = rw (zero-none left z, one_shifted 64 (w / 64) (omega arith)) (power-off t (w / 64) top-has)
 
