@@ -14,7 +14,7 @@ returns-in-Some c =
     c.if-level-lt-WIDTH.true
     c.probe_place.ensures.0
     c.send.ensures
-    (rw (c.in-Some.is, send-link, ← c.bit-want.ensures.0, ← bit_not _ c.bit-want.ensures.1, ← c.pull_place.ensures.0) c.send-in-Some.ensures)
+    (rw (c.in-Some.is, send-link) (rw (c.pull_place.ensures.0, bit_not _ c.bit-want.ensures.1, c.bit-want.ensures.0) at c.send-in-Some.ensures))
 
 pub returns-in_default : goal.returns-in_default
 returns-in_default c =
