@@ -1,13 +1,16 @@
 -- What the first field tells: a letter of its own, or no command. Assumes nothing.
 use Prim.Native.Nat.{ℕ, ◌≤◌, ◌<◌}
 use mathlib.Core.Path.{◌≡◌, refl, ◌∙◌}
+use mathlib.Core.Bool.{Bool, true, false, cond}
 use mathlib.Core.Option.{none}
 use mathlib.Core.List.{List, [], ◌∷◌}
 use native.Mathlib.Omega.{arith}
 use lib.ListN.{length, get_or}
 use borrow.Author.Tests.{ne_eqb}
+use Rattle.std.specs.List.{onto_first}
 use Rattle.command.specs.Command.{turn, settle, print, fields, command_of, parsed}
 use Rattle.command.specs.inner.Reading.{only}
+use Rattle.command.proofs.Spaces.{is_space, parts, fields-parts}
 
 -- no command begins with an empty field, or with two bytes
 no_field : (fs : List (List ℕ)) → command_of ([] ∷ fs) ≡ none
@@ -29,6 +32,21 @@ no_word x y w (a ∷ b ∷ d ∷ []) = refl
 no_word x y w (a ∷ b ∷ d ∷ e ∷ []) = refl
 no_word x y w (a ∷ b ∷ d ∷ e ∷ f ∷ []) = refl
 no_word x y w (a ∷ b ∷ d ∷ e ∷ f ∷ g ∷ l) = refl
+
+-- so no line whose second byte is no space is a command
+pub parsed_second : (l : List ℕ) → 1 < length l → (get_or l 1 0 ≡ 32 → ⊥) → parsed l ≡ none
+unfolding parsed
+parsed_second [] h n = absurd (omega arith)
+parsed_second (a ∷ []) h n = absurd (omega arith)
+parsed_second (a ∷ b ∷ l) h n = rw (fields-parts (a ∷ b ∷ l), ne_eqb b 32 n) (by (is_space a))
+  where
+    word : (ps : List (List ℕ)) → command_of (onto_first a (onto_first b ps)) ≡ none
+    word [] = no_word a b [] []
+    word (p ∷ ps) = no_word a b p ps
+
+    by : (t : Bool) → command_of (cond t ([] ∷ onto_first b (parts l)) (onto_first a (onto_first b (parts l)))) ≡ none
+    by true = no_field (onto_first b (parts l))
+    by false = word (parts l)
 
 -- or with a letter of its own and numbers after it
 no-numbers : (x : ℕ) → (x ≡ 74 → ⊥) → (x ≡ 76 → ⊥) → (x ≡ 68 → ⊥) → (x ≡ 70 → ⊥) → (a : List ℕ) (fs : List (List ℕ))

@@ -4,7 +4,7 @@ use Rattle.command.proofs.Reading.{digits_here, digits_none, digits_over, digits
 use Rattle.command.proofs.Reading.{read_byte, read_vector, narrow_ok}
 use Rattle.command.proofs.Commands.{join_reads, leave_reads, deliver_reads, find_reads, only_left}
 use Rattle.command.proofs.Text.{long-bad}
-use Rattle.command.proofs.Lines.{parsed_empty, parsed_word, parsed_letter, parsed_turn, parsed_settle, parsed_print, parsed_other}
+use Rattle.command.proofs.Lines.{parsed_second, parsed_empty, parsed_word, parsed_letter, parsed_turn, parsed_settle, parsed_print, parsed_other}
 
 pub ruleset steps = (
   fields_cut,
@@ -33,4 +33,5 @@ pub ruleset steps = (
   parsed_print,
   parsed_other,
   long-bad,
+  parsed_second,
 )

@@ -206,6 +206,9 @@ pub fn parse(line: &[u8]) -> Option<Command>
     if line.len() > LONGEST {
         return None;
     }
+    if line.len() > 1 && line[1] != SPACE {
+        return None;
+    }
     let mut fields = Fields { rest: Some(line) };
     let [letter] = fields.take()? else {
         return None;

@@ -23,11 +23,12 @@ enum Stop {
     WriteFailed,
 }
 
+// The whole line that standard error gets, in one piece: what is put together of pieces goes through a buffer on the stack.
 impl fmt::Display for Stop {
     fn fmt<W: fmt::Write>(&self, f: &mut fmt::Formatter<W>) -> fmt::Result {
         f.write_str(match self {
-            Stop::ReadFailed => "read failed",
-            Stop::WriteFailed => "write failed",
+            Stop::ReadFailed => "lots: read failed\n",
+            Stop::WriteFailed => "lots: write failed\n",
         })
     }
 }
@@ -100,7 +101,7 @@ fn main(rt: HostRuntime) -> ExitCode {
     match session.run(&rt) {
         Ok(()) => ExitCode::SUCCESS,
         Err(stop) => {
-            let _ = eprintln!(rt; "lots: {stop}");
+            let _ = rt.eprint(stop);
             ExitCode::FAILURE
         }
     }

@@ -9,6 +9,24 @@ use Rattle.record.specs.Answer.{refusal_number, number_of}
 use Rattle.record.specs.declared.refusals.Refusal.{Refusal}
 use Rattle.record.specs.declared.refusals.Refusal.TheVariants as refused
 
+-- the number of a refusal is not 0, which stands for an accepted call
+pub refusal_number-positive : (r : Refusal) → 0 < refusal_number r
+refusal_number-positive refused.WrongSize = omega arith
+refusal_number-positive refused.Unsound = omega arith
+refusal_number-positive refused.NoSuchSeat = omega arith
+refusal_number-positive refused.SeatTaken = omega arith
+refusal_number-positive refused.NumberInUse = omega arith
+refusal_number-positive refused.NoContact = omega arith
+refusal_number-positive refused.InClearing = omega arith
+refusal_number-positive refused.EmptySeat = omega arith
+refusal_number-positive refused.AlreadyLeaving = omega arith
+refusal_number-positive refused.NoSuchMessage = omega arith
+refusal_number-positive refused.MessagesLeft = omega arith
+refusal_number-positive refused.NoSuchLevel = omega arith
+refusal_number-positive refused.Unsettled = omega arith
+refusal_number-positive refused.NotReserved = omega arith
+refusal_number-positive refused.SameLot = omega arith
+
 -- the refusals in the order of their numbers
 abbrev refusals : List Refusal
 refusals =
@@ -48,24 +66,6 @@ refusal-again refused.NoSuchLevel = refl
 refusal-again refused.Unsettled = refl
 refusal-again refused.NotReserved = refl
 refusal-again refused.SameLot = refl
-
--- the number of a refusal is not 0, which stands for an accepted call
-pub refusal_number-positive : (r : Refusal) → 0 < refusal_number r
-refusal_number-positive refused.WrongSize = omega arith
-refusal_number-positive refused.Unsound = omega arith
-refusal_number-positive refused.NoSuchSeat = omega arith
-refusal_number-positive refused.SeatTaken = omega arith
-refusal_number-positive refused.NumberInUse = omega arith
-refusal_number-positive refused.NoContact = omega arith
-refusal_number-positive refused.InClearing = omega arith
-refusal_number-positive refused.EmptySeat = omega arith
-refusal_number-positive refused.AlreadyLeaving = omega arith
-refusal_number-positive refused.NoSuchMessage = omega arith
-refusal_number-positive refused.MessagesLeft = omega arith
-refusal_number-positive refused.NoSuchLevel = omega arith
-refusal_number-positive refused.Unsettled = omega arith
-refusal_number-positive refused.NotReserved = omega arith
-refusal_number-positive refused.SameLot = omega arith
 
 pub refusal-determined : (r s : Refusal) → refusal_number r ≡ refusal_number s → r ≡ s
 refusal-determined r s e = sym (refusal-again r) ∙ ap refusal_at e ∙ refusal-again s
