@@ -1,4 +1,4 @@
--- What the first field tells: a letter of its own, or no command. Assumes nothing.
+-- What the first field and the second byte tell: a letter of its own, or no command. Assumes nothing.
 use Prim.Native.Nat.{ℕ, ◌≤◌, ◌<◌}
 use mathlib.Core.Path.{◌≡◌, refl, ◌∙◌}
 use mathlib.Core.Bool.{Bool, true, false, cond}
@@ -48,7 +48,7 @@ parsed_second (a ∷ b ∷ l) h n = rw (fields-parts (a ∷ b ∷ l), ne_eqb b 3
     by true = no_field (onto_first b (parts l))
     by false = word (parts l)
 
--- or with a letter of its own and numbers after it
+-- no command begins with a letter of its own and numbers after it
 no-numbers : (x : ℕ) → (x ≡ 74 → ⊥) → (x ≡ 76 → ⊥) → (x ≡ 68 → ⊥) → (x ≡ 70 → ⊥) → (a : List ℕ) (fs : List (List ℕ))
     → command_of ((x ∷ []) ∷ a ∷ fs) ≡ none
 unfolding command_of
