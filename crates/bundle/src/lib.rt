@@ -109,7 +109,7 @@ fn next_word(rec: &Record, index: &mut Index, reach: &mut usize) -> Option<usize
     ensures { MatchOption result (smallest seats width (meaning rec.now).pending ≡ none)
         (λ w. Tracks rec.now index.new.numbers index.new.top reach.new × IsReady rec.now index.new.numbers w) }
 {
-    let noted = index.first();
+    let noted = index.first_by_top();
     if noted.is_some_and(|w| w < *reach) {
         return noted;
     }

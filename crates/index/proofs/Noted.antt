@@ -1,14 +1,15 @@
 -- The index after a word is noted or struck out: which words are noted then, and its top. Assumes nothing.
 use Prim.Native.Nat.{ℕ, ◌-◌, ◌*◌, ◌/◌, ◌%◌, ◌^◌, ◌≤◌, ◌<◌}
-use mathlib.Core.Path.{◌≡◌, sym, ap, ◌∙◌}
+use mathlib.Core.Path.{◌≡◌, sym, ap, ◌∙◌, subst}
 use mathlib.Core.Logic.{⊎_elim}
 use mathlib.Core.Bool.{Bool, true, false}
 use mathlib.Core.List.{List}
 use native.Mathlib.Omega.{arith}
-use lib.Bits.{bit_or}
+use lib.Bits.{bit_and, bit_or}
 use lib.ListN.{length, get_or, set, length-set, get_or-eq_default}
 use lib.Seq.{get_or-set_same, get_or-set_other}
 use borrow.Author.Tests.{ne_eqb, not-false}
+use Rattle.std.specs.Int.{w64, bit_not}
 use Rattle.base.specs.Loops.{any}
 use Rattle.base.proofs.Any.{any_here, any_none, none_any}
 use Rattle.base.proofs.Cases.{lt-or-ge, eq-or-ne}
@@ -16,6 +17,7 @@ use Rattle.base.proofs.Tests.{false-T, true-false, not-T-false}
 use Rattle.memory.specs.Bits.{has_bit, with_bit}
 use Rattle.memory.proofs.Bits.{has_bit-none, has_bit-with_bit, has_bit-with_bit-other, with_bit-has_bit, one_shifted, mask-set, power-within, power-off}
 use Rattle.memory.proofs.FirstSet.{none-set}
+use Rattle.memory.proofs.Words.{mask_off}
 use Rattle.index.specs.inner.Index.{words, parts, is_noted, noting, is_some, Exact}
 
 -- a number of 64 bits that is not 0 has a set bit, and 0 has none
@@ -86,19 +88,21 @@ note-exact {x} {t} w h e =
     let s = noted-some (noting x w true) w (noted-same x w true l) in
     rw s at (noting-exact x w true l e)
 
--- a noted word is struck out: its power is taken off its number, and the power of the number off the top if no bit is left
-module _ {x : List ℕ} {t : ℕ} (w : ℕ) (e : Exact x t) (h : w < words) (n : is_noted x w ≡ true) where
+-- where the number is not 0, the top has its bit already
+pub note-kept : {x : List ℕ} {t : ℕ} (w : ℕ) → w < words → Exact x t → get_or x (w / 64) 0 < 2 ^ 64 → (get_or x (w / 64) 0 ≡ 0 → ⊥)
+    → Exact (noting x w true) t
+note-kept {x} {t} w h e l ne =
+    let s : has_bit t (w / 64) ≡ true = e.tells (w / 64) (omega arith) ∙ some-set (get_or x (w / 64) 0) l ne in
+    let P : ℕ → Type 0 = λ u. Exact (noting x w true) u in
+    subst P (rw (← s) (with_bit-has_bit t (w / 64))) (note-exact w h e)
+
+-- a noted word is struck out: its power is taken off its number
+module _ (x : List ℕ) (w : ℕ) (n : is_noted x w ≡ true) where
   abbrev rest : ℕ
   rest = get_or x (w / 64) 0 - (1 * 2 ^ (w % 64)) % 2 ^ 64
 
-  top-has : has_bit t (w / 64) ≡ true
-  top-has = e.tells (w / 64) (omega arith) ∙ noted-some x w n
-
   pub word-within : (1 * 2 ^ (w % 64)) % 2 ^ 64 ≤ get_or x (w / 64) 0
   word-within = rw (one_shifted 64 (w % 64) (omega arith)) (power-within (get_or x (w / 64) 0) (w % 64) n)
-
-  pub top_within : (1 * 2 ^ (w / 64)) % 2 ^ 64 ≤ t
-  top_within = rw (one_shifted 64 (w / 64) (omega arith)) (power-within t (w / 64) top-has)
 
   pub struck : set x (w / 64) rest ≡ noting x w false
   struck = ap (set x (w / 64)) (rw (one_shifted 64 (w % 64) (omega arith)) (power-off (get_or x (w / 64) 0) (w % 64) n))
@@ -108,16 +112,38 @@ module _ {x : List ℕ} {t : ℕ} (w : ℕ) (e : Exact x t) (h : w < words) (n :
   left = get_or (set x (w / 64) rest) (w / 64) 0
 
   left-is : get_or (set x (w / 64) rest) (w / 64) 0 ≡ rest
-  left-is = get_or-set_same x (w / 64) rest 0 (omega (arith, e.long))
+  left-is = get_or-set_same x (w / 64) rest 0 (noted-within x w n)
 
-  -- it is 0, and the top loses the number's power, or it is not, and the top stays
-  pub struck-last : left ≡ 0 → t - (1 * 2 ^ (w / 64)) % 2 ^ 64 ≡ with_bit t (w / 64) (is_some (set x (w / 64) rest) (w / 64))
-  struck-last z = rw (zero-none left z, one_shifted 64 (w / 64) (omega arith)) (power-off t (w / 64) top-has)
+  -- it is 0, and the number's bit is cleared in the top
+  pub top-cleared : (t : ℕ) → w < words → t < 2 ^ 64 → left ≡ 0
+      → bit_and t (bit_not w64 ((1 * 2 ^ (w / 64)) % 2 ^ 64)) ≡ with_bit t (w / 64) (is_some (set x (w / 64) rest) (w / 64))
+  top-cleared t h f z = rw (zero-none left z) (mask_off t (w / 64) (omega arith) f)
 
-  pub struck-more : get_or x (w / 64) 0 < 2 ^ 64 → (left ≡ 0 → ⊥) → t ≡ with_bit t (w / 64) (is_some (set x (w / 64) rest) (w / 64))
-  struck-more l ne =
-      let s = some-set left (omega (arith, left-is)) ne in
+-- and the top of an index whose top was exact: it loses the number's power, or stays
+module _ {x : List ℕ} {t : ℕ} (w : ℕ) (e : Exact x t) (h : w < words) (n : is_noted x w ≡ true) where
+  top-has : has_bit t (w / 64) ≡ true
+  top-has = e.tells (w / 64) (omega arith) ∙ noted-some x w n
+
+  pub top_within : (1 * 2 ^ (w / 64)) % 2 ^ 64 ≤ t
+  top_within = rw (one_shifted 64 (w / 64) (omega arith)) (power-within t (w / 64) top-has)
+
+  pub top-off : left x w n ≡ 0 → t - (1 * 2 ^ (w / 64)) % 2 ^ 64 ≡ with_bit t (w / 64) (is_some (set x (w / 64) (rest x w n)) (w / 64))
+  top-off z = rw (zero-none (left x w n) z, one_shifted 64 (w / 64) (omega arith)) (power-off t (w / 64) top-has)
+
+  pub top-stays : get_or x (w / 64) 0 < 2 ^ 64 → (left x w n ≡ 0 → ⊥) → t ≡ with_bit t (w / 64) (is_some (set x (w / 64) (rest x w n)) (w / 64))
+  top-stays l ne =
+      let s = some-set (left x w n) (omega (arith, left-is x w n)) ne in
       rw (s, ← top-has) (sym (with_bit-has_bit t (w / 64)))
+
+  after : Exact (set x (w / 64) (rest x w n)) (with_bit t (w / 64) (is_some (set x (w / 64) (rest x w n)) (w / 64)))
+  after = rw (struck x w n) (noting-exact x w false (omega (arith, e.long)) e)
+
+  -- so it is exact
+  pub struck-last : left x w n ≡ 0 → Exact (set x (w / 64) (rest x w n)) (t - (1 * 2 ^ (w / 64)) % 2 ^ 64)
+  struck-last z = rw (top-off z) after
+
+  pub struck-more : get_or x (w / 64) 0 < 2 ^ 64 → (left x w n ≡ 0 → ⊥) → Exact (set x (w / 64) (rest x w n)) t
+  struck-more l ne = subst (λ (u : ℕ). Exact (set x (w / 64) (rest x w n)) u) (sym (top-stays l ne)) after
 
 -- 0 is the top of an index that notes no word
 pub top-none : {x : List ℕ} {t : ℕ} → Exact x t → t ≡ 0 → (w : ℕ) → w < parts * 64 → is_noted x w ≡ false

@@ -19,7 +19,7 @@ const WORDS: usize = MESSAGES / WORD;
 // How many numbers have a bit for each word: at most as many as the top has bits.
 pub const SIZE: usize = (WORDS + WORD - 1) / WORD;
 
-// Any numbers and any top: what reads the top asks that it is exact.
+// Any numbers and any top: only `first_by_top` asks that the top is exact.
 #[derive(Drop)]
 pub struct Index {
     pub numbers: [u64; SIZE],
@@ -48,21 +48,31 @@ impl Index {
         self.top |= 1u64 << k;
     }
 
-    // Strikes word w out, which is noted.
+    // Strikes word w out, which is noted. A top that is exact stays so.
     pub fn strike(&mut self, w: usize)
-        requires { Exact self.old.numbers self.old.top × (w < words) × (is_noted self.old.numbers w ≡ true) }
+        requires { (w < words) × (is_noted self.old.numbers w ≡ true) }
         ensures { (self.new.numbers ≡ noting self.old.numbers w false)
-            × (self.new.top ≡ with_bit self.old.top (w / 64) (is_some self.new.numbers (w / 64))) }
+            × (Exact self.old.numbers self.old.top → self.new.top ≡ with_bit self.old.top (w / 64) (is_some self.new.numbers (w / 64))) }
     {
         let k = w / WORD;
         self.numbers[k] -= 1u64 << (w % WORD);
         if self.numbers[k] == 0 {
-            self.top -= 1u64 << k;
+            self.top &= !(1u64 << k);
         }
     }
 
-    // The first noted word, if there is one.
+    // The first noted word, if there is one, whatever the top is: the numbers are gone through.
     pub fn first(&self) -> Option<usize>
+        ensures { MatchOption result ((w : ℕ) → w < parts * 64 → is_noted self.now.numbers w ≡ false)
+            (λ w. (w ≡ first_noted self.now.numbers) × (w < parts * 64)) }
+    {
+        let k = self.numbers.iter().position(|x| *x != 0)?;
+        let x = self.numbers[k];
+        Some(k * WORD + lowest(x))
+    }
+
+    // The first noted word, if there is one, by the top, which is exact: two counts.
+    pub fn first_by_top(&self) -> Option<usize>
         requires { Exact self.now.numbers self.now.top }
         ensures { MatchOption result ((w : ℕ) → w < parts * 64 → is_noted self.now.numbers w ≡ false)
             (λ w. (w ≡ first_noted self.now.numbers) × (w < parts * 64)) }
@@ -81,4 +91,37 @@ fn lowest(x: u64) -> usize
     ensures { (result ≡ first_from 64 0 (has_bit x)) × (result < 64) }
 {
     x.trailing_zeros() as usize
+}
+
+#[cfg(test)]
+mod tests {
+    use super::*;
+
+    // Words 130 and 5 are noted and struck out again, the first one first.
+    #[test]
+    fn strikes_out_the_first(rt: HostRuntime) {
+        let mut index = Index::new();
+        assert_eq!(rt; index.first(), None);
+        index.note(130 * WORD + 63);
+        index.note(5 * WORD);
+        assert_eq!(rt; index.first(), Some(5));
+        index.strike(5);
+        assert_eq!(rt; index.first(), Some(130));
+        index.strike(130);
+        assert_eq!(rt; index.first(), None);
+    }
+
+    // The numbers say which words are noted, whatever the top says.
+    #[test]
+    fn reads_no_top(rt: HostRuntime) {
+        for top in [0, 1, u64::MAX] {
+            let mut index = Index {
+                numbers: [0; SIZE],
+                top,
+            };
+            assert_eq!(rt; index.first(), None, "no word, top {top}");
+            index.numbers[2] = 4 + 8;
+            assert_eq!(rt; index.first(), Some(2 * WORD + 2), "top {top}");
+        }
+    }
 }
