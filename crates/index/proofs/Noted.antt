@@ -14,9 +14,10 @@ use Rattle.base.specs.Loops.{any}
 use Rattle.base.proofs.Any.{any_here, any_none, none_any}
 use Rattle.base.proofs.Cases.{lt-or-ge, eq-or-ne}
 use Rattle.base.proofs.Tests.{false-T, true-false, not-T-false}
-use Rattle.memory.specs.Bits.{has_bit, with_bit}
+use Rattle.memory.specs.Bits.{has_bit, with_bit, packed}
 use Rattle.memory.proofs.Bits.{has_bit-none, has_bit-with_bit, has_bit-with_bit-other, with_bit-has_bit, one_shifted, mask-set, power-within, power-off}
 use Rattle.memory.proofs.FirstSet.{none-set}
+use Rattle.memory.proofs.Packed.{packed-bits}
 use Rattle.memory.proofs.Words.{mask_off}
 use Rattle.index.specs.inner.Index.{words, parts, is_noted, noting, is_some, Exact}
 
@@ -158,3 +159,7 @@ module _ (x : List ℕ) (zeros : (i : ℕ) → get_or x i 0 ≡ 0) where
 
   pub exact_none : length x ≡ parts → Exact x 0
   exact_none e = record { long = e; tells = λ k l. has_bit-none k ∙ sym (zero-none (get_or x k 0) (zeros k)) }
+
+-- any numbers have an exact top
+pub exact_packed : (x : List ℕ) → length x ≡ parts → Exact x (packed 64 (is_some x))
+exact_packed x e = record { long = e; tells = λ k l. packed-bits 64 (is_some x) k l }

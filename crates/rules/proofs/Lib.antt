@@ -2,3 +2,5 @@
 pub mod Sides
 pub mod Sends
 pub mod Meets
+pub mod Exists
+pub mod Exact
