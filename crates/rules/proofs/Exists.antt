@@ -34,7 +34,7 @@ link-byte b y e = ⊎_elim (λ h. seat h) (λ h. none-some (link_of-none b h) e)
     seat h = let q = some_inj (sym (link_of-some b h) ∙ e) in omega (arith, h, q)
 
 -- so does each link of any bytes
-pub names-seat : (l : List ℕ) (s k : ℕ) (d : Side) → NamesSeat ((meaning l).link s k d)
+names-seat : (l : List ℕ) (s k : ℕ) (d : Side) → NamesSeat ((meaning l).link s k d)
 names-seat l s k d y e = ⊎_elim (λ h. level h) (λ h. none-some (no-seat-link l s k d h) e) (lt-or-ge s seats)
   where
     level : s < seats → y < seats

@@ -1,5 +1,5 @@
--- `index::Index::strike` meets its contract: a set bit's power taken off clears the bit, and where the word's number keeps a set bit, the top
--- stays. Assumes nothing.
+-- `index::Index::strike` meets its contract: a set bit's power taken off clears the bit. Where no bit of the word's number is left, the mask clears
+-- the number's bit in the top, and otherwise the top stays. Assumes nothing.
 use borrow.Author.Rules.{rules}
 use Rattle.index.proofs.Noted.{word-within, struck, top-cleared, top-stays}
 use Rattle.index.proofs.Index.strike.Goals as goal
