@@ -1,8 +1,8 @@
 -- The index after a word is noted or struck out: which words are noted then, and its top. Assumes nothing.
 use Prim.Native.Nat.{ℕ, ◌-◌, ◌*◌, ◌/◌, ◌%◌, ◌^◌, ◌≤◌, ◌<◌}
-use mathlib.Core.Path.{◌≡◌, sym, ap, ◌∙◌, subst}
+use mathlib.Core.Path.{◌≡◌, refl, sym, ap, ◌∙◌, subst}
 use mathlib.Core.Logic.{⊎_elim}
-use mathlib.Core.Bool.{Bool, true, false}
+use mathlib.Core.Bool.{Bool, true, false, cond}
 use mathlib.Core.List.{List}
 use native.Mathlib.Omega.{arith}
 use lib.Bits.{bit_and, bit_or}
@@ -115,10 +115,15 @@ module _ (x : List ℕ) (w : ℕ) (n : is_noted x w ≡ true) where
   left-is : get_or (set x (w / 64) rest) (w / 64) 0 ≡ rest
   left-is = get_or-set_same x (w / 64) rest 0 (noted-within x w n)
 
-  -- it is 0, and the number's bit is cleared in the top
-  pub top-cleared : (t : ℕ) → w < words → t < 2 ^ 64 → left ≡ 0
-      → bit_and t (bit_not w64 ((1 * 2 ^ (w / 64)) % 2 ^ 64)) ≡ with_bit t (w / 64) (is_some (set x (w / 64) rest) (w / 64))
-  top-cleared t h f z = rw (zero-none left z) (mask_off t (w / 64) (omega arith) f)
+  -- it is 0, and the mask clears its bit in the top, or it is not, and the top stays
+  abbrev pub struck_top : ℕ → ℕ
+  struck_top t = cond (is_some (set x (w / 64) rest) (w / 64)) t (with_bit t (w / 64) false)
+
+  pub top-masked : (t : ℕ) → w < words → t < 2 ^ 64 → left ≡ 0 → bit_and t (bit_not w64 ((1 * 2 ^ (w / 64)) % 2 ^ 64)) ≡ struck_top t
+  top-masked t h f z = rw (zero-none left z) (mask_off t (w / 64) (omega arith) f)
+
+  pub top-kept : (t : ℕ) → get_or x (w / 64) 0 < 2 ^ 64 → (left ≡ 0 → ⊥) → t ≡ struck_top t
+  top-kept t l ne = rw (some-set left (omega (arith, left-is)) ne)
 
 -- and the top of an index whose top was exact: it loses the number's power, or stays
 module _ {x : List ℕ} {t : ℕ} (w : ℕ) (e : Exact x t) (h : w < words) (n : is_noted x w ≡ true) where
@@ -135,6 +140,13 @@ module _ {x : List ℕ} {t : ℕ} (w : ℕ) (e : Exact x t) (h : w < words) (n :
   top-stays l ne =
       let s = some-set (left x w n) (omega (arith, left-is x w n)) ne in
       rw (s, ← top-has) (sym (with_bit-has_bit t (w / 64)))
+
+  pub top-struck : struck_top x w n t ≡ with_bit t (w / 64) (is_some (set x (w / 64) (rest x w n)) (w / 64))
+  top-struck = by (is_some (set x (w / 64) (rest x w n)) (w / 64))
+    where
+      by : (b : Bool) → cond b t (with_bit t (w / 64) false) ≡ with_bit t (w / 64) b
+      by true = rw (← top-has) (sym (with_bit-has_bit t (w / 64)))
+      by false = refl
 
   after : Exact (set x (w / 64) (rest x w n)) (with_bit t (w / 64) (is_some (set x (w / 64) (rest x w n)) (w / 64)))
   after = rw (struck x w n) (noting-exact x w false (omega (arith, e.long)) e)

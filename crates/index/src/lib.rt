@@ -3,7 +3,7 @@
 // the record; no format holds it.
 #![tactic(auto)]
 
-ghost use Rattle.std.specs.Prelude.{◌≡◌, ℕ, true, false, ◌*◌, ◌/◌, ◌<◌, replicate, MatchOption};
+ghost use Rattle.std.specs.Prelude.{◌≡◌, ℕ, true, false, cond, ◌*◌, ◌/◌, ◌<◌, replicate, MatchOption};
 ghost use Rattle.base.specs.Loops.{first_from, any};
 ghost use Rattle.memory.specs.Bits.{has_bit, with_bit};
 ghost use Rattle.record.specs.Layout.{messages};
@@ -48,10 +48,11 @@ impl Index {
         self.top |= 1u64 << k;
     }
 
-    // Strikes word w out, which is noted. A top that is exact stays so.
+    // Strikes word w out, which is noted. The top loses the bit of its number if that is 0 now: an exact one stays exact.
     pub fn strike(&mut self, w: usize)
         requires { (w < words) × (is_noted self.old.numbers w ≡ true) }
         ensures { (self.new.numbers ≡ noting self.old.numbers w false)
+            × (self.new.top ≡ cond (is_some self.new.numbers (w / 64)) self.old.top (with_bit self.old.top (w / 64) false))
             × (Exact self.old.numbers self.old.top → self.new.top ≡ with_bit self.old.top (w / 64) (is_some self.new.numbers (w / 64))) }
     {
         let k = w / WORD;
