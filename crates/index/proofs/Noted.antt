@@ -172,6 +172,6 @@ module _ (x : List ℕ) (zeros : (i : ℕ) → get_or x i 0 ≡ 0) where
   pub exact_none : length x ≡ parts → Exact x 0
   exact_none e = record { long = e; tells = λ k l. has_bit-none k ∙ sym (zero-none (get_or x k 0) (zeros k)) }
 
--- any numbers have an exact top
+-- any numbers of the index's length have an exact top
 pub exact_packed : (x : List ℕ) → length x ≡ parts → Exact x (packed 64 (is_some x))
 exact_packed x e = record { long = e; tells = λ k l. packed-bits 64 (is_some x) k l }
