@@ -34,7 +34,8 @@ use Rattle.record.proofs.Sound.{sound-is}
 use Rattle.record.proofs.Refused.{Passed, record-passed}
 use Rattle.rules.specs.inner.Done.{changed, Indexed, indexed, carried}
 use Rattle.rules.proofs.Sends.{carried-bytes}
-use Rattle.delivery.proofs.Delivered.{AtLevel, rule-level, to-seat, sent-exists, same-rule, deliver-bytes}
+use Rattle.rules.proofs.Exists.{rule-exists}
+use Rattle.delivery.proofs.Delivered.{AtLevel, rule-level, to-seat, deliver-bytes}
 use Rattle.delivery.proofs.Answers.{delivered}
 use Rattle.bundle.specs.inner.Steps.{Tracks, IsReady, IsStruck, IsDelivered}
 use Rattle.bundle.proofs.Tracks.{tracks_same, tracks-taken, tracks-sends}
@@ -111,11 +112,8 @@ module _ (l x : List ℕ) (fine : record_refusal l ≡ 0) (b : AreBytes l) {w : 
           ∙ carried-bytes (name_of m).to (rule width (meaning y) m) (indexed y z u)
           ∙ deliver-bytes form sound (name_of m) m (named-name m) (true-T is-pending) taken))
 
-      rule-here : rule width (meaning y) m ≡ rule width (meaning l) m
-      rule-here = ap (λ (a : List ℕ). rule width (meaning a) m) taken ∙ same-rule form sound (name_of m) m (named-name m) (true-T is-pending)
-
       sent-here : (n : Msg) → Memᴰ n (rule width (meaning y) m).sent → T (exists seats width n)
-      sent-here n q = sent-exists sound m (true-T is-pending) n (rw rule-here at q)
+      sent-here = rule-exists y m is-message
 
       sized : length (changed (name_of m).to (rule width (meaning y) m).change y) ≡ size
       sized = changed-length (name_of m).to _ y ∙ ap length y-taken ∙ length-put_bit l pending_from i _ ∙ passed.sized

@@ -1,21 +1,16 @@
 -- Whether messages are left, as the look in front of a call answers it, and that links name seats. Assumes nothing.
-use Prim.Native.Nat.{ℕ, ◌<◌}
-use mathlib.Core.Path.{◌≡◌, refl, sym}
-use mathlib.Core.Bool.{Bool, true, false, cond, ◌&&◌}
-use mathlib.Core.Option.{none, some}
+use Prim.Native.Nat.{ℕ}
+use mathlib.Core.Path.{◌≡◌, sym}
 use mathlib.Core.List.{List}
 use native.Mathlib.Omega.{arith}
-use lib.Dec.{ltb}
-use lib.ListN.{get_or}
-use borrow.Author.Tests.{ltb-true}
 use Rattle.std.specs.Prelude.{None, Some}
 use Rattle.std.specs.Prelude as code
 use Rattle.std.specs.Option.{is_some}
 use Rattle.graph.specs.Vector.{width}
-use Rattle.base.proofs.Tests.{some_inj, none-some}
 use Rattle.protocol.specs.Numbering.{some_pending}
-use Rattle.record.specs.Layout.{seats, levels, link_at}
-use Rattle.record.specs.Meaning.{link_of, meaning}
+use Rattle.record.specs.Layout.{seats}
+use Rattle.record.specs.Meaning.{meaning}
+use Rattle.record.proofs.Links.{names-seat}
 use Rattle.messages.specs.inner.Numbers.{first_pending}
 use Rattle.messages.specs.inner.Places.{IsPlace}
 use Rattle.messages.proofs.First.{quiet-pending, some-pending}
@@ -26,20 +21,6 @@ pub some-left : (l : List ℕ) (first : code.Option ℕ) → IsPlace first (firs
 some-left l None e = sym (quiet-pending l (sym e) (omega arith))
 some-left l (Some i) e = sym (some-pending l e.0 e.1)
 
-module _ (l : List ℕ) where
-  -- links of any bytes name seats
-  link_of-lt : (b y : ℕ) → link_of b ≡ some y → y < seats
-  unfolding link_of
-  link_of-lt b y e = by (ltb b seats) refl e
-    where
-      by : (c : Bool) → ltb b seats ≡ c → cond c (some b) none ≡ some y → y < seats
-      by true f q = let v : b ≡ y = some_inj q in omega (arith, ltb-true b seats f)
-      by false f q = none-some refl q
-
-  pub meaning-linked : Linked (meaning l)
-  unfolding meaning
-  meaning-linked x k y d e = by (ltb x seats && ltb k levels) e
-    where
-      by : (c : Bool) → cond c (link_of (get_or l (link_at x k d) 0)) none ≡ some y → y < seats
-      by true q = link_of-lt (get_or l (link_at x k d) 0) y q
-      by false q = none-some refl q
+-- links of any bytes name seats
+pub meaning-linked : (l : List ℕ) → Linked (meaning l)
+meaning-linked l x k y d e = names-seat l x k d y e

@@ -2,14 +2,13 @@
 use Prim.Native.Nat.{ℕ, ◌+◌, ◌*◌, ◌≤◌, ◌<◌}
 use mathlib.Core.Path.{◌≡◌, sym, ap, ◌∙◌}
 use mathlib.Core.Logic.{⊎_elim}
-use mathlib.Core.Option.{some}
 use mathlib.Core.List.{List}
 use native.Mathlib.Omega.{arith}
 use lib.Dec.{T}
 use lib.ListN.{get_or}
 use Rattle.memory.proofs.Bytes.{number_at-agrees}
 use Rattle.base.proofs.Cases.{lt-or-ge}
-use Rattle.base.proofs.Tests.{some_inj, none-some}
+use Rattle.base.proofs.Tests.{none-some}
 use Rattle.graph.specs.Side.{Side, side_number}
 use Rattle.graph.specs.Vector.{width}
 use Rattle.protocol.specs.Message.{Msg, meet, probe, seek, found, name_of}
@@ -23,16 +22,9 @@ use Rattle.record.specs.Layout.{entry_size, entry_at, link_at}
 use Rattle.record.specs.Meaning.{link_of, state_of, meaning}
 use Rattle.record.specs.Local.{NamesLot, by_link, by_meet, by_probe, by_seek, by_found, SameBytes, AgreeBytes}
 use Rattle.record.proofs.Form.{meaning-state, meaning-number, meaning-vector, meaning-link, no-level-link}
-use Rattle.record.proofs.Links.{link_of-some, link_of-none}
+use Rattle.record.proofs.Links.{link_of-seat}
 use Rattle.messages.proofs.Named.{three-below}
 use Rattle.delivery.proofs.Delivered.{to-seat}
-
--- a byte that is a link names a seat, and is it
-link-byte : (y z : ℕ) → link_of y ≡ some z → (z < seats) × (y ≡ z)
-link-byte y z e = ⊎_elim (λ h. seat h) (λ h. none-some (link_of-none y h) e) (lt-or-ge y seats)
-  where
-    seat : y < seats → (z < seats) × (y ≡ z)
-    seat h = let q = some_inj (sym (link_of-some y h) ∙ e) in (omega (arith, h, q), q)
 
 -- a lot that the meaning of the entry or the message names is one that the bytes name
 named-lot : (l : List ℕ) (m : Msg) → T (exists seats width m) → (z : ℕ) → Names (entry (meaning l) (name_of m).to) m z
@@ -42,7 +34,7 @@ named-lot l m x z (link-names {k = k} {d = d} e) = ⊎_elim here (λ h. none-som
   where
     here : k < levels → (z < seats) × NamesLot l m z
     here h =
-        let q = link-byte _ z (sym (meaning-link l (name_of m).to k d (to-seat m x) h) ∙ e) in
+        let q = link_of-seat _ z (sym (meaning-link l (name_of m).to k d (to-seat m x) h) ∙ e) in
         (q.0, by_link k d h q.0 q.1)
 named-lot l (meet t a k) x z meet-names = ((three-below t a k _ _ _ x).1, by_meet)
 named-lot l (probe t a k) x z probe-names = ((three-below t a k _ _ _ x).1, by_probe)

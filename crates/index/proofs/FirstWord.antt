@@ -8,13 +8,11 @@ use native.Mathlib.Omega.{arith}
 use lib.ListN.{length, get_or}
 use Rattle.std.specs.List.{AllWithin}
 use Rattle.base.specs.Loops.{first_from}
-use Rattle.base.proofs.Any.{any_none}
 use Rattle.base.proofs.Cases.{lt-or-ge}
-use Rattle.base.proofs.Tests.{not-T-false}
 use Rattle.memory.specs.Bits.{has_bit}
 use Rattle.base.proofs.First.{first, first-is}
 use Rattle.index.specs.inner.Index.{parts, is_noted, is_some, Exact}
-use Rattle.index.proofs.Noted.{zero-none, some-within}
+use Rattle.index.proofs.Noted.{zero-none, empty-noted, some-within}
 
 -- word j of number k
 noted_in : (x : List ℕ) (k j : ℕ) → j < 64 → is_noted x (k * 64 + j) ≡ has_bit (get_or x k 0) j
@@ -26,7 +24,7 @@ noted_in x k j h =
 -- number k is the first that has a set bit
 module _ (x : List ℕ) {k : ℕ} (h : k < parts) (none : (j : ℕ) → j < k → is_some x j ≡ false) where
   before : (w : ℕ) → w / 64 < k → is_noted x w ≡ false
-  before w l = not-T-false (any_none 64 (has_bit (get_or x (w / 64) 0)) (none (w / 64) l) (w % 64) (omega arith))
+  before w l = empty-noted x w (none (w / 64) l)
 
   pub word-there : {r : ℕ} → r ≡ first_from 64 0 (has_bit (get_or x k 0)) → r < 64
       → k * 64 + r ≡ first_from (parts * 64) 0 (is_noted x)
@@ -61,9 +59,7 @@ zeros-before x z j l = zero-none (get_or x j 0) (z j 0 (omega arith) l)
 
 -- as a search for the first that is not 0 answers it: there is none, or number k is it
 pub none-there : (x : List ℕ) → length x ≡ parts → AllWithin (λ n. n ≡ 0) x 0 (length x) → (w : ℕ) → w < parts * 64 → is_noted x w ≡ false
-none-there x e z w h =
-    let f = zeros-before x z (w / 64) (omega (arith, e)) in
-    not-T-false (any_none 64 (has_bit (get_or x (w / 64) 0)) f (w % 64) (omega arith))
+none-there x e z w h = empty-noted x w (zeros-before x z (w / 64) (omega (arith, e)))
 
 pub first-there : (x : List ℕ) {k r : ℕ} → k < parts → AllWithin (λ n. n ≡ 0) x 0 k → r ≡ first_from 64 0 (has_bit (get_or x k 0)) → r < 64
     → k * 64 + r ≡ first_from (parts * 64) 0 (is_noted x)

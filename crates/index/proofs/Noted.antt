@@ -32,7 +32,11 @@ zero-none n z = none_any 64 (has_bit n) (λ j l. false-T {b = has_bit n j} (rw z
 pub noted-some : (x : List ℕ) (w : ℕ) → is_noted x w ≡ true → is_some x (w / 64) ≡ true
 noted-some x w e = any_here 64 (w % 64) (has_bit (get_or x (w / 64) 0)) (omega arith) e
 
--- and lies within the index
+-- so no word of a number without one is noted
+pub empty-noted : (x : List ℕ) (w : ℕ) → is_some x (w / 64) ≡ false → is_noted x w ≡ false
+empty-noted x w f = not-T-false (any_none 64 (has_bit (get_or x (w / 64) 0)) f (w % 64) (omega arith))
+
+-- the number of a noted word lies within the index
 pub noted-within : (x : List ℕ) (w : ℕ) → is_noted x w ≡ true → w / 64 < length x
 noted-within x w e =
     ⊎_elim (λ l. l)
@@ -136,17 +140,15 @@ module _ {x : List ℕ} {t : ℕ} (w : ℕ) (e : Exact x t) (h : w < words) (n :
   pub top-off : left x w n ≡ 0 → t - (1 * 2 ^ (w / 64)) % 2 ^ 64 ≡ with_bit t (w / 64) (is_some (set x (w / 64) (rest x w n)) (w / 64))
   top-off z = rw (zero-none (left x w n) z, one_shifted 64 (w / 64) (omega arith)) (power-off t (w / 64) top-has)
 
-  pub top-stays : get_or x (w / 64) 0 < 2 ^ 64 → (left x w n ≡ 0 → ⊥) → t ≡ with_bit t (w / 64) (is_some (set x (w / 64) (rest x w n)) (w / 64))
-  top-stays l ne =
-      let s = some-set (left x w n) (omega (arith, left-is x w n)) ne in
-      rw (s, ← top-has) (sym (with_bit-has_bit t (w / 64)))
-
   pub top-struck : struck_top x w n t ≡ with_bit t (w / 64) (is_some (set x (w / 64) (rest x w n)) (w / 64))
   top-struck = by (is_some (set x (w / 64) (rest x w n)) (w / 64))
     where
       by : (b : Bool) → cond b t (with_bit t (w / 64) false) ≡ with_bit t (w / 64) b
       by true = rw (← top-has) (sym (with_bit-has_bit t (w / 64)))
       by false = refl
+
+  pub top-stays : get_or x (w / 64) 0 < 2 ^ 64 → (left x w n ≡ 0 → ⊥) → t ≡ with_bit t (w / 64) (is_some (set x (w / 64) (rest x w n)) (w / 64))
+  top-stays l ne = top-kept x w n t l ne ∙ top-struck
 
   after : Exact (set x (w / 64) (rest x w n)) (with_bit t (w / 64) (is_some (set x (w / 64) (rest x w n)) (w / 64)))
   after = rw (struck x w n) (noting-exact x w false (omega (arith, e.long)) e)
@@ -160,9 +162,7 @@ module _ {x : List ℕ} {t : ℕ} (w : ℕ) (e : Exact x t) (h : w < words) (n :
 
 -- 0 is the top of an index that notes no word
 pub top-none : {x : List ℕ} {t : ℕ} → Exact x t → t ≡ 0 → (w : ℕ) → w < parts * 64 → is_noted x w ≡ false
-top-none {x} e z w h =
-    let f : is_some x (w / 64) ≡ false = sym (e.tells (w / 64) (omega arith)) ∙ rw z (has_bit-none (w / 64)) in
-    not-T-false (any_none 64 (has_bit (get_or x (w / 64) 0)) f (w % 64) (omega arith))
+top-none {x} e z w h = empty-noted x w (sym (e.tells (w / 64) (omega arith)) ∙ rw z (has_bit-none (w / 64)))
 
 -- an index of zeros
 module _ (x : List ℕ) (zeros : (i : ℕ) → get_or x i 0 ≡ 0) where

@@ -1,16 +1,14 @@
 -- What a rule sends exists, where its message does: the links of any bytes name seats, so no soundness is asked. Assumes nothing.
 use Prim.Native.Nat.{ℕ, suc, ◌<◌}
-use mathlib.Core.Path.{◌≡◌, refl, sym, ◌∙◌}
+use mathlib.Core.Path.{◌≡◌, refl}
 use mathlib.Core.Option.{Option, none, some}
 use mathlib.Core.Bool.{Bool, true, false, cond}
-use mathlib.Core.Logic.{◌⊎◌, ⊎_elim, inl, inr}
+use mathlib.Core.Logic.{◌⊎◌, inl, inr}
 use mathlib.Core.List.Memᴰ
 use mathlib.Core.List.{List, [], ◌∷◌, ◌++◌, Memᴰ}
 use native.Mathlib.Omega.{arith}
 use lib.Dec.{T, eqb, ltb, ltb→lt}
-use lib.ListN.{get_or}
-use Rattle.base.proofs.Cases.{lt-or-ge}
-use Rattle.base.proofs.Tests.{true-T, some_inj, none-some}
+use Rattle.base.proofs.Tests.{true-T}
 use Rattle.graph.specs.Side.{Side, opp, on_side, side_of}
 use Rattle.graph.specs.Vector.{width}
 use Rattle.protocol.specs.Message.{Msg, meet, probe, pull, going, seek, found, none_found}
@@ -19,28 +17,11 @@ use Rattle.protocol.specs.Rules.{Entry, to_link, sending, setting, meeting, prob
 use Rattle.protocol.specs.State.{Meaning, entry}
 use Rattle.protocol.specs.pages.Deliver.{rule}
 use Rattle.protocol.proofs.Numbering.{Exists, in_meet, in_probe, in_pull, in_seek, in_found, in_none_found, in-exists}
-use Rattle.record.specs.Layout.{seats, levels, link_at}
-use Rattle.record.specs.Meaning.{meaning, link_of}
+use Rattle.record.specs.Layout.{seats, levels}
+use Rattle.record.specs.Meaning.{meaning}
 use Rattle.record.proofs.Values.{NamesSeat}
-use Rattle.record.proofs.Form.{meaning-link, no-seat-link, no-level-link}
-use Rattle.record.proofs.Links.{link_of-some, link_of-none}
+use Rattle.record.proofs.Links.{names-seat}
 use Rattle.messages.proofs.Named.{two-below, three-below}
-
--- a byte that stands for a link names a seat
-link-byte : (b y : ℕ) → link_of b ≡ some y → y < seats
-link-byte b y e = ⊎_elim (λ h. seat h) (λ h. none-some (link_of-none b h) e) (lt-or-ge b seats)
-  where
-    seat : b < seats → y < seats
-    seat h = let q = some_inj (sym (link_of-some b h) ∙ e) in omega (arith, h, q)
-
--- so does each link of any bytes
-names-seat : (l : List ℕ) (s k : ℕ) (d : Side) → NamesSeat ((meaning l).link s k d)
-names-seat l s k d y e = ⊎_elim (λ h. level h) (λ h. none-some (no-seat-link l s k d h) e) (lt-or-ge s seats)
-  where
-    level : s < seats → y < seats
-    level h =
-        ⊎_elim (λ g. link-byte (get_or l (link_at s k d) 0) y (sym (meaning-link l s k d h g) ∙ e)) (λ g. none-some (no-level-link l s k d g) e)
-        (lt-or-ge k levels)
 
 -- each of a list exists
 abbrev AllExist : List Msg → Type 0
